@@ -1,0 +1,4 @@
+pub mod Founds
+pub mod Advancing
+pub mod Spanning
+pub mod SpansTaken
