@@ -17,10 +17,6 @@ use Rattle.log_reading.specs.declared.page.Page.{Page}
 use Rattle.log_reading.specs.Page.{Takes, Stops, to_come, TakesBehind, Follows, Advances, StopsIn, StopsWithin, Spends}
 use Rattle.log_reading.proofs.Founds.{found_of-append}
 
-pub on_err : {T E : Type 0} (P : Type 0) (r : Result T E) → P → OnErr r P
-on_err P (Ok value) p = tt
-on_err P (Err fault) p = p
-
 -- the laws of a taker
 abbrev pub TakesMore : {T O : Type 0} → Takes T O → Type 0
 TakesMore {T = T} {O = O} takes = (a b c : T) (u v w : O) (xs ys : List Found) → takes a u xs b v → takes b v ys c w → takes a u (xs ++ ys) c w

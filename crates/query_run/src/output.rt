@@ -1,5 +1,5 @@
 // Rows to an output, through a buffer.
-ghost use Rattle.std.specs.Prelude.{◌≡◌, ◌≤◌, ◌<◌, ◌++◌, ◌∷◌, [], ℕ, List, Bool, true, length, drop, Option, OnOk, OnErr, IfOk, IsErrOf};
+ghost use Rattle.std.specs.Prelude.{◌≡◌, ◌≤◌, ◌<◌, ◌++◌, ◌∷◌, [], ℕ, List, Bool, true, length, take, drop, Option, OnOk, OnErr, IfOk, IsErrOf};
 ghost use Rattle.lp_model.specs.Outside.{Gains, GainsSome, HasCause, Rose};
 ghost use Rattle.lp_values.specs.declared.value.Value.{Value};
 ghost use Rattle.query_run.specs.Output.{Moves, IsUnderWay};
@@ -9,7 +9,11 @@ use lp_outside::{Sink, SinkFailed};
 use lp_values::{Bytes, ValueList};
 use output_formats::Shape;
 
+// A buffer that holds so many bytes is written.
 const FULL: usize = 4096;
+
+// At most so many bytes go to the output at once.
+const MOST: usize = 65536;
 
 // The bytes from a place on.
 fn bytes_from(bytes: &[u8], start: usize) -> &[u8]
@@ -17,6 +21,15 @@ fn bytes_from(bytes: &[u8], start: usize) -> &[u8]
     ensures { result.now ≡ drop start bytes.now }
 {
     &bytes[start..]
+}
+
+// The first bytes, no more than go at once.
+fn first_of(bytes: &[u8]) -> &[u8]
+    ensures front { result.now ≡ take (length result.now) bytes.now }
+    ensures some { 0 < length bytes.now → 0 < length result.now }
+    ensures fits { length result.now ≤ length bytes.now }
+{
+    &bytes[..bytes.len().min(MOST)]
 }
 
 /// Writes a piece whole.
@@ -27,7 +40,7 @@ pub fn write_all<S: Sink>(out: &mut S, piece: &[u8]) -> Result<(), SinkFailed>
 {
     let mut rest = piece;
     while !rest.is_empty() {
-        let count = out.write(rest)?;
+        let count = out.write(first_of(rest))?;
         rest = bytes_from(rest, count);
     }
     Ok(())

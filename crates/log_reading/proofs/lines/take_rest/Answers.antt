@@ -1,7 +1,8 @@
 use Rattle.std.proofs.Common.{◌≡◌, ◌+◌, ◌∷◌, [], List, refl, sym, subst}
 use Rattle.lp_model.specs.Lines.{Line, last_line}
 use Rattle.log_reading.specs.Page.{Follows, StopsIn}
-use Rattle.log_reading.proofs.Advancing.{on_err, follows_overlong, to_come-last}
+use Rattle.lp_model.proofs.Results.{on_err}
+use Rattle.log_reading.proofs.Advancing.{follows_overlong, to_come-last}
 use Rattle.log_reading.proofs.lines.take_rest.Goals as goal
 
 pub returns-in_err-take_text-in-Line-clause-stops : goal.returns-in_err-take_text-in-Line-clause-stops

@@ -3,7 +3,7 @@ use Rattle.std.proofs.lemmas.List.{take_all}
 use Rattle.line_input.specs.Taken.{slots_of}
 use Rattle.log_reading.specs.Found.{Found}
 use Rattle.log_reading.proofs.Founds.{founds, founds_more, founds_split}
-use Rattle.log_reading.proofs.Advancing.{on_err}
+use Rattle.lp_model.proofs.Results.{on_err}
 use Rattle.log_reading.proofs.lines.take_rows.Goals as goal
 
 pub loop-fields-init : goal.loop-fields-init

@@ -1,7 +1,7 @@
 use Rattle.std.proofs.Common.{◌≡◌, ◌≤◌, ◌+◌, [], length, ap, ◌∙◌, arith, rules}
 use Rattle.lp_model.proofs.Growing.{OnlyGrow-refl, OnlyGrow-trans}
 use Rattle.lp_model.proofs.Pieces.{there_grown}
-use Rattle.log_reading.proofs.Advancing.{on_err}
+use Rattle.lp_model.proofs.Results.{on_err}
 use Rattle.log_reading.proofs.Spanning.{has_read_none, has_read_trans, stops_behind}
 use Rattle.log_reading.proofs.logs.read_log.Goals as goal
 

@@ -1,5 +1,6 @@
 use Rattle.std.proofs.Common.{[], ◌∙◌, arith, rules}
-use Rattle.log_reading.proofs.Advancing.{on_err, advances_none, advances_trans, stops_within, spends_trans}
+use Rattle.lp_model.proofs.Results.{on_err}
+use Rattle.log_reading.proofs.Advancing.{advances_none, advances_trans, stops_within, spends_trans}
 use Rattle.log_reading.proofs.pieces.take_lines.Goals as goal
 
 pub loop-more-init : goal.loop-more-init

@@ -1,5 +1,6 @@
 use Rattle.std.proofs.Common.{refl, []}
-use Rattle.log_reading.proofs.Advancing.{on_err, advances_fed, stops_fed}
+use Rattle.lp_model.proofs.Results.{on_err}
+use Rattle.log_reading.proofs.Advancing.{advances_fed, stops_fed}
 use Rattle.log_reading.proofs.pieces.take_piece.Goals as goal
 
 pub returns-clause-advances : goal.returns-clause-advances

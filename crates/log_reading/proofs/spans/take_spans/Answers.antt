@@ -1,6 +1,6 @@
 use Rattle.std.proofs.Common.{◌≡◌, ◌≤◌, ◌+◌, ◌-◌, length, take, ap, arith, rules}
 use Rattle.lp_model.proofs.Growing.{OnlyGrow-trans}
-use Rattle.log_reading.proofs.Advancing.{on_err}
+use Rattle.lp_model.proofs.Results.{on_err}
 use Rattle.log_reading.proofs.SpansTaken.{there_all, spans_more, spans_stopped, size_more, size_front, took_none, took_more}
 use Rattle.log_reading.proofs.spans.take_spans.Goals as goal
 

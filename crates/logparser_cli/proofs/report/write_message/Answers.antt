@@ -1,7 +1,7 @@
 use Rattle.std.proofs.Common.{◌++◌, ◌∷◌, [], ℕ, List, codes, subst}
 use Rattle.lp_model.specs.Outside.{Gains, GainsSome}
 use Rattle.lp_model.proofs.Gaining.{Gains_trans, GainsSome_front, GainsSome_later}
-use Rattle.log_reading.proofs.Advancing.{on_err}
+use Rattle.lp_model.proofs.Results.{on_err}
 use Rattle.logparser_cli.specs.Status.{reason}
 use Rattle.logparser_cli.proofs.Reporting.{joined_parts}
 use Rattle.logparser_cli.proofs.report.write_message.Goals as goal

@@ -1,7 +1,7 @@
 use Rattle.std.proofs.Common.{◌++◌, ℕ, List, codes}
 use Rattle.lp_model.specs.Report.{counted_line, bad_report}
 use Rattle.lp_model.proofs.Gaining.{Gains_trans, GainsSome_front, GainsSome_later}
-use Rattle.log_reading.proofs.Advancing.{on_err}
+use Rattle.lp_model.proofs.Results.{on_err}
 use Rattle.logparser_cli.proofs.report.write_statistics.Goals as goal
 
 abbrev first : ℕ → List ℕ

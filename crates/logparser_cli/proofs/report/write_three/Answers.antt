@@ -1,6 +1,6 @@
 use Rattle.std.proofs.Common.{◌++◌}
 use Rattle.lp_model.proofs.Gaining.{Gains_trans, GainsSome_front, GainsSome_later}
-use Rattle.log_reading.proofs.Advancing.{on_err}
+use Rattle.lp_model.proofs.Results.{on_err}
 use Rattle.logparser_cli.proofs.report.write_three.Goals as goal
 
 pub returns-in_err-write_all-clause-err : goal.returns-in_err-write_all-clause-err

@@ -20,9 +20,9 @@ returns-clause-text g c =
     let u = g.S.Sink.written c.args.out.now in
     let w = g.S.Sink.written c.execute.new.out in
     on_ok_told c.execute.result (g.L.Logs.folder c.execute.new.logs)
-    (λ folder. AreKept text_lines false (span ∷ []) folder → Gains u w (csv_of c.new.result.headers true c.in-Ok.names (picked every_row (spans_found text_lines false folder (span ∷ [])))))
+    (λ folder. AreKept text_lines false (span ∷ []) folder → Gains u w (csv_of c.new.result true c.in-Ok.names (picked every_row (spans_found text_lines false folder (span ∷ [])))))
     (λ folder. Gains u w (log_text name (take cut (bytes_in folder name))))
-    (λ folder gains. subst (λ t. Gains u w t) (text_same folder name cut span c.new.result.headers c.in-Ok.names start c.new.ensures c.in-Ok.ensures) (gains (all_kept folder name cut span start)))
+    (λ folder gains. subst (λ t. Gains u w t) (text_same folder name cut span c.new.result c.in-Ok.names start c.new.ensures c.in-Ok.ensures) (gains (all_kept folder name cut span start)))
     c.execute.ensures.text
 
 pub returns-clause-front : goal.returns-clause-front
@@ -35,9 +35,9 @@ returns-clause-front g c =
     let u = g.S.Sink.written c.args.out.now in
     let w = g.S.Sink.written c.execute.new.out in
     on_err_told c.execute.result (g.L.Logs.folder c.execute.new.logs)
-    (λ folder. AreKept text_lines false (span ∷ []) folder → GainsSome u w (csv_of c.new.result.headers true c.in-Ok.names (picked every_row (spans_found text_lines false folder (span ∷ [])))))
+    (λ folder. AreKept text_lines false (span ∷ []) folder → GainsSome u w (csv_of c.new.result true c.in-Ok.names (picked every_row (spans_found text_lines false folder (span ∷ [])))))
     (λ folder. GainsSome u w (log_text name (take cut (bytes_in folder name))))
-    (λ folder gains. subst (λ t. GainsSome u w t) (text_same folder name cut span c.new.result.headers c.in-Ok.names start c.new.ensures c.in-Ok.ensures) (gains (all_kept folder name cut span start)))
+    (λ folder gains. subst (λ t. GainsSome u w t) (text_same folder name cut span c.new.result c.in-Ok.names start c.new.ensures c.in-Ok.ensures) (gains (all_kept folder name cut span start)))
     c.execute.ensures.front
 
 pub returns-clause-processed : goal.returns-clause-processed

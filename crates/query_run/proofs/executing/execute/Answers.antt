@@ -6,7 +6,7 @@ use Rattle.query_run.specs.Rows.{picked}
 use Rattle.log_reading.specs.Spans.{AreKept, spans_found, TakesSpans}
 use Rattle.query_run.specs.Writer.{Writes, Halts}
 use Rattle.query_run.specs.declared.writer.Writer.{Writer}
-use Rattle.log_reading.proofs.Advancing.{on_err}
+use Rattle.lp_model.proofs.Results.{on_err}
 use Rattle.query_run.proofs.WholeRun.{told_all, told_map, gains_none, front_stopped, at_end}
 use Rattle.query_run.proofs.executing.execute.Goals as goal
 

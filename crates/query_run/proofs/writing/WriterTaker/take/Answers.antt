@@ -1,6 +1,6 @@
 use Rattle.std.proofs.Common.{◌≡◌, ◌∷◌, [], List, Option, Some, None, true, ap, sym, ◌∙◌, refl, if◌then◌else◌}
 use Rattle.query_run.specs.Writing.{writes_one, halts_one, halts_at_once}
-use Rattle.log_reading.proofs.Advancing.{on_err}
+use Rattle.lp_model.proofs.Results.{on_err}
 use Rattle.query_run.proofs.writing.WriterTaker.take.Goals as goal
 
 pub returns-in_err-put_row-in-Ok-true-clause-stops :
