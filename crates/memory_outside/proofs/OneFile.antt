@@ -1,13 +1,13 @@
 -- One file of a list of files is changed, or a file is added.
-use Rattle.std.proofs.Common.{◌≡◌, ◌≢◌, ℕ, suc, ◌+◌, ◌<◌, ◌≤◌, Bool, true, false, List, [], ◌∷◌, ◌++◌, length, get_or, set, Option, Some, None, refl, sym, ◌∙◌, ap, arith, inl, inr, cond, bytes_eq, unwrap_or, nat_lt, map, not, subst, IsSome, take, drop, append-nil}
+use Rattle.std.proofs.Common.{◌≡◌, ◌≢◌, ℕ, zero, suc, ◌+◌, ◌<◌, ◌≤◌, Bool, true, false, List, [], ◌∷◌, ◌++◌, length, get_or, set, Option, Some, None, refl, sym, ◌∙◌, ap, arith, inl, inr, cond, bytes_eq, unwrap_or, nat_lt, map, not, subst, IsSome, take, drop, append-nil}
 use Rattle.std.proofs.lemmas.List.{take_all, drop_all}
-use Rattle.std.specs.List.{filter}
+use Rattle.std.specs.List.{remove}
 use Rattle.std.specs.List.{position, position_or_len}
 use Rattle.std.proofs.lemmas.Bool.{cases_Bool, true≢false, ltb-true, ltb-false}
 use Rattle.std.proofs.lemmas.Slice.Eq.{bytes_eq-Decides}
 use Rattle.memory_outside.specs.declared.files.MemoryFile.{MemoryFile}
 use Rattle.lp_model.specs.Outside.{Folder, bytes_in}
-use Rattle.memory_outside.specs.Files.{folder_of, is_named, Changes, Renames, Removes, renamed}
+use Rattle.memory_outside.specs.Files.{folder_of, is_named, Changes, Renames, renamed}
 
 one-more : (n : ℕ) → 1 + n ≡ suc n
 one-more n = omega arith
@@ -175,26 +175,18 @@ files_renamed files from to there free = record {
     some_not_none : (o : Option (List ℕ)) → IsSome o → o ≡ None → ⊥
     some_not_none o some none = true≢false (sym (subst (λ (x : Option (List ℕ)). IsSome x) none some))
 
--- all files of one name are gone
-abbrev pub stays : List ℕ → MemoryFile → Bool
-stays name file = not (is_named name file)
+-- a file of one name is taken away
+taken_at : (files : List MemoryFile) (name other : List ℕ) (i : ℕ) (d : MemoryFile) → i < length files → is_named name (get_or files i d) ≡ true → other ≢ name → folder_of (remove files i) other ≡ folder_of files other
+taken_at [] name other i d less named off = absurd (omega arith)
+taken_at (file ∷ files) name other zero d less named off = let a = apart-from name other off file named in rw a refl
+taken_at (file ∷ files) name other (suc i) d less named off = ap (λ t. cond (bytes_eq file.name other) (Some file.bytes) t) (taken_at files name other i d (omega (arith, less)) named off)
 
-pub files_removed : (files : List MemoryFile) (name : List ℕ) → Removes (folder_of files) (folder_of (filter (stays name) files)) name
-files_removed files name = record { gone = gone files; others = λ other off. others files other off }
-  where
-    gone : (files : List MemoryFile) → folder_of (filter (stays name) files) name ≡ None
-    gone [] = refl
-    gone (file ∷ files) = elim (cases_Bool (is_named name file)) [
-      | inl e ↦ rw e (gone files)
-      | inr e ↦ rw (e, e) (gone files)
-    ]
-
-    others : (files : List MemoryFile) (other : List ℕ) → other ≢ name → folder_of (filter (stays name) files) other ≡ folder_of files other
-    others [] other off = refl
-    others (file ∷ files) other off = elim (cases_Bool (is_named name file)) [
-      | inl e ↦ let a = apart-from name other off file e in rw (e, a) (others files other off)
-      | inr e ↦ rw e (ap (λ t. cond (bytes_eq file.name other) (Some file.bytes) t) (others files other off))
-    ]
+pub file_taken : (files : List MemoryFile) (name : List ℕ) (i : ℕ) → Some i ≡ position (is_named name) files → (other : List ℕ) → other ≢ name → folder_of (remove files i) other ≡ folder_of files other
+file_taken [] name i found other off = let none : Some i ≡ None = found in absurd cc
+file_taken (file ∷ files) name i found other off =
+    let all = file ∷ files in
+    let both = found-at all name i (nat_lt (position_or_len (is_named name) all) (length all)) refl found in
+    ap (λ k. folder_of (remove all k) other) both.0 ∙ taken_at all name other (position_or_len (is_named name) all) file both.1 (named-at all name file both.1) off
 
 -- where a map over all files has ended
 pub all_done : (f : MemoryFile → MemoryFile) (files : List MemoryFile) (i : ℕ) → length files ≤ i → map f (take i files) ++ drop i files ≡ map f files

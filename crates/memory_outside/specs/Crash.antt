@@ -1,7 +1,8 @@
 -- What a crash leaves of a disk in memory.
 use Rattle.std.specs.Prelude.{◌≡◌, ℕ, ◌+◌, ◌-◌, min, Bool, true, false, not, List, [], ◌∷◌, length, take, drop, replicate, bytes_eq, if◌then◌else◌}
 use Rattle.std.specs.List.{list_any}
-use Rattle.disk_model.specs.Disk.{Files, overwritten}
+use Rattle.disk_model.specs.Disk.{Files, At, Shortened, overwritten}
+use Rattle.disk_model.specs.Disk.{Torn as TornBy}
 use Rattle.memory_outside.specs.Files.{put_in}
 use Rattle.memory_outside.specs.Store.{MayLeave}
 use Rattle.memory_outside.specs.declared.store.Call.{Call}
@@ -44,6 +45,12 @@ next_of (torn ∷ others) = torn
 abbrev pub crashed : List Torn → List Call → Files → Files
 crashed torn [] files = files
 crashed torn (call ∷ calls) files = if is_unsynced call calls then crashed (drop 1 torn) calls (replayed (next_of torn) call files) else crashed torn calls (replayed Lost call files)
+
+-- files after a call that was done again, whole, in part or not at all
+abbrev pub Replays : Call → Files → Files → Type 0
+Replays (Write name gap at bytes) before now = (other : List ℕ) → At name (TornBy (at - gap) (at + length bytes)) other (before other) (now other)
+Replays (Cut name to) before now = (other : List ℕ) → At name (Shortened to) other (before other) (now other)
+Replays (Sync name bytes) before now = now ≡ put_in name bytes before
 
 -- files that a crash may leave after these calls, where some are
 abbrev pub AreImage : Files → List Call → Files → Type 0

@@ -5,3 +5,5 @@ pub mod MemorySource
 pub mod MemorySink
 pub mod Store
 pub mod Crash
+pub mod MemoryDisk
+pub mod MemoryLaws

@@ -12,6 +12,11 @@ pub record IsFresh (schedule : Schedule) : Type 0 where
   pub calls : schedule.calls ≡ 0
   pub named : schedule.named.items ≡ []
 
+-- no call was made, and none is named to fail in addition
+pub record IsSame (before now : Schedule) : Type 0 where
+  pub calls : now.calls ≡ before.calls
+  pub named : now.named.items ≡ before.named.items
+
 -- one call more was made
 pub record Passes (before now : Schedule) : Type 0 where
   pub calls : now.calls ≡ min (before.calls + 1) (2 ^ 64 - 1)

@@ -122,7 +122,9 @@ pub fn rename(files: &mut [MemoryFile], from: &Name, to: &Name)
 pub fn remove(files: &mut Vec<MemoryFile>, name: &Name)
     ensures { Removes (folder_of files.old.items) (folder_of files.new.items) name.now }
 {
-    files.retain(|file| !file.name.is(name));
+    while let Some(index) = find_place(files, name) {
+        files.remove(index);
+    }
 }
 
 /// Copies bytes from a place on, as many as there are and fit.

@@ -6,6 +6,7 @@
 #![tactic(auto)]
 
 mod files;
+mod memory_disk;
 mod memory_logs;
 mod memory_sink;
 mod memory_source;
@@ -13,6 +14,7 @@ mod replaying;
 mod schedule;
 mod store;
 
+pub use memory_disk::MemoryDisk;
 pub use memory_logs::MemoryLogs;
 pub use memory_sink::MemorySink;
 pub use memory_source::MemorySource;

@@ -1,6 +1,6 @@
 // Which calls of an object fail.
 ghost use Rattle.std.specs.Prelude.{◌≡◌, ◌++◌, OnErr, OnOk};
-ghost use Rattle.memory_outside.specs.Schedule.{is_due, IsFresh, Passes, Adds};
+ghost use Rattle.memory_outside.specs.Schedule.{is_due, IsFresh, IsSame, Passes, Adds};
 
 use std::alloc::{AllocError, Global};
 
@@ -24,7 +24,7 @@ impl Schedule {
     /// That call from now, counted from 0, is to fail. An `Err` changes nothing.
     pub fn fail(&mut self, call: u64) -> Result<(), AllocError>
         ensures ok { OnOk result (Adds self.old self.new call) }
-        ensures err { OnErr result (self.new ≡ self.old) }
+        ensures err { OnErr result (IsSame self.old self.new) }
     {
         self.named.push(self.calls.saturating_add(call))?;
         Ok(())

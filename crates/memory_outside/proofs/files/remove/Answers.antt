@@ -1,14 +1,18 @@
-use Rattle.std.proofs.Common.{◌≡◌, rules, tests, sym, subst, List}
-use Rattle.std.specs.List.{filter}
-use Rattle.std.proofs.lemmas.List.Elements.{filter_from_retain}
-use Rattle.memory_outside.specs.Files.{folder_of, Removes}
-use Rattle.memory_outside.specs.declared.files.MemoryFile.{MemoryFile}
-use Rattle.memory_outside.proofs.OneFile.{files_removed, stays}
+use Rattle.std.proofs.Common.{◌≡◌, ◌∙◌, ap, Some, None}
+use Rattle.std.specs.List.{position}
+use Rattle.memory_outside.specs.Files.{folder_of, is_named}
+use Rattle.memory_outside.proofs.OneFile.{file_taken, file_missing}
 use Rattle.memory_outside.proofs.files.remove.Goals as goal
+
+pub loop-index-preserved : goal.loop-index-preserved
+loop-index-preserved c =
+    let files = c.loop-index.files.items in
+    let name = c.args.name.now in
+    let found : Some c.in-Some.index ≡ position (is_named name) files = c.in-Some.ensures ∙ ap (position (is_named name)) c.deref.ensures.value in
+    λ other off. ap (λ fs. folder_of fs other) c.remove.ensures.items ∙ file_taken files name c.in-Some.index found other off ∙ c.loop-index.invariant other off
 
 pub returns : goal.returns
 returns c =
-    let files = c.args.files.now.items in
+    let files = c.loop-index.files.items in
     let name = c.args.name.now in
-    let same : c.retain.new.self.items ≡ filter (stays name) files = filter_from_retain _ (stays name) (λ p x b q k. search (rules, tests)) _ files c.retain.new.self.items c.retain.ensures.filtered in
-    subst (λ (fs : List MemoryFile). Removes (folder_of files) (folder_of fs) name) (sym same) (files_removed files name)
+    record { gone = file_missing files name (c.in_default.ensures ∙ ap (position (is_named name)) c.deref.ensures.value); others = c.loop-index.invariant }
