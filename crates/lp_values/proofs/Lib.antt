@@ -1,1 +1,4 @@
 pub mod Calendar
+pub mod OrderLemmas
+pub mod SameLemmas
+pub mod StampLemmas
