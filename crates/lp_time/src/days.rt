@@ -45,6 +45,7 @@ fn moment(day: i64, second: i64) -> i64
 pub fn join_date_time(date: Stamp, time: Stamp) -> Stamp
     ensures seconds { result.seconds ≡ joined date.seconds time.seconds }
     ensures part { result.part ≡ Part.Both }
+    ensures parts { joined (day_start date.seconds) (pos (second_of_day date.seconds)) ≡ date.seconds }
 {
     Stamp {
         seconds: moment(day_start(date.seconds), second_of_day(time.seconds)),
@@ -83,7 +84,10 @@ pub fn quantize(stamp: Stamp, step: i64) -> Option<Stamp>
     let seconds = multiple(stamp.seconds, step)?;
     let part = stamp.part;
     match part {
-        Part::Date => Some(Stamp { seconds: day_start(seconds), part }),
+        Part::Date => Some(Stamp {
+            seconds: day_start(seconds),
+            part,
+        }),
         Part::Time | Part::Both => Some(Stamp { seconds, part }),
     }
 }
@@ -96,5 +100,9 @@ fn multiple(seconds: i64, step: i64) -> Option<i64>
         return None;
     }
     let multiple = seconds.checked_sub(seconds.rem_euclid(step))?;
-    if FIRST <= multiple { Some(multiple) } else { None }
+    if FIRST <= multiple {
+        Some(multiple)
+    } else {
+        None
+    }
 }

@@ -1,6 +1,15 @@
 //! Patterns of dates and times, and calls on stamps.
 #![tactic(auto)]
 
+mod character;
 mod days;
+mod field;
+mod front;
+mod pattern;
+mod piece;
 
+pub use character::Character;
 pub use days::{join_date_time, quantize, to_date, to_time};
+pub use field::Field;
+pub use pattern::{Pattern, PatternFault};
+pub use piece::Piece;
