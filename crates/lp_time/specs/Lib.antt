@@ -1,2 +1,4 @@
 pub mod Days
 pub mod Patterns
+pub mod Readings
+pub mod Writings

@@ -30,7 +30,7 @@ fn day_start(seconds: i64) -> i64
 }
 
 // A second of a day.
-fn moment(day: i64, second: i64) -> i64
+pub(crate) fn moment(day: i64, second: i64) -> i64
     requires day { IsInYears day }
     requires room { day ≤ℤ pos 253_402_214_400 }
     requires low { pos 0 ≤ℤ second }

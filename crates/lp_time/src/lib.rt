@@ -7,9 +7,12 @@ mod field;
 mod front;
 mod pattern;
 mod piece;
+mod reading;
+mod taking;
 
 pub use character::Character;
 pub use days::{join_date_time, quantize, to_date, to_time};
 pub use field::Field;
 pub use pattern::{Pattern, PatternFault};
 pub use piece::Piece;
+pub use reading::read_stamp;

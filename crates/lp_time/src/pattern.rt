@@ -5,7 +5,7 @@ ghost use Rattle.std.specs.Option.{option_to_list};
 use crate::front::{front_piece, front_size};
 use crate::{Field, Piece};
 use arrayvec::ArrayVec;
-use lp_values::bytes_from;
+use lp_values::{Part, bytes_from};
 use std::marker::Model;
 
 /// The first place at which a text is no pattern.
@@ -30,6 +30,7 @@ impl Model for Pattern {
 }
 
 impl Pattern {
+    ghost use Rattle.lp_time.specs.Readings.{has_date, has_time, part_of};
     ghost use Rattle.lp_time.specs.Patterns.{pattern_in, front_piece, front_size, has_field, has_items, is_new, takes};
 
     /// Reads a pattern. The fault is the first place of a run of letters that is no item, of a second item for one part,
@@ -89,6 +90,39 @@ impl Pattern {
             .as_slice()
             .iter()
             .any(|piece| piece.stands_for(field))
+    }
+
+    fn has_date(&self) -> bool
+        ensures { result ≡ has_date self.now }
+    {
+        self.has_field(Field::Year) || self.has_field(Field::Month) || self.has_field(Field::Day)
+    }
+
+    fn has_time(&self) -> bool
+        ensures { result ≡ has_time self.now }
+    {
+        self.has_field(Field::Hour)
+            || self.has_field(Field::Minute)
+            || self.has_field(Field::Second)
+    }
+
+    /// The part of the stamps that the pattern reads.
+    pub fn part(&self) -> Part
+        ensures { result ≡ part_of self.now }
+    {
+        if !self.has_date() {
+            Part::Time
+        } else if self.has_time() {
+            Part::Both
+        } else {
+            Part::Date
+        }
+    }
+
+    pub(crate) fn as_slice(&self) -> &[Piece]
+        ensures { result.now ≡ self.now }
+    {
+        self.pieces.as_slice()
     }
 
     fn has_items(&self) -> bool
