@@ -1,6 +1,6 @@
 // The civil date and time of a moment.
 ghost use Rattle.std.specs.Prelude.{◌≡◌, ◌<◌, ◌≤◌, pos, ◌≤ℤ◌};
-ghost use Rattle.jiff_core.specs.Calendar.{day_count};
+ghost use Rattle.jiff_core.specs.Calendar.{day_count, days_in_month};
 ghost use Rattle.lp_values.specs.Civil.{civil_of};
 ghost use Rattle.lp_values.specs.Moments.{moment_of};
 ghost use Rattle.lp_values.specs.Stamps.{IsInYears};
@@ -50,7 +50,10 @@ impl Civil {
     pub fn of(seconds: i64) -> Civil
         requires { IsInYears seconds }
         ensures value { result ≡ civil_of seconds }
-        ensures year { result.year < 10_000 }
+        ensures year { (1 ≤ result.year) × (result.year ≤ 9999) }
+        ensures month { (1 ≤ result.month) × (result.month ≤ 12) }
+        ensures day { (1 ≤ result.day) × (result.day ≤ days_in_month (pos result.year) result.month) }
+        ensures time { (result.hour < 24) × (result.minute < 60) × (result.second < 60) }
     {
         let moment = moment(seconds);
         let date = date_of((moment / DAY) as u32);
