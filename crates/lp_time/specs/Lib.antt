@@ -1,3 +1,4 @@
+pub mod CommonLog
 pub mod Days
 pub mod Patterns
 pub mod Readings

@@ -2,6 +2,7 @@
 #![tactic(auto)]
 
 mod character;
+mod clf;
 mod days;
 mod field;
 mod front;
@@ -9,10 +10,13 @@ mod pattern;
 mod piece;
 mod reading;
 mod taking;
+mod writing;
 
 pub use character::Character;
+pub use clf::clf_stamp;
 pub use days::{join_date_time, quantize, to_date, to_time};
 pub use field::Field;
 pub use pattern::{Pattern, PatternFault};
 pub use piece::Piece;
 pub use reading::read_stamp;
+pub use writing::write_stamp;

@@ -14,7 +14,7 @@ use lp_values::{Civil, Part, Stamp};
 
 const DAY: i64 = 86_400;
 
-const MISSING_PARTS: Civil = Civil {
+pub(crate) const MISSING_PARTS: Civil = Civil {
     year: 2000,
     month: 1,
     day: 1,

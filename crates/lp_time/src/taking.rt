@@ -38,7 +38,7 @@ fn taken_padded(field: Field, text: &[u8]) -> Option<(u16, &[u8])>
     }
 }
 
-fn is_all_digits(text: &[u8]) -> bool
+pub(crate) fn is_all_digits(text: &[u8]) -> bool
     ensures { result ≡ is_digits text.now }
 {
     text.iter().all(|byte| byte.is_ascii_digit())
@@ -72,7 +72,7 @@ fn taken_digits(count: usize, text: &[u8]) -> Option<(u16, &[u8])>
 }
 
 // The number that at most four digits write.
-fn number_of(digits: &[u8]) -> u16
+pub(crate) fn number_of(digits: &[u8]) -> u16
     requires digits { is_digits digits.now ≡ true }
     requires few { length digits.now ≤ 4 }
     ensures value { result ≡ digits_value 10 digits.now }
@@ -86,7 +86,7 @@ fn number_of(digits: &[u8]) -> u16
     number
 }
 
-const MONTH_NAMES: [[u8; 3]; 12] = [
+pub(crate) const MONTH_NAMES: [[u8; 3]; 12] = [
     *b"Jan", *b"Feb", *b"Mar", *b"Apr", *b"May", *b"Jun", *b"Jul", *b"Aug", *b"Sep", *b"Oct",
     *b"Nov", *b"Dec",
 ];
