@@ -1,0 +1,4 @@
+pub mod DayLemmas
+pub mod DigitLemmas
+pub mod PatternLemmas
+pub mod ReadingLemmas

@@ -1,0 +1,5 @@
+pub mod CommonLog
+pub mod Days
+pub mod Patterns
+pub mod Readings
+pub mod Writings

@@ -1,0 +1,5 @@
+pub mod Calendar
+pub mod OrderLemmas
+pub mod ReadingLemmas
+pub mod SameLemmas
+pub mod StampLemmas
