@@ -1,6 +1,6 @@
 use Rattle.std.proofs.Common.{◌≡◌, ℕ, ◌<◌, get_or, refl, lit<, arith, subst, sym}
 use Rattle.query_lexer.specs.Keywords.{IsKeyword}
-use Rattle.query_lexer.specs.declared.TheConstants.{ALL}
+use Rattle.query_lexer.specs.declared.keyword.TheConstants.{ALL}
 use Rattle.query_lexer.specs.declared.keyword.Keyword.{Keyword}
 use Rattle.query_lexer.specs.declared.keyword.Keyword.TheVariants as k
 use Rattle.query_lexer.proofs.keyword.Keyword.by_name.Goals as goal
