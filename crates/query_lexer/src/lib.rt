@@ -7,6 +7,8 @@
 
 mod fault;
 mod keyword;
+mod piece;
+mod starts;
 mod symbol;
 mod token;
 mod tokens;
