@@ -69,11 +69,16 @@ impl Symbol {
     pub fn at_front(text: &[u8]) -> Option<Symbol>
         ensures { result ≡ find (λ sign. starts_with nat_eq text.now (text_of sign)) ALL }
     {
-        for sign in ALL {
-            if text.starts_with(sign.text().as_bytes()) {
-                return Some(sign);
-            }
-        }
-        None
+        first_of(&ALL, text)
     }
+}
+
+/// The first of some signs with which a text begins.
+fn first_of(signs: &[Symbol], text: &[u8]) -> Option<Symbol>
+    ensures { result ≡ find (λ sign. starts_with nat_eq text.now (text_of sign)) signs.now }
+{
+    signs
+        .iter()
+        .copied()
+        .find(|sign| text.starts_with(sign.text().as_bytes()))
 }
