@@ -1,5 +1,6 @@
 -- The numbers of a query.
 use Rattle.std.specs.Prelude.{ℕ, ◌+◌, ◌-◌, ◌*◌, ◌^◌, Bool, true, false, ◌==◌, nat_lt, nat_le, if◌then◌else◌, List, [], ◌∷◌, ◌++◌, length, take, drop, take_while, codes, ℤ, pos, neg_ℤ}
+use Rattle.std.specs.List.{prefix_len}
 use Rattle.query_lexer.specs.Bytes.{is_digit}
 
 -- the number that digits write when they follow those of n
@@ -23,9 +24,13 @@ is_signed (b ∷ bs) = b == 45
 abbrev pub sign_length : List ℕ → ℕ
 sign_length all = if is_signed all then 1 else 0
 
+-- how many digits are behind the sign
+abbrev pub whole_length : List ℕ → ℕ
+whole_length all = prefix_len is_digit (drop (sign_length all) all)
+
 -- the digits behind the sign
 abbrev pub whole_of : List ℕ → List ℕ
-whole_of all = take_while is_digit (drop (sign_length all) all)
+whole_of all = take (whole_length all) (drop (sign_length all) all)
 
 -- the digits behind a point
 abbrev pub behind_point : List ℕ → List ℕ
@@ -34,7 +39,7 @@ behind_point (b ∷ bs) = if b == 46 then take_while is_digit bs else []
 
 -- the digits behind the point that directly follows the whole part
 abbrev pub decimals_of : List ℕ → List ℕ
-decimals_of all = behind_point (drop (sign_length all + length (whole_of all)) all)
+decimals_of all = behind_point (drop (sign_length all + whole_length all) all)
 
 -- a size with a sign
 abbrev pub signed_by : Bool → ℕ → ℤ

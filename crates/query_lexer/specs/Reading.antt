@@ -1,5 +1,5 @@
 -- A text and its tokens.
-use Rattle.std.specs.Prelude.{◌≡◌, ℕ, ◌+◌, ◌≤◌, ◌<◌, Bool, true, false, List, [], ◌∷◌, length, drop, slice_index, Result, Ok, Err}
+use Rattle.std.specs.Prelude.{◌≡◌, ◌≢◌, ℕ, ◌+◌, ◌≤◌, ◌<◌, Bool, true, false, List, [], ◌∷◌, length, drop, slice_index, Result, Ok, Err}
 use Rattle.query_lexer.specs.Bytes.{is_blank}
 use Rattle.query_lexer.specs.Standing.{Stands}
 use Rattle.query_lexer.specs.Lexed.{Lexed}
@@ -68,6 +68,10 @@ abbrev pub IsBad : List ℕ → Problem → ℕ → Type 0
 IsBad text problem at = (tokens : List Token) × (last : Mode) × Reads text m.Ordinary 0 tokens last at
     × Stands (names_come last) (drop at text) (p.Bad problem)
 
+-- the text is no other tokens
+abbrev pub IsOnly : List ℕ → List Token → Type 0
+IsOnly text tokens = (others : List Token) → IsLexed text others → others ≡ tokens
+
 -- the text's fault; any text may lack memory
 abbrev pub IsFault : List ℕ → LexFault → Type 0
 IsFault text (fault.BadCharacter at) = IsBad text problem.BadCharacter at
@@ -82,3 +86,8 @@ fault_of problem.BadCharacter at = fault.BadCharacter at
 fault_of problem.OpenString at = fault.OpenString at
 fault_of problem.OpenBracket at = fault.OpenBracket at
 fault_of problem.NumberTooLarge at = fault.NumberTooLarge at
+
+-- where there was memory, the text is no tokens, and has no other fault
+abbrev pub HasNone : List ℕ → LexFault → Type 0
+HasNone text given = given ≢ fault.Memory
+    → ((tokens : List Token) → ¬ (IsLexed text tokens)) × ((other : LexFault) → other ≢ fault.Memory → IsFault text other → other ≡ given)

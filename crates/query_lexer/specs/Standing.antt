@@ -1,7 +1,7 @@
 -- What stands at a place of a text, by its first byte.
 use Rattle.std.specs.Prelude.{◌≡◌, ℕ, zero, suc, ◌+◌, Bool, true, false, not, ◌&&◌, ◌||◌, ◌==◌, if◌then◌else◌, nat_eq, List, [], ◌∷◌, ◌++◌, length, take, drop, map, codes, take_while, find, position, Option, Some, None, MatchOption}
 use Rattle.std.specs.Char.{to_ascii_lowercase}
-use Rattle.std.specs.List.{starts_with}
+use Rattle.std.specs.List.{starts_with, prefix_len}
 use Rattle.memchr.specs.Find.{is_byte}
 use Rattle.query_lexer.specs.Bytes.{is_blank, is_letter, is_digit, is_word_byte, is_name_byte}
 use Rattle.query_lexer.specs.Numbers.{number_of, six_of, is_signed, sign_length, whole_of, decimals_of, signed_by, is_outside}
@@ -28,29 +28,32 @@ start_of names b =
     else if b == 91 then s.Bracket
     else s.Sign
 
--- the longest front of a name's bytes
+-- the longest front of the bytes of names
 abbrev pub name_at : List ℕ → Piece
-name_at all = let text = take_while is_name_byte all in p.Token (k.Name text) (length text)
+name_at all = p.Token (k.Name (take_while is_name_byte all)) (prefix_len is_name_byte all)
 
 -- a string's bytes for a text: each quote twice
 abbrev pub doubled : List ℕ → List ℕ
 doubled [] = []
 doubled (b ∷ bs) = if b == 39 then 39 ∷ 39 ∷ doubled bs else b ∷ doubled bs
 
--- no quote comes first
-abbrev pub NoQuoteFirst : List ℕ → Type 0
-NoQuoteFirst [] = Unit {0}
-NoQuoteFirst (b ∷ bs) = (b == 39) ≡ false
+-- whether a quote comes first
+abbrev pub is_quote_first : List ℕ → Bool
+is_quote_first [] = false
+is_quote_first (b ∷ bs) = b == 39
 
 -- the text begins with a string that stands for this text and has this many bytes
 abbrev pub IsString : List ℕ → List ℕ → ℕ → Type 0
-IsString all text size = (rest : List ℕ) × (all ≡ 39 ∷ doubled text ++ 39 ∷ rest) × NoQuoteFirst rest × (size ≡ length (doubled text) + 2)
+IsString all text size = (rest : List ℕ) × (all ≡ 39 ∷ doubled text ++ 39 ∷ rest) × (is_quote_first rest ≡ false) × (size ≡ length (doubled text) + 2)
+
+abbrev pub IsNoString : List ℕ → Type 0
+IsNoString all = (text : List ℕ) (size : ℕ) → ¬ (IsString all text size)
 
 -- a string, which is a name where one may come; or a string without an end
 abbrev pub IsStringAt : Bool → List ℕ → Piece → Type 0
 IsStringAt true all (p.Token (k.Name text) size) = IsString all text size
 IsStringAt false all (p.Token (k.Str text) size) = IsString all text size
-IsStringAt names all (p.Bad problem.OpenString) = (text : List ℕ) (size : ℕ) → ¬ (IsString all text size)
+IsStringAt names all (p.Bad problem.OpenString) = IsNoString all
 IsStringAt names all _ = ⊥
 
 -- whether a text begins with a name, whatever its case
@@ -74,7 +77,7 @@ IsWordKind word _ = ⊥
 -- a field, else the longest front of a word's bytes
 abbrev pub IsWordAt : List ℕ → Piece → Type 0
 IsWordAt all (p.Token kind size) = MatchOption (field_length all)
-    (IsWordKind (take_while is_word_byte all) kind × (size ≡ length (take_while is_word_byte all)))
+    (IsWordKind (take_while is_word_byte all) kind × (size ≡ prefix_len is_word_byte all))
     (λ n. (kind ≡ k.Word (take n all)) × (size ≡ n))
 IsWordAt all _ = ⊥
 

@@ -7,14 +7,18 @@
 
 mod fault;
 mod keyword;
+mod lexer;
+mod numbers;
 mod piece;
 mod starts;
 mod symbol;
 mod token;
 mod tokens;
+mod words;
 
 pub use fault::LexFault;
 pub use keyword::Keyword;
+pub use lexer::lex;
 pub use symbol::Symbol;
 pub use token::{Token, TokenKind};
 pub use tokens::Tokens;

@@ -1,0 +1,5 @@
+pub mod Numbering
+pub mod Quoting
+pub mod Finding
+pub mod Boundaries
+pub mod Fields
