@@ -38,13 +38,17 @@ not_byte b x no' = not_true (is_byte b x) no'
     not_true false no' = refl
 
 -- where a byte is first
-pub position_none : (b : ℕ) (hay : List ℕ) → IsFirstByte (is_byte b) hay None → position (is_byte b) hay ≡ None
+position_none : (b : ℕ) (hay : List ℕ) → IsFirstByte (is_byte b) hay None → position (is_byte b) hay ≡ None
 position_none b hay nowhere =
     let all : position_or_len (is_byte b) hay ≡ length hay = prefix_len_is (λ x. not (is_byte b x)) hay (length hay) 0 (omega arith) (λ k lt. not_byte b _ (nowhere k (omega arith) lt)) (λ lt. absurd (omega arith)) in
     let none' : nat_lt (length hay) (length hay) ≡ false = grind (arith, nat_tests) in
     rw (all, none') refl
 
-pub position_some : (b : ℕ) (hay : List ℕ) (n : ℕ) → IsFirstByte (is_byte b) hay (Some n) → position (is_byte b) hay ≡ Some n
+position_some : (b : ℕ) (hay : List ℕ) (n : ℕ) → IsFirstByte (is_byte b) hay (Some n) → position (is_byte b) hay ≡ Some n
 position_some b hay n found =
     let here : position_or_len (is_byte b) hay ≡ n = prefix_len_is (λ x. not (is_byte b x)) hay n 0 (omega arith) (λ k lt. not_byte b _ (found.0.before k (omega arith) lt)) (λ lt. rw found.1 refl) in
     rw (here, lt-ltb n (length hay) found.0.high) refl
+
+pub position_is : (b : ℕ) (hay : List ℕ) (found : Option ℕ) → IsFirstByte (is_byte b) hay found → found ≡ position (is_byte b) hay
+position_is b hay None is = sym (position_none b hay is)
+position_is b hay (Some n) is = sym (position_some b hay n is)

@@ -1,7 +1,9 @@
 -- A string, from quote to quote.
-use Rattle.std.proofs.Common.{◌≡◌, ℕ, zero, suc, ◌+◌, ◌-◌, ◌≤◌, ◌<◌, ◌==◌, Bool, true, false, List, [], ◌∷◌, ◌++◌, length, take, drop, get_or, refl, sym, ◌∙◌, ap, ap₂, subst, arith, append_assoc, append-nil, length-append, length-drop, drop-drop, take-append-drop}
+use Rattle.std.proofs.Common.{◌≡◌, ℕ, zero, suc, ◌+◌, ◌-◌, ◌≤◌, ◌<◌, ◌==◌, Bool, true, false, List, [], ◌∷◌, ◌++◌, length, take, drop, get_or, Option, Some, None, refl, sym, ◌∙◌, ap, ap₂, subst, arith, append_assoc, append-nil, length-append, length-drop, drop-drop, take-append-drop}
 use Rattle.std.proofs.lemmas.List.{drop_more}
-use Rattle.std.proofs.lemmas.Bool.{ne_eqb, eq-eqb, eqb-true, false≢true}
+use Rattle.std.proofs.lemmas.Bool.{ne_eqb, eq-eqb, eqb-true, false≢true, false_from_ne_true}
+use Rattle.std.proofs.lemmas.List.{take_all}
+use Rattle.memchr.specs.Find.{IsFirstByte, is_byte}
 use Rattle.query_lexer.specs.Standing.{doubled, is_quote_first, IsString, IsNoString}
 
 -- none of these bytes is a quote
@@ -105,3 +107,24 @@ string_ends all text rest at split none' size =
     let whole : length all ≡ length (39 ∷ doubled text ++ 39 ∷ rest) = ap (λ (x : List ℕ). length x) split in
     let parts : length (doubled text ++ 39 ∷ rest) ≡ length (doubled text) + length (39 ∷ rest) = length-append (doubled text) (39 ∷ rest) in
     (rest , split , none' , omega arith)
+
+-- up to the first quote there is none
+pub first_quote : (hay : List ℕ) (n : ℕ) → IsFirstByte (is_byte 39) hay (Some n) → (n < length hay) × (get_or hay n 0 ≡ 39) × NoQuotes (take n hay)
+first_quote hay n found = (found.0.high , eqb-true _ 39 found.1 , no_quotes hay n (omega (arith, found.0.high)) (λ i lt. false_from_ne_true _ (found.0.before i (omega arith) lt)))
+
+pub no_quote : (hay : List ℕ) → IsFirstByte (is_byte 39) hay None → NoQuotes hay
+no_quote hay nowhere = subst NoQuotes (take_all (length hay) hay (omega arith)) (no_quotes hay (length hay) (omega arith) (λ i lt. false_from_ne_true _ (nowhere i (omega arith) lt)))
+
+pub string_begins : (all : List ℕ) → get_or all 0 0 ≡ 39 → all ≡ 39 ∷ drop 1 all
+string_begins [] is = absurd (omega arith)
+string_begins (b ∷ bs) is = ap (λ (x : ℕ). x ∷ bs) is
+
+pub quote_is : (bs : List ℕ) → is_quote_first bs ≡ true → bs ≡ 39 ∷ drop 1 bs
+quote_is [] is = absurd (false≢true is)
+quote_is (b ∷ bs) is = ap (λ (x : ℕ). x ∷ bs) (eqb-true b 39 is)
+
+pub quote_there : (all : List ℕ) (k : ℕ) → is_quote_first (drop k all) ≡ true → (k < length all) × (get_or all k 0 ≡ 39)
+quote_there [] zero is = absurd (false≢true is)
+quote_there [] (suc k) is = absurd (false≢true is)
+quote_there (x ∷ xs) zero is = (omega arith , eqb-true x 39 is)
+quote_there (x ∷ xs) (suc k) is = let p = quote_there xs k is in (omega (arith, p.0) , p.1)

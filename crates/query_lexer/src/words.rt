@@ -1,6 +1,7 @@
 // Names, words, strings and brackets.
-ghost use Rattle.std.specs.Prelude.{◌≡◌, ◌<◌, drop, length, slice_index, map, IfOk, MatchOption};
+ghost use Rattle.std.specs.Prelude.{◌≡◌, ◌<◌, ◌≤◌, drop, length, slice_index, map, position, IfOk, IfSome, MatchOption};
 ghost use Rattle.std.specs.Char.{to_ascii_lowercase};
+ghost use Rattle.memchr.specs.Find.{IsFirstByte, is_byte};
 ghost use Rattle.query_lexer.specs.Standing.{name_at, begins_as, field_length, IsWordKind, IsWordAt, bracket_at, IsString, IsNoString, is_quote_first, IsStringAt, sign_at};
 
 use crate::piece::{Piece, Problem};
@@ -66,13 +67,21 @@ pub(crate) fn word(alloc: Global, rest: &str) -> Result<Piece, AllocError>
     Ok(Piece::Token(kind, length))
 }
 
+/// How many bytes stand before the bracket that closes.
+fn length_to_bracket(behind: &str) -> Option<usize>
+    ensures first { result ≡ position (is_byte 93) behind.now }
+    ensures bracket { IfSome result (λ n. (n < length behind.now) × (slice_index behind.now n ≡ 93)) }
+{
+    memchr(b']', behind.as_bytes())
+}
+
 /// The word in brackets that stands in front.
 pub(crate) fn bracket(alloc: Global, rest: &str) -> Result<Piece, AllocError>
     requires { slice_index rest.now 0 ≡ 91 }
     ensures { IfOk result (λ piece. piece ≡ bracket_at rest.now) }
 {
     let behind = &rest[1..];
-    match memchr(b']', behind.as_bytes()) {
+    match length_to_bracket(behind) {
         None => Ok(Piece::Bad(Problem::OpenBracket)),
         Some(0) => Ok(Piece::Bad(Problem::BadCharacter)),
         Some(length) => {
@@ -82,10 +91,19 @@ pub(crate) fn bracket(alloc: Global, rest: &str) -> Result<Piece, AllocError>
     }
 }
 
-fn is_quote_at(bytes: &[u8], at: usize) -> bool
-    ensures { result ≡ is_quote_first (drop at bytes.now) }
+fn is_quote_at(rest: &str, at: usize) -> bool
+    ensures { result ≡ is_quote_first (drop at rest.now) }
 {
+    let bytes = rest.as_bytes();
     at < bytes.len() && bytes[at] == b'\''
+}
+
+/// How many bytes stand from a place to the next quote.
+fn quote_behind(rest: &str, at: usize) -> Option<usize>
+    requires { at ≤ length rest.now }
+    ensures { IsFirstByte (is_byte 39) (drop at rest.now) result }
+{
+    memchr(b'\'', &rest.as_bytes()[at..])
 }
 
 /// The text of the string that stands in front, and how many bytes it has.
@@ -95,10 +113,10 @@ fn string_text(alloc: Global, rest: &str) -> Result<Option<(Text, usize)>, Alloc
 {
     let mut text = String::new(alloc);
     let mut at = 1;
-    while let Some(length) = memchr(b'\'', &rest.as_bytes()[at..]) {
+    while let Some(length) = quote_behind(rest, at) {
         text.push_str(&rest[at..at + length])?;
         at += length + 1;
-        if !is_quote_at(rest.as_bytes(), at) {
+        if !is_quote_at(rest, at) {
             return Ok(Some((Text::from_string(text), at)));
         }
         text.push('\'')?;
