@@ -87,3 +87,14 @@ by_once s.Sign names all one two first second = first ∙ sym second
 pub stands_once : (names : Bool) (all : List ℕ) (one two : Piece) → Stands names all one → Stands names all two → one ≡ two
 stands_once names [] one two first second = absurd first
 stands_once names (b ∷ bs) one two first second = by_once (start_of names b) names (b ∷ bs) one two first second
+
+-- a token is its kind and its size
+pub kind_is : {one two : TokenKind} {m n : ℕ} → p.Token one m ≡ p.Token two n → (one ≡ two) × (m ≡ n)
+kind_is {one} {two} {m} {n} e = (ap (λ (x : Piece). kind_or one x) e , ap (λ (x : Piece). size_or m x) e)
+  where
+    kind_or : TokenKind → Piece → TokenKind
+    kind_or one (p.Token kind size) = kind
+    kind_or one _ = one
+    size_or : ℕ → Piece → ℕ
+    size_or m (p.Token kind size) = size
+    size_or m _ = m

@@ -27,11 +27,14 @@ some_is : {m n : ℕ} → Some m ≡ Some n → m ≡ n
 some_is e = ap (λ (o : Option ℕ). unwrap_or o 0) e
 
 field_by : (all : List ℕ) (n : ℕ) (a b c : Bool) → IsUtf8 all → begins_as (codes "cs(user-agent)") all ≡ a → begins_as (codes "cs(referer)") all ≡ b → begins_as (codes "cs(cookie)") all ≡ c
-    → cond a (Some 14) (cond b (Some 11) (cond c (Some 10) None)) ≡ Some n → IsCharBoundary all n
-field_by all n true b c utf8 one two three is = subst (λ (m : ℕ). IsCharBoundary all m) (some_is is) (behind_name (codes "cs(user-agent)") all 13 41 utf8 one refl refl (omega arith) (omega arith))
-field_by all n false true c utf8 one two three is = subst (λ (m : ℕ). IsCharBoundary all m) (some_is is) (behind_name (codes "cs(referer)") all 10 41 utf8 two refl refl (omega arith) (omega arith))
-field_by all n false false true utf8 one two three is = subst (λ (m : ℕ). IsCharBoundary all m) (some_is is) (behind_name (codes "cs(cookie)") all 9 41 utf8 three refl refl (omega arith) (omega arith))
+    → cond a (Some 14) (cond b (Some 11) (cond c (Some 10) None)) ≡ Some n → (0 < n) × IsCharBoundary all n
+field_by all n true b c utf8 one two three is = subst (λ (m : ℕ). (0 < m) × IsCharBoundary all m) (some_is is) (omega arith , behind_name (codes "cs(user-agent)") all 13 41 utf8 one refl refl (omega arith) (omega arith))
+field_by all n false true c utf8 one two three is = subst (λ (m : ℕ). (0 < m) × IsCharBoundary all m) (some_is is) (omega arith , behind_name (codes "cs(referer)") all 10 41 utf8 two refl refl (omega arith) (omega arith))
+field_by all n false false true utf8 one two three is = subst (λ (m : ℕ). (0 < m) × IsCharBoundary all m) (some_is is) (omega arith , behind_name (codes "cs(cookie)") all 9 41 utf8 three refl refl (omega arith) (omega arith))
 field_by all n false false false utf8 one two three is = cc
 
+pub field_advance : (all : List ℕ) (n : ℕ) → IsUtf8 all → field_length all ≡ Some n → (0 < n) × IsCharBoundary all n
+field_advance all n utf8 is = field_by all n _ _ _ utf8 refl refl refl is
+
 pub field_boundary : (all : List ℕ) (n : ℕ) → IsUtf8 all → field_length all ≡ Some n → IsCharBoundary all n
-field_boundary all n utf8 is = field_by all n _ _ _ utf8 refl refl refl is
+field_boundary all n utf8 is = (field_advance all n utf8 is).1

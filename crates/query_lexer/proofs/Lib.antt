@@ -6,3 +6,6 @@ pub mod Fields
 pub mod Naming
 pub mod Starting
 pub mod Deciding
+pub mod Reading
+pub mod Advancing
+pub mod Ending
