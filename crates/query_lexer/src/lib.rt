@@ -7,6 +7,7 @@
 
 mod fault;
 mod keyword;
+mod length;
 mod lexer;
 mod numbers;
 mod piece;
@@ -18,7 +19,11 @@ mod words;
 
 pub use fault::LexFault;
 pub use keyword::Keyword;
+pub use length::{LONGEST, TooLong, check_length};
 pub use lexer::lex;
 pub use symbol::Symbol;
 pub use token::{Token, TokenKind};
 pub use tokens::Tokens;
+
+#[cfg(test)]
+mod tests;
