@@ -36,8 +36,8 @@ pub front_ends : (p : ℕ → Bool) (all : List ℕ) → ((b : ℕ) → p b ≡ 
 front_ends p all ascii utf8 =
     let le : prefix_len p all ≤ length all = prefix_len-le-length p all in
     elim (eq-or-lt_of_le le) [
-      inr lt ↦ IsCharBoundary-before_ascii all (prefix_len p all) lt (ascii _ (prefix_len_stops p all 0 lt))
-    | inl is ↦ subst (λ (m : ℕ). IsCharBoundary all m) (sym is) (IsCharBoundary-end all)
+      | inr lt ↦ IsCharBoundary-before_ascii all (prefix_len p all) lt (ascii _ (prefix_len_stops p all 0 lt))
+      | inl is ↦ subst (λ (m : ℕ). IsCharBoundary all m) (sym is) (IsCharBoundary-end all)
     ]
 
 pub name_boundary : (all : List ℕ) → IsUtf8 all → IsCharBoundary all (prefix_len is_name_byte all)

@@ -5,9 +5,8 @@ use Rattle.std.proofs.lemmas.List.{drop_more}
 use Rattle.std.proofs.lemmas.Str.{IsCharBoundary-from_rest, IsUtf8-drop}
 use Rattle.query_lexer.specs.Bytes.{is_blank}
 use Rattle.query_lexer.specs.Numbers.{is_signed, sign_length, whole_of, decimals_of}
-use Rattle.query_lexer.specs.Standing.{number_by, bracket_by, sign_by, start_of, StandsBy, Stands}
+use Rattle.query_lexer.specs.Standing.{number_by, bracket_by, start_of, StandsBy, Stands}
 use Rattle.query_lexer.specs.Reading.{names_come, Reads, IsLexed, IsOnly, IsBad, IsFault, HasNone, fault_of}
-use Rattle.query_lexer.specs.declared.symbol.Symbol.{Symbol}
 use Rattle.query_lexer.specs.declared.token.Token.{Token}
 use Rattle.query_lexer.specs.declared.token.TokenKind.{TokenKind}
 use Rattle.query_lexer.specs.declared.piece.Piece.{Piece}
@@ -39,10 +38,6 @@ bracket_not_blank behind None e = cc
 bracket_not_blank behind (Some zero) e = cc
 bracket_not_blank behind (Some (suc n)) e = cc
 
-sign_not_blank : (found : Option Symbol) → p.Blank ≡ sign_by found → ⊥
-sign_not_blank None e = cc
-sign_not_blank (Some sign) e = cc
-
 blank_by : (start : Start) (names : Bool) (all : List ℕ) → StandsBy start names all p.Blank → start ≡ s.Blank
 blank_by s.Blank names all is = refl
 blank_by s.Quote names all is = elim (string_shape names all p.Blank is) [ inl x ↦ (let e = x.3 in cc) | inr x ↦ (let e = x.1 in cc) ]
@@ -50,7 +45,7 @@ blank_by s.Name names all is = cc
 blank_by s.Letter names all is = absurd is
 blank_by s.Number names all is = absurd (number_not_blank (is_signed all) (sign_length all) (whole_of all) (decimals_of all) is)
 blank_by s.Bracket names all is = absurd (bracket_not_blank _ _ is)
-blank_by s.Sign names all is = absurd (sign_not_blank _ is)
+blank_by s.Sign names all is = absurd is
 
 pub blank_stands : (names : Bool) (text : List ℕ) (at : ℕ) → at < length text → Stands names (drop at text) p.Blank → is_blank (get_or text at 0) ≡ true
 blank_stands names text at lt is =
@@ -65,7 +60,7 @@ stands_along names names' all all' piece piece' one two three is =
 pub token_ends : (names : Bool) (text : List ℕ) (at : ℕ) (kind : TokenKind) (size : ℕ) → IsUtf8 text → IsCharBoundary text at → Stands names (drop at text) (p.Token kind size) → (0 < size) × IsCharBoundary text (at + size)
 token_ends names text at kind size utf8 cut is =
     let q = token_advances names (drop at text) kind size (IsUtf8-drop text at utf8 cut) is in
-    (q.0 , IsCharBoundary-from_rest text at size cut.0 q.1)
+    (q.0, IsCharBoundary-from_rest text at size cut.0 q.1)
 
 pub only_these : (text : List ℕ) (ts : List Token) (last : Mode) (at : ℕ) → Reads text m.Ordinary 0 ts last at → at ≡ length text → IsOnly text ts
 only_these text ts last at reads end = λ others is. (reads_once text m.Ordinary 0 others ts is.0 last (length text) at None None is.1 refl reads end).tokens
@@ -81,10 +76,11 @@ same_fault text ts last at other-at problem other reads stands is =
 
 pub none_else : (text : List ℕ) (ts : List Token) (last : Mode) (at : ℕ) (problem : Problem) (given : LexFault) → Reads text m.Ordinary 0 ts last at → Stands (names_come last) (drop at text) (p.Bad problem) → given ≡ fault_of problem at
     → HasNone text given
-none_else text ts last at problem given reads stands is = λ some. (no_tokens , others)
+none_else text ts last at problem given reads stands is = λ some. (no_tokens, others)
   where
     no_tokens : (tokens : List Token) → IsLexed text tokens → ⊥
     no_tokens tokens lexed = (let e = (reads_once text m.Ordinary 0 tokens ts lexed.0 last (length text) at None (Some problem) lexed.1 refl reads stands).end in cc)
+
     others : (other : LexFault) → other ≢ fault.Memory → IsFault text other → other ≡ given
     others (fault.BadCharacter n) some bad = same_fault text ts last at n problem wrong.BadCharacter reads stands bad ∙ sym is
     others (fault.OpenString n) some bad = same_fault text ts last at n problem wrong.OpenString reads stands bad ∙ sym is

@@ -13,8 +13,8 @@ small_is_ascii b lt = grind (arith, nat_tests)
 
 small_at : (all : List ℕ) (n b : ℕ) → get_or (take (suc n) (map to_ascii_lowercase all)) n 0 ≡ b → 0 < b → b < 128 → (n < length all) × (get_or all n 0 < 128)
 small_at [] n b is more less = absurd (omega arith)
-small_at (x ∷ xs) zero b is more less = (omega arith , small_is_ascii x (omega arith))
-small_at (x ∷ xs) (suc n) b is more less = let p = small_at xs n b is more less in (omega (arith, p.0) , p.1)
+small_at (x ∷ xs) zero b is more less = (omega arith, small_is_ascii x (omega arith))
+small_at (x ∷ xs) (suc n) b is more less = let p = small_at xs n b is more less in (omega (arith, p.0), p.1)
 
 behind_name : (name all : List ℕ) (n b : ℕ) → IsUtf8 all → begins_as name all ≡ true → length name ≡ suc n → get_or name n 0 ≡ b → 0 < b → b < 128 → IsCharBoundary all (suc n)
 behind_name name all n b utf8 begins size last more less =
@@ -28,9 +28,9 @@ some_is e = ap (λ (o : Option ℕ). unwrap_or o 0) e
 
 field_by : (all : List ℕ) (n : ℕ) (a b c : Bool) → IsUtf8 all → begins_as (codes "cs(user-agent)") all ≡ a → begins_as (codes "cs(referer)") all ≡ b → begins_as (codes "cs(cookie)") all ≡ c
     → cond a (Some 14) (cond b (Some 11) (cond c (Some 10) None)) ≡ Some n → (0 < n) × IsCharBoundary all n
-field_by all n true b c utf8 one two three is = subst (λ (m : ℕ). (0 < m) × IsCharBoundary all m) (some_is is) (omega arith , behind_name (codes "cs(user-agent)") all 13 41 utf8 one refl refl (omega arith) (omega arith))
-field_by all n false true c utf8 one two three is = subst (λ (m : ℕ). (0 < m) × IsCharBoundary all m) (some_is is) (omega arith , behind_name (codes "cs(referer)") all 10 41 utf8 two refl refl (omega arith) (omega arith))
-field_by all n false false true utf8 one two three is = subst (λ (m : ℕ). (0 < m) × IsCharBoundary all m) (some_is is) (omega arith , behind_name (codes "cs(cookie)") all 9 41 utf8 three refl refl (omega arith) (omega arith))
+field_by all n true b c utf8 one two three is = subst (λ (m : ℕ). (0 < m) × IsCharBoundary all m) (some_is is) (omega arith, behind_name (codes "cs(user-agent)") all 13 41 utf8 one refl refl (omega arith) (omega arith))
+field_by all n false true c utf8 one two three is = subst (λ (m : ℕ). (0 < m) × IsCharBoundary all m) (some_is is) (omega arith, behind_name (codes "cs(referer)") all 10 41 utf8 two refl refl (omega arith) (omega arith))
+field_by all n false false true utf8 one two three is = subst (λ (m : ℕ). (0 < m) × IsCharBoundary all m) (some_is is) (omega arith, behind_name (codes "cs(cookie)") all 9 41 utf8 three refl refl (omega arith) (omega arith))
 field_by all n false false false utf8 one two three is = cc
 
 pub field_advance : (all : List ℕ) (n : ℕ) → IsUtf8 all → field_length all ≡ Some n → (0 < n) × IsCharBoundary all n

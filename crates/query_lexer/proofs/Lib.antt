@@ -4,6 +4,7 @@ pub mod Finding
 pub mod Boundaries
 pub mod Fields
 pub mod Naming
+pub mod Signs
 pub mod Starting
 pub mod Deciding
 pub mod Reading

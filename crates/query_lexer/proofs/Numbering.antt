@@ -28,10 +28,10 @@ number_of_three whole decimals zeros = number_after_append 0 whole (decimals ++ 
 -- the decimals that are kept, and the zeros for those that are missing
 pub six_by : (decimals zeros : List ℕ) (kept : ℕ) → length zeros ≡ 6 → kept ≡ min (length decimals) 6 → take 6 decimals ++ drop (length decimals) zeros ≡ take kept decimals ++ drop kept zeros
 six_by decimals zeros kept six is = elim (leb_tells 6 (length decimals)) [
-      inl p ↦ (let le = p.1 in let here : kept ≡ 6 = is ∙ min-eq_right le in
-        let none' : drop (length decimals) zeros ≡ [] = drop_of_length-le zeros (subst (λ (n : ℕ). n ≤ length decimals) (sym six) le) in
-        let none-2 : drop kept zeros ≡ [] = drop_of_length-le zeros (omega arith) in
-        rw (none', none-2, here) refl)
-    | inr p ↦ (let lt = p.1 in let le : length decimals ≤ 6 = omega arith in let here : kept ≡ length decimals = is ∙ min-eq_left le in
-        rw (here, take_all 6 decimals le, take_all (length decimals) decimals (omega arith)) refl)
-    ]
+  | inl p ↦ (let le = p.1 in let here : kept ≡ 6 = is ∙ min-eq_right le in
+      let none' : drop (length decimals) zeros ≡ [] = drop_of_length-le zeros (subst (λ (n : ℕ). n ≤ length decimals) (sym six) le) in
+      let none-2 : drop kept zeros ≡ [] = drop_of_length-le zeros (omega arith) in
+      rw (none', none-2, here) refl)
+  | inr p ↦ (let lt = p.1 in let le : length decimals ≤ 6 = omega arith in let here : kept ≡ length decimals = is ∙ min-eq_left le in
+      rw (here, take_all 6 decimals le, take_all (length decimals) decimals (omega arith)) refl)
+]

@@ -69,7 +69,7 @@ no_start y false ys r rest is none' e = false≢true (sym is ∙ eq-eqb y 39 (sy
 both_go_on : (x y : ℕ) (b c : Bool) (xs ys r s : List ℕ) → (x == 39) ≡ b → (y == 39) ≡ c → doubled (x ∷ xs) ++ r ≡ doubled (y ∷ ys) ++ s → (x ≡ y) × (doubled xs ++ r ≡ doubled ys ++ s)
 both_go_on x y true true xs ys r s one two e =
     let both : 39 ∷ 39 ∷ doubled xs ++ r ≡ 39 ∷ 39 ∷ doubled ys ++ s = sym (ap (λ (z : List ℕ). z ++ r) (doubled_yes x xs one)) ∙ e ∙ ap (λ (z : List ℕ). z ++ s) (doubled_yes y ys two) in
-    (eqb-true x 39 one ∙ sym (eqb-true y 39 two) , list_tail (list_tail both))
+    (eqb-true x 39 one ∙ sym (eqb-true y 39 two), list_tail (list_tail both))
 both_go_on x y true false xs ys r s one two e =
     let both : 39 ∷ 39 ∷ doubled xs ++ r ≡ y ∷ doubled ys ++ s = sym (ap (λ (z : List ℕ). z ++ r) (doubled_yes x xs one)) ∙ e ∙ ap (λ (z : List ℕ). z ++ s) (doubled_no y ys two) in
     absurd (false≢true (sym two ∙ eq-eqb y 39 (sym (list_head both))))
@@ -78,7 +78,7 @@ both_go_on x y false true xs ys r s one two e =
     absurd (false≢true (sym one ∙ eq-eqb x 39 (list_head both)))
 both_go_on x y false false xs ys r s one two e =
     let both : x ∷ doubled xs ++ r ≡ y ∷ doubled ys ++ s = sym (ap (λ (z : List ℕ). z ++ r) (doubled_no x xs one)) ∙ e ∙ ap (λ (z : List ℕ). z ++ s) (doubled_no y ys two) in
-    (list_head both , list_tail both)
+    (list_head both, list_tail both)
 
 texts_same : (t u r s : List ℕ) → is_quote_first r ≡ false → is_quote_first s ≡ false → doubled t ++ 39 ∷ r ≡ doubled u ++ 39 ∷ s → t ≡ u
 texts_same [] [] r s one two e = refl
@@ -97,7 +97,7 @@ no_text (x ∷ xs) (y ∷ ys) rest s none' two e = no_text xs ys rest s none' tw
 pub string_once : (all t u : List ℕ) (m n : ℕ) → IsString all t m → IsString all u n → (t ≡ u) × (m ≡ n)
 string_once all t u m n one two =
     let same : t ≡ u = texts_same t u one.0 two.0 one.2 two.2 (list_tail (sym one.1 ∙ two.1)) in
-    (same , one.3 ∙ ap (λ (x : List ℕ). length (doubled x) + 2) same ∙ sym two.3)
+    (same, one.3 ∙ ap (λ (x : List ℕ). length (doubled x) + 2) same ∙ sym two.3)
 
 pub string_none : (all text rest : List ℕ) → all ≡ 39 ∷ doubled text ++ rest → NoQuotes rest → IsNoString all
 string_none all text rest split none' = λ u n two. no_text text u rest two.0 none' two.2 (list_tail (sym split ∙ two.1))
@@ -106,11 +106,11 @@ pub string_ends : (all text rest : List ℕ) (at : ℕ) → all ≡ 39 ∷ doubl
 string_ends all text rest at split none' size =
     let whole : length all ≡ length (39 ∷ doubled text ++ 39 ∷ rest) = ap (λ (x : List ℕ). length x) split in
     let parts : length (doubled text ++ 39 ∷ rest) ≡ length (doubled text) + length (39 ∷ rest) = length-append (doubled text) (39 ∷ rest) in
-    (rest , split , none' , omega arith)
+    (rest, split, none', omega arith)
 
 -- up to the first quote there is none
 pub first_quote : (hay : List ℕ) (n : ℕ) → IsFirstByte (is_byte 39) hay (Some n) → (n < length hay) × (get_or hay n 0 ≡ 39) × NoQuotes (take n hay)
-first_quote hay n found = (found.0.high , eqb-true _ 39 found.1 , no_quotes hay n (omega (arith, found.0.high)) (λ i lt. false_from_ne_true _ (found.0.before i (omega arith) lt)))
+first_quote hay n found = (found.0.high, eqb-true _ 39 found.1, no_quotes hay n (omega (arith, found.0.high)) (λ i lt. false_from_ne_true _ (found.0.before i (omega arith) lt)))
 
 pub no_quote : (hay : List ℕ) → IsFirstByte (is_byte 39) hay None → NoQuotes hay
 no_quote hay nowhere = subst NoQuotes (take_all (length hay) hay (omega arith)) (no_quotes hay (length hay) (omega arith) (λ i lt. false_from_ne_true _ (nowhere i (omega arith) lt)))
@@ -126,5 +126,5 @@ quote_is (b ∷ bs) is = ap (λ (x : ℕ). x ∷ bs) (eqb-true b 39 is)
 pub quote_there : (all : List ℕ) (k : ℕ) → is_quote_first (drop k all) ≡ true → (k < length all) × (get_or all k 0 ≡ 39)
 quote_there [] zero is = absurd (false≢true is)
 quote_there [] (suc k) is = absurd (false≢true is)
-quote_there (x ∷ xs) zero is = (omega arith , eqb-true x 39 is)
-quote_there (x ∷ xs) (suc k) is = let p = quote_there xs k is in (omega (arith, p.0) , p.1)
+quote_there (x ∷ xs) zero is = (omega arith, eqb-true x 39 is)
+quote_there (x ∷ xs) (suc k) is = let p = quote_there xs k is in (omega (arith, p.0), p.1)

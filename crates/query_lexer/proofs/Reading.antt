@@ -21,22 +21,25 @@ use Rattle.query_lexer.proofs.Deciding.{stands_once, kind_is}
 
 -- one blank more
 blank_more : (text : List ℕ) (from to : ℕ) → IsBlankBetween text from to → to < length text → is_blank (get_or text to 0) ≡ true → IsBlankBetween text from (to + 1)
-blank_more text from to is lt blank =
-    (omega (arith, is.0) , omega arith , λ n low high. elim (leb_tells (suc n) to) [
-        inl q ↦ is.2 n low (omega (arith, q.1))
-      | inr q ↦ (let same : to ≡ n = omega (arith, q.1) in subst (λ (i : ℕ). is_blank (get_or text i 0) ≡ true) same blank)
-      ])
+blank_more text from to is lt blank = (
+  omega (arith, is.0),
+  omega arith,
+  λ n low high. elim (leb_tells (suc n) to) [
+    | inl q ↦ is.2 n low (omega (arith, q.1))
+    | inr q ↦ (let same : to ≡ n = omega (arith, q.1) in subst (λ (i : ℕ). is_blank (get_or text i 0) ≡ true) same blank)
+  ],
+)
 
 pub reads_blank : (text : List ℕ) (mode : Mode) (from : ℕ) (ts : List Token) (last : Mode) (to : ℕ) → Reads text mode from ts last to → to < length text → is_blank (get_or text to 0) ≡ true
     → Reads text mode from ts last (to + 1)
-reads_blank text mode from [] last to is lt blank = (is.0 , blank_more text from to is.1 lt blank)
-reads_blank text mode from (t ∷ ts) last to is lt blank = (is.0 , is.1 , is.2 , reads_blank text (after mode t.kind) (t.at + is.0) ts last to is.3 lt blank)
+reads_blank text mode from [] last to is lt blank = (is.0, blank_more text from to is.1 lt blank)
+reads_blank text mode from (t ∷ ts) last to is lt blank = (is.0, is.1, is.2, reads_blank text (after mode t.kind) (t.at + is.0) ts last to is.3 lt blank)
 
 pub reads_token : (text : List ℕ) (mode : Mode) (from : ℕ) (ts : List Token) (last : Mode) (to size : ℕ) (kind : TokenKind) → Reads text mode from ts last to
     → Stands (names_come last) (drop to text) (p.Token kind size) → to + size ≤ length text → Reads text mode from (ts ++ record { at = to; kind = kind } ∷ []) (after last kind) (to + size)
 reads_token text mode from [] last to size kind is stands le =
-    (size , is.1 , subst (λ (m : Mode). Stands (names_come m) (drop to text) (p.Token kind size)) (sym is.0) stands , (ap (λ (m : Mode). after m kind) is.0 , (omega arith , le , λ n low high. absurd (omega arith))))
-reads_token text mode from (t ∷ ts) last to size kind is stands le = (is.0 , is.1 , is.2 , reads_token text (after mode t.kind) (t.at + is.0) ts last to size kind is.3 stands le)
+    (size, is.1, subst (λ (m : Mode). Stands (names_come m) (drop to text) (p.Token kind size)) (sym is.0) stands, (ap (λ (m : Mode). after m kind) is.0, (omega arith, le, λ n low high. absurd (omega arith))))
+reads_token text mode from (t ∷ ts) last to size kind is stands le = (is.0, is.1, is.2, reads_token text (after mode t.kind) (t.at + is.0) ts last to size kind is.3 stands le)
 
 -- what stands at a place that is no blank
 abbrev pub NotBlankAt : List ℕ → ℕ → Type 0
@@ -57,12 +60,12 @@ not_between text from one two low other blanks lt = false≢true (sym (other (om
 
 same_place : (text : List ℕ) (from one two : ℕ) → IsBlankBetween text from one → NotBlankAt text one → IsBlankBetween text from two → NotBlankAt text two → one ≡ two
 same_place text from one two first no-one second no-two = elim (leb_tells (suc one) two) [
-      inl q ↦ absurd (not_between text from one two first.0 no-one second (omega (arith, q.1)))
-    | inr q ↦ (elim (leb_tells (suc two) one) [
-          inl r ↦ absurd (not_between text from two one second.0 no-two first (omega (arith, r.1)))
-        | inr r ↦ omega (arith, q.1, r.1)
-        ])
-    ]
+  | inl q ↦ absurd (not_between text from one two first.0 no-one second (omega (arith, q.1)))
+  | inr q ↦ (elim (leb_tells (suc two) one) [
+    | inl r ↦ absurd (not_between text from two one second.0 no-two first (omega (arith, r.1)))
+    | inr r ↦ omega (arith, q.1, r.1)
+  ])
+]
 
 -- the text ends, or a problem stands there
 abbrev pub IsEnd : List ℕ → Mode → ℕ → Option Problem → Type 0
@@ -117,12 +120,12 @@ reads_once text mode from (t ∷ ts) [] last other m n one two first end second 
     absurd (no_token_at_end text mode t.at two t.kind first.0 here first.2)
 reads_once text mode from (t ∷ ts) (u ∷ us) last other m n one two first end second stop =
     let place : t.at ≡ u.at = same_place text from t.at u.at first.1 (stands_not_blank (names_come mode) text t.at (p.Token t.kind first.0) first.2 (λ e. cc))
-        second.1 (stands_not_blank (names_come mode) text u.at (p.Token u.kind second.0) second.2 (λ e. cc)) in
+    second.1 (stands_not_blank (names_come mode) text u.at (p.Token u.kind second.0) second.2 (λ e. cc)) in
     let kinds = kind_is (stands_once (names_come mode) (drop u.at text) (p.Token t.kind first.0) (p.Token u.kind second.0)
-        (subst (λ (i : ℕ). Stands (names_come mode) (drop i text) (p.Token t.kind first.0)) place first.2) second.2) in
+    (subst (λ (i : ℕ). Stands (names_come mode) (drop i text) (p.Token t.kind first.0)) place first.2) second.2) in
     let next : t.at + first.0 ≡ u.at + second.0 = ap₂ (λ (i j : ℕ). i + j) place kinds.1 in
     let rest : Reads text (after mode u.kind) (u.at + second.0) ts last m
-      = subst (λ (i : ℕ). Reads text (after mode u.kind) i ts last m) next (subst (λ (x : TokenKind). Reads text (after mode x) (t.at + first.0) ts last m) kinds.0 first.3) in
+    = subst (λ (i : ℕ). Reads text (after mode u.kind) i ts last m) next (subst (λ (x : TokenKind). Reads text (after mode x) (t.at + first.0) ts last m) kinds.0 first.3) in
     let more = reads_once text (after mode u.kind) (u.at + second.0) ts us last other m n one two rest end second.3 stop in
     record { tokens = ap₂ (λ (x : Token) (xs : List Token). x ∷ xs) (ap₂ (λ (i : ℕ) (x : TokenKind). token i x) place kinds.0) more.tokens; end = more.end; place = more.place }
   where

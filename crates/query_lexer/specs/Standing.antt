@@ -1,14 +1,12 @@
 -- What stands at a place of a text, by its first byte.
-use Rattle.std.specs.Prelude.{◌≡◌, ℕ, zero, suc, ◌+◌, Bool, true, false, not, ◌&&◌, ◌||◌, ◌==◌, if◌then◌else◌, nat_eq, List, [], ◌∷◌, ◌++◌, length, take, drop, map, codes, take_while, find, position, Option, Some, None, MatchOption}
+use Rattle.std.specs.Prelude.{◌≡◌, ℕ, zero, suc, ◌+◌, Bool, true, false, not, ◌&&◌, ◌||◌, ◌==◌, if◌then◌else◌, nat_eq, List, [], ◌∷◌, ◌++◌, length, take, drop, map, codes, take_while, position, Option, Some, None, MatchOption}
 use Rattle.std.specs.Char.{to_ascii_lowercase}
 use Rattle.std.specs.List.{starts_with, prefix_len}
 use Rattle.memchr.specs.Find.{is_byte}
 use Rattle.query_lexer.specs.Bytes.{is_blank, is_letter, is_digit, is_word_byte, is_name_byte}
 use Rattle.query_lexer.specs.Numbers.{number_of, six_of, is_signed, sign_length, whole_of, decimals_of, signed_by, is_outside}
 use Rattle.query_lexer.specs.Keywords.{IsKeyword, IsNoKeyword}
-use Rattle.query_lexer.specs.Symbols.{text_of}
-use Rattle.query_lexer.specs.declared.symbol.Symbol.{Symbol}
-use Rattle.query_lexer.specs.declared.symbol.TheConstants.{ALL}
+use Rattle.query_lexer.specs.Symbols.{text_of, HasSign, HasNoSign}
 use Rattle.query_lexer.specs.declared.token.TokenKind.{TokenKind}
 use Rattle.query_lexer.specs.declared.token.TokenKind.TheVariants as k
 use Rattle.query_lexer.specs.declared.piece.Piece.{Piece}
@@ -111,13 +109,11 @@ bracket_by behind (Some (suc n)) = p.Token (k.Word (take (suc n) behind)) (suc n
 abbrev pub bracket_at : List ℕ → Piece
 bracket_at all = bracket_by (drop 1 all) (position (is_byte 93) (drop 1 all))
 
-abbrev pub sign_by : Option Symbol → Piece
-sign_by None = p.Bad problem.BadCharacter
-sign_by (Some sign) = p.Token (k.Symbol sign) (length (text_of sign))
-
--- the first sign of the table, where the longer ones come first, with which the text begins
-abbrev pub sign_at : List ℕ → Piece
-sign_at all = sign_by (find (λ sign. starts_with nat_eq all (text_of sign)) ALL)
+-- the longest sign, or none
+abbrev pub IsSignAt : List ℕ → Piece → Type 0
+IsSignAt all (p.Token (k.Symbol sign) size) = HasSign all sign × (size ≡ length (text_of sign))
+IsSignAt all (p.Bad problem.BadCharacter) = HasNoSign all
+IsSignAt all _ = ⊥
 
 abbrev pub StandsBy : Start → Bool → List ℕ → Piece → Type 0
 StandsBy s.Blank names all piece = piece ≡ p.Blank
@@ -126,7 +122,7 @@ StandsBy s.Name names all piece = piece ≡ name_at all
 StandsBy s.Letter names all piece = IsWordAt all piece
 StandsBy s.Number names all piece = piece ≡ number_at all
 StandsBy s.Bracket names all piece = piece ≡ bracket_at all
-StandsBy s.Sign names all piece = piece ≡ sign_at all
+StandsBy s.Sign names all piece = IsSignAt all piece
 
 -- what stands at the front of a text, where names may come or not
 abbrev pub Stands : Bool → List ℕ → Piece → Type 0

@@ -1,7 +1,7 @@
 // The signs of the query language, and their texts.
-ghost use Rattle.std.specs.Prelude.{◌≡◌, find, nat_eq};
+ghost use Rattle.std.specs.Prelude.{◌≡◌, find, nat_eq, MatchOption};
 ghost use Rattle.std.specs.List.{starts_with};
-ghost use Rattle.query_lexer.specs.Symbols.{text_of};
+ghost use Rattle.query_lexer.specs.Symbols.{text_of, HasSign, HasNoSign};
 
 /// A sign of the query language.
 #[derive(Clone, Copy, Debug, PartialEq, Eq)]
@@ -67,7 +67,7 @@ impl Symbol {
 
     /// The longest sign with which a text begins.
     pub fn at_front(text: &[u8]) -> Option<Symbol>
-        ensures { result ≡ find (λ sign. starts_with nat_eq text.now (text_of sign)) ALL }
+        ensures { MatchOption result (HasNoSign text.now) (HasSign text.now) }
     {
         first_of(&ALL, text)
     }

@@ -60,7 +60,10 @@ const TOKENS: [(&str, &str); 24] = [
     ("[select][a é]", "0:word select|8:word a é|"),
     ("'it''s' '' ''''", "0:string it's|8:string |11:string '|"),
     ("'é]['x", "0:string é][|6:word x|"),
-    ("10 -5 007 -0", "0:integer 10 false|3:integer -5 true|6:integer 7 false|10:integer 0 true|"),
+    (
+        "10 -5 007 -0",
+        "0:integer 10 false|3:integer -5 true|6:integer 7 false|10:integer 0 true|",
+    ),
     (
         "1.5 -0.1234567 2.0000009 0.07",
         "0:millionths 1500000|4:millionths -123456|15:millionths 2000000|25:millionths 70000|",
@@ -73,18 +76,33 @@ const TOKENS: [(&str, &str); 24] = [
         "9223372036854.775807 -9223372036854.7758089",
         "0:millionths 9223372036854775807|21:millionths -9223372036854775808|",
     ),
-    ("a-1 a -1 1-1 1a", "0:word a-1|4:word a|6:integer -1 true|9:integer 1 false|10:integer -1 true|13:integer 1 false|14:word a|"),
-    ("( ) , ; * = <> < > <= >=", "0:(|2:)|4:,|6:;|8:*|10:=|12:<>|15:<|17:>|19:<=|22:>=|"),
+    (
+        "a-1 a -1 1-1 1a",
+        "0:word a-1|4:word a|6:integer -1 true|9:integer 1 false|10:integer -1 true|13:integer 1 false|14:word a|",
+    ),
+    (
+        "( ) , ; * = <> < > <= >=",
+        "0:(|2:)|4:,|6:;|8:*|10:=|12:<>|15:<|17:>|19:<=|22:>=|",
+    ),
     ("<=><>=><", "0:<=|2:>|3:<>|5:=|6:>|7:<|"),
     (
         "INTO a*b.csv FROM c:\\x.log, 'y z' ,[w] WHERE",
         "0:INTO|5:name a*b.csv|13:FROM|18:name c:\\x.log|26:,|28:name y z|34:,|35:name [w]|39:WHERE|",
     ),
     ("FROM a b, c", "0:FROM|5:name a|7:word b|8:,|10:word c|"),
-    ("FROM, a INTO a, b", "0:FROM|4:,|6:word a|8:INTO|13:name a|14:,|16:word b|"),
-    ("into select from from", "0:INTO|5:name select|12:FROM|17:name from|"),
+    (
+        "FROM, a INTO a, b",
+        "0:FROM|4:,|6:word a|8:INTO|13:name a|14:,|16:word b|",
+    ),
+    (
+        "into select from from",
+        "0:INTO|5:name select|12:FROM|17:name from|",
+    ),
     ("FROMé,'a''b'", "0:FROM|4:name é|6:,|7:name a'b|"),
-    ("in (select x from -5)", "0:IN|3:(|4:SELECT|11:word x|13:FROM|18:name -5|20:)|"),
+    (
+        "in (select x from -5)",
+        "0:IN|3:(|4:SELECT|11:word x|13:FROM|18:name -5|20:)|",
+    ),
 ];
 
 const FAULTS: [(&str, &str); 20] = [

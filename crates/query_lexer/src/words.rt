@@ -2,7 +2,7 @@
 ghost use Rattle.std.specs.Prelude.{◌≡◌, ◌<◌, ◌≤◌, drop, length, slice_index, map, position, IfOk, IfSome, MatchOption};
 ghost use Rattle.std.specs.Char.{to_ascii_lowercase};
 ghost use Rattle.memchr.specs.Find.{IsFirstByte, is_byte};
-ghost use Rattle.query_lexer.specs.Standing.{name_at, begins_as, field_length, IsWordKind, IsWordAt, bracket_at, IsString, IsNoString, is_quote_first, IsStringAt, sign_at};
+ghost use Rattle.query_lexer.specs.Standing.{name_at, begins_as, field_length, IsWordKind, IsWordAt, bracket_at, IsString, IsNoString, is_quote_first, IsStringAt, IsSignAt};
 
 use crate::piece::{Piece, Problem};
 use crate::starts::{name_length, word_length};
@@ -145,7 +145,7 @@ pub(crate) fn string(alloc: Global, names: bool, rest: &str) -> Result<Piece, Al
 
 /// The sign that stands in front.
 pub(crate) fn sign(rest: &[u8]) -> Piece
-    ensures { result ≡ sign_at rest.now }
+    ensures { IsSignAt rest.now result }
 {
     match Symbol::at_front(rest) {
         None => Piece::Bad(Problem::BadCharacter),

@@ -14,7 +14,7 @@ use Rattle.query_lexer.proofs.lexer.lex.Goals as goal
 
 pub loop-at-init : goal.loop-at-init
 loop-at-init c = record {
-  reads = rw c.new-tokens.ensures.items (refl , (omega arith , omega arith , λ n low high. absurd (omega arith)));
+  reads = rw c.new-tokens.ensures.items (refl, (omega arith, omega arith, λ n low high. absurd (omega arith)));
   length = c.new-tokens.ensures.text;
   cut = IsCharBoundary-start c.args.text.now c.utf8.text;
 }

@@ -23,5 +23,5 @@ returns c =
     let left : length (drop c.min-kept.result (codes "000000")) ≡ 6 - c.min-kept.result = length-drop c.min-kept.result (codes "000000") in
     let zeros = take_all (6 - c.min-kept.result) (drop c.min-kept.result (codes "000000")) (omega arith) in
     let total : number_after c.in_ok-number-2.number (take (6 - c.min-kept.result) (drop c.min-kept.result (codes "000000"))) ≡ number_of (c.args.whole.now ++ six_of c.args.decimals.now)
-      = rw (zeros, c.in_ok-number-2.ensures.1, c.in_ok-number.ensures.1) (sym parts) in
+    = rw (zeros, c.in_ok-number-2.ensures.1, c.in_ok-number.ensures.1) (sym parts) in
     subst (λ (n : ℕ). SomeIff c.number_after-3.result (n < 2 ^ 64) n) total c.number_after-3.ensures

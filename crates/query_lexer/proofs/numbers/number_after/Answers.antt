@@ -27,4 +27,4 @@ loop-digit-preserved c =
 pub returns : goal.returns
 returns c =
     let same : c.loop-digit.so_far ≡ number_after c.args.number c.args.digits.now = ap (λ (x : List ℕ). number_after c.loop-digit.so_far x) (sym (drop_of_length-le c.args.digits.now c.loop-digit-test.false)) ∙ c.loop-digit.invariant.same in
-    (subst (λ (n : ℕ). n < 2 ^ 64) same c.loop-digit.invariant.small , same)
+    (subst (λ (n : ℕ). n < 2 ^ 64) same c.loop-digit.invariant.small, same)

@@ -29,8 +29,8 @@ returns-then-not-is_quote_at c =
     let before : length (drop at all) ≡ length all - at = length-drop at all in
     let within : n < length (drop at all) = quote.0 in
     string_ends all c.from_string.result (drop (at + (n + 1)) all) (at + (n + 1))
-      (split ∙ ap (λ (x : List ℕ). 39 ∷ doubled x ++ 39 ∷ drop (n + 1) (drop at all)) (sym grown) ∙ ap (λ (x : List ℕ). 39 ∷ doubled c.from_string.result ++ 39 ∷ x) rest)
-      (sym c.if-not-is_quote_at.ensures) (omega arith)
+    (split ∙ ap (λ (x : List ℕ). 39 ∷ doubled x ++ 39 ∷ drop (n + 1) (drop at all)) (sym grown) ∙ ap (λ (x : List ℕ). 39 ∷ doubled c.from_string.result ++ 39 ∷ x) rest)
+    (sym c.if-not-is_quote_at.ensures) (omega arith)
 
 pub loop-length-preserved : goal.loop-length-preserved
 unfolding lib.Utf8.encode
@@ -47,7 +47,7 @@ loop-length-preserved c =
     let second = quote_there all (at + (n + 1)) (sym c.if-not-is_quote_at.ensures) in
     let rest : drop (n + 1) (drop at all) ≡ 39 ∷ drop (at + (n + 1) + 1) all = drop-drop (n + 1) at all ∙ quote_is _ (sym c.if-not-is_quote_at.ensures) ∙ ap (λ (x : List ℕ). 39 ∷ x) (drop-drop 1 (at + (n + 1)) all) in
     let whole = string_doubled all (string_bytes c.push_str.new.self) (drop (at + (n + 1) + 1) all)
-      (split ∙ ap (λ (x : List ℕ). 39 ∷ doubled x ++ 39 ∷ drop (n + 1) (drop at all)) (sym grown) ∙ ap (λ (x : List ℕ). 39 ∷ doubled (string_bytes c.push_str.new.self) ++ 39 ∷ x) rest) in
+    (split ∙ ap (λ (x : List ℕ). 39 ∷ doubled x ++ 39 ∷ drop (n + 1) (drop at all)) (sym grown) ∙ ap (λ (x : List ℕ). 39 ∷ doubled (string_bytes c.push_str.new.self) ++ 39 ∷ x) rest) in
     record {
       split = whole ∙ ap (λ (x : List ℕ). 39 ∷ doubled x ++ drop (at + (n + 1) + 1) all) (sym c.in_ok-push.ensures.bytes);
       cut = IsCharBoundary-after_ascii all (at + (n + 1)) c.utf8.rest second.0 (omega (arith, second.1));
