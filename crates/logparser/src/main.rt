@@ -5,7 +5,7 @@ mod help;
 
 use crate::help::{HELP, VERSION};
 use logparser_cli::run;
-use lp_outside::{FileLogs, MemoryDisk, StdSink, StdSource};
+use lp_outside::{FileDisk, FileLogs, StdSink, StdSource};
 use lp_values::{Text, TextList};
 use std::io::Write;
 use std::process::ExitCode;
@@ -75,7 +75,7 @@ fn main(rt: HostRuntime) -> ExitCode {
         return answer(&rt, text);
     }
     let mut logs = FileLogs::new(&rt);
-    let mut disk = MemoryDisk::new(rt.alloc());
+    let mut disk = FileDisk::new(&rt);
     let mut input = StdSource::new(rt.stdin());
     let mut out = StdSink::new(rt.stdout());
     let mut err = StdSink::new(rt.stderr());

@@ -6,7 +6,7 @@ ghost use Rattle.query_run.specs.Output.{Moves, IsUnderWay};
 
 use log_reading::TakeFault;
 use lp_outside::{Sink, SinkFailed};
-use lp_values::{Bytes, ValueList};
+use lp_values::{Bytes, ValueList, bytes_from};
 use output_formats::Shape;
 
 // A buffer that holds so many bytes is written.
@@ -15,9 +15,6 @@ const FULL: usize = 4096;
 // At most so many bytes go to the output at once.
 const MOST: usize = 65536;
 
-// The bytes from a place on.
-fn bytes_from(bytes: &[u8], start: usize) -> &[u8]
-    requires { start ≤ length bytes.now }
     ensures { result.now ≡ drop start bytes.now }
 {
     &bytes[start..]
