@@ -1,15 +1,17 @@
 -- A date's place among the days gives the date back.
-use Rattle.std.proofs.Common.{◌≡◌, ℕ, zero, suc, ◌<◌, ◌≤◌, ◌/◌, ◌%◌, ℤ, pos, negsuc, ◌≤ℤ◌, unsigned_abs, refl, inl, inr, arith, lt-ltb, le-ltb, subst}
+use Rattle.std.proofs.Common.{◌≡◌, ℕ, zero, suc, ◌+◌, ◌*◌, ◌<◌, ◌≤◌, ◌/◌, ◌%◌, ℤ, pos, negsuc, ◌+ℤ◌, ◌≤ℤ◌, unsigned_abs, ap, sym, refl, inl, inr, arith, lt-ltb, le-ltb, subst}
 use Rattle.std.proofs.lemmas.Bool.{cases_lt}
-use Rattle.jiff_core.specs.Calendar.{day_count}
+use Rattle.jiff_core.specs.Calendar.{day_count, days_from_civil}
 use Rattle.jiff_core.specs.declared.civil.date.Date.{Date}
 use Rattle.jiff_core.proofs.SignedLemmas.{signed_arith}
-use Rattle.jiff_core.proofs.CalendarLemmas.{day_count-lt_year, day_count-lt_month, day_count-day, day_count-day_of_year}
+use Rattle.jiff_core.proofs.CalendarLemmas.{days_from_civil-day_count, day_count-lt_year, day_count-lt_month, day_count-day, day_count-day_of_year}
 use Rattle.jiff_core.proofs.DateLemmas.{civil}
 use Rattle.jiff_core.proofs.MarchLemmas.{day_count-early}
 use Rattle.std.proofs.lemmas.Int.{by_lt_z}
-use Rattle.lp_values.specs.Moments.{last_within, year_of, month_of, day_of, day_number, second_of_day}
-use Rattle.lp_values.specs.Civil.{civil_of}
+use Rattle.lp_values.specs.Moments.{last_within, year_of, month_of, day_of, day_number, second_of_day, moment_of}
+use Rattle.lp_values.specs.Civil.{civil_of, day_seconds, time_seconds}
+use Rattle.lp_values.specs.Stamps.{IsInYears}
+use Rattle.lp_values.specs.declared.civil.Civil.{Civil}
 
 last_is : (f : ℕ → ℕ) (k n j : ℕ) → j ≤ k → f j ≤ n → ((i : ℕ) → j < i → i ≤ k → n < f i) → last_within f k n ≡ j
 unfolding last_within
@@ -62,3 +64,20 @@ civil_is d seconds late same =
     let b : month_of (day_number seconds) ≡ d.month = rw (← same) (month_is d _ year) in
     let e : day_of (day_number seconds) ≡ d.day = rw (← same) (day_is d _ year) in
     cc
+
+moment_is : (seconds : ℤ) → IsInYears seconds → seconds +ℤ pos 377_736_739_200 ≡ pos (moment_of seconds)
+moment_is seconds years = nonneg (seconds +ℤ pos 377_736_739_200) (omega (arith, signed_arith))
+
+clock : (n : ℕ) → n / 3600 * 3600 + n / 60 % 60 * 60 + n % 60 ≡ n
+clock n = omega arith
+
+-- and gives the seconds back
+pub civil_back : (d : Date) (seconds : ℤ) → pos 1 ≤ℤ d.year → IsInYears seconds → day_count d.year d.month d.day ≡ day_number seconds
+    → day_seconds (civil_of seconds) +ℤ pos (time_seconds (civil_of seconds)) ≡ seconds
+civil_back d seconds late years same =
+    let year : d.year ≡ pos (unsigned_abs d.year) = nonneg d.year late in
+    let day : days_from_civil (pos (unsigned_abs d.year)) d.month d.day ≡ days_from_civil d.year d.month d.day = ap (λ (z : ℤ). days_from_civil z d.month d.day) (sym year) in
+    let count = days_from_civil-day_count d.year d.month d.day in
+    let moment = moment_is seconds years in
+    let time = clock (second_of_day seconds) in
+    subst (λ (c : Civil). day_seconds c +ℤ pos (time_seconds c) ≡ seconds) (civil_is d seconds late same) (rw (day, time) (omega (arith, signed_arith, count, moment)))

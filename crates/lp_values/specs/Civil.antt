@@ -1,5 +1,6 @@
 -- The civil date and time of Unix seconds.
-use Rattle.std.specs.Prelude.{◌/◌, ◌%◌, ℤ}
+use Rattle.std.specs.Prelude.{ℕ, ◌+◌, ◌*◌, ◌/◌, ◌%◌, ℤ, pos, ◌*ℤ◌}
+use Rattle.jiff_core.specs.Calendar.{days_from_civil}
 use Rattle.lp_values.specs.declared.civil.Civil.{Civil}
 use Rattle.lp_values.specs.Moments.{day_number, second_of_day, year_of, month_of, day_of}
 
@@ -12,3 +13,11 @@ civil_of seconds = record {
   minute = second_of_day seconds / 60 % 60;
   second = second_of_day seconds % 60;
 }
+
+-- Unix seconds of the day
+abbrev pub day_seconds : Civil → ℤ
+day_seconds civil = days_from_civil (pos civil.year) civil.month civil.day *ℤ pos 86_400
+
+-- seconds of the time of day
+abbrev pub time_seconds : Civil → ℕ
+time_seconds civil = civil.hour * 3600 + civil.minute * 60 + civil.second

@@ -1,7 +1,7 @@
 // The civil date and time of a moment.
-ghost use Rattle.std.specs.Prelude.{◌≡◌, ◌<◌, ◌≤◌, pos, ◌≤ℤ◌};
+ghost use Rattle.std.specs.Prelude.{◌≡◌, ◌<◌, ◌≤◌, pos, ◌+ℤ◌, ◌≤ℤ◌};
 ghost use Rattle.jiff_core.specs.Calendar.{day_count, days_in_month};
-ghost use Rattle.lp_values.specs.Civil.{civil_of};
+ghost use Rattle.lp_values.specs.Civil.{civil_of, day_seconds, time_seconds};
 ghost use Rattle.lp_values.specs.Moments.{moment_of};
 ghost use Rattle.lp_values.specs.Stamps.{IsInYears};
 
@@ -50,6 +50,7 @@ impl Civil {
     pub fn of(seconds: i64) -> Civil
         requires { IsInYears seconds }
         ensures value { result ≡ civil_of seconds }
+        ensures back { day_seconds result +ℤ pos (time_seconds result) ≡ seconds }
         ensures year { (1 ≤ result.year) × (result.year ≤ 9999) }
         ensures month { (1 ≤ result.month) × (result.month ≤ 12) }
         ensures day { (1 ≤ result.day) × (result.day ≤ days_in_month (pos result.year) result.month) }

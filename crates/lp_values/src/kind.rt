@@ -1,7 +1,7 @@
 // Kinds of values.
 
 /// What a column or an expression holds. `Any` is the kind of NULL, and fits every kind.
-#[derive(Clone, Copy, Debug, PartialEq, Eq, PartialOrd, Ord, Hash)]
+#[derive(Clone, Copy, Debug, PartialEq, Eq)]
 pub enum Kind {
     Integer,
     Real,

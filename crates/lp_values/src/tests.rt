@@ -4,46 +4,219 @@ use std::cmp::Ordering;
 use std::collections::HashMap;
 
 const LEAST: i64 = i64::MIN;
+
 const MOST: i64 = i64::MAX;
 
 fn real(millionths: i64) -> Value {
     Value::Real(Real { millionths })
 }
 
+#[derive(Clone, Copy)]
+enum Operation {
+    Add,
+    Sub,
+    Mul,
+    Div,
+    Modulo,
+    Quantize,
+}
+
+#[derive(Clone, Copy)]
+enum Number {
+    Null,
+    Whole(i64),
+    Real(i64),
+}
+
+fn value(number: Number) -> Value {
+    match number {
+        Number::Null => Value::Null,
+        Number::Whole(number) => Value::Int(number),
+        Number::Real(millionths) => real(millionths),
+    }
+}
+
+fn apply(operation: Operation, a: &Value, b: &Value) -> Value {
+    match operation {
+        Operation::Add => add(a, b),
+        Operation::Sub => sub(a, b),
+        Operation::Mul => mul(a, b),
+        Operation::Div => div(a, b),
+        Operation::Modulo => modulo(a, b),
+        Operation::Quantize => quantize_number(a, b),
+    }
+}
+
 #[test]
 fn arithmetic_is_exact_or_null(rt: HostRuntime) {
     let cases = [
-        (add(&Value::Int(MOST), &Value::Int(0)), Value::Int(MOST)),
-        (add(&Value::Int(MOST), &Value::Int(1)), Value::Null),
-        (add(&real(1_500_000), &Value::Int(2)), real(3_500_000)),
-        (add(&Value::Int(9_223_372_036_854), &real(775_807)), real(MOST)),
-        (add(&Value::Int(9_223_372_036_854), &real(775_808)), Value::Null),
-        (add(&Value::Null, &Value::Int(1)), Value::Null),
-        (sub(&Value::Int(-1), &Value::Int(LEAST)), Value::Int(MOST)),
-        (sub(&Value::Int(0), &Value::Int(LEAST)), Value::Null),
-        (mul(&Value::Int(3_037_000_499), &Value::Int(3_037_000_499)), Value::Int(9_223_372_030_926_249_001)),
-        (mul(&Value::Int(3_037_000_500), &Value::Int(3_037_000_500)), Value::Null),
-        (mul(&real(-1_500_000), &real(1_500_000)), real(-2_250_000)),
-        (mul(&real(-1), &real(500_000)), real(0)),
-        (mul(&Value::Int(MOST), &real(1)), real(MOST)),
-        (div(&Value::Int(-7), &Value::Int(2)), Value::Int(-3)),
-        (div(&Value::Int(LEAST), &Value::Int(-1)), Value::Null),
-        (div(&Value::Int(1), &Value::Int(0)), Value::Null),
-        (div(&real(1_000_000), &Value::Int(3)), real(333_333)),
-        (div(&real(-1_000_000), &Value::Int(3)), real(-333_333)),
-        (div(&Value::Int(1), &real(0)), Value::Null),
-        (modulo(&Value::Int(-7), &Value::Int(3)), Value::Int(-1)),
-        (modulo(&Value::Int(7), &Value::Int(-3)), Value::Int(1)),
-        (modulo(&Value::Int(LEAST), &Value::Int(-1)), Value::Int(0)),
-        (modulo(&real(-7_500_000), &Value::Int(2)), real(-1_500_000)),
-        (quantize_number(&Value::Int(-7), &Value::Int(5)), Value::Int(-10)),
-        (quantize_number(&Value::Int(LEAST), &Value::Int(2)), Value::Int(LEAST)),
-        (quantize_number(&Value::Int(LEAST), &Value::Int(3)), Value::Null),
-        (quantize_number(&Value::Int(7), &real(2_500_000)), real(5_000_000)),
-        (quantize_number(&Value::Int(7), &Value::Int(0)), Value::Null),
+        (
+            Operation::Add,
+            Number::Whole(MOST),
+            Number::Whole(0),
+            Number::Whole(MOST),
+        ),
+        (
+            Operation::Add,
+            Number::Whole(MOST),
+            Number::Whole(1),
+            Number::Null,
+        ),
+        (
+            Operation::Add,
+            Number::Real(1_500_000),
+            Number::Whole(2),
+            Number::Real(3_500_000),
+        ),
+        (
+            Operation::Add,
+            Number::Whole(9_223_372_036_854),
+            Number::Real(775_807),
+            Number::Real(MOST),
+        ),
+        (
+            Operation::Add,
+            Number::Whole(9_223_372_036_854),
+            Number::Real(775_808),
+            Number::Null,
+        ),
+        (Operation::Add, Number::Null, Number::Whole(1), Number::Null),
+        (
+            Operation::Sub,
+            Number::Whole(-1),
+            Number::Whole(LEAST),
+            Number::Whole(MOST),
+        ),
+        (
+            Operation::Sub,
+            Number::Whole(0),
+            Number::Whole(LEAST),
+            Number::Null,
+        ),
+        (
+            Operation::Mul,
+            Number::Whole(3_037_000_499),
+            Number::Whole(3_037_000_499),
+            Number::Whole(9_223_372_030_926_249_001),
+        ),
+        (
+            Operation::Mul,
+            Number::Whole(3_037_000_500),
+            Number::Whole(3_037_000_500),
+            Number::Null,
+        ),
+        (
+            Operation::Mul,
+            Number::Real(-1_500_000),
+            Number::Real(1_500_000),
+            Number::Real(-2_250_000),
+        ),
+        (
+            Operation::Mul,
+            Number::Real(-1),
+            Number::Real(500_000),
+            Number::Real(0),
+        ),
+        (
+            Operation::Mul,
+            Number::Whole(MOST),
+            Number::Real(1),
+            Number::Real(MOST),
+        ),
+        (
+            Operation::Div,
+            Number::Whole(-7),
+            Number::Whole(2),
+            Number::Whole(-3),
+        ),
+        (
+            Operation::Div,
+            Number::Whole(LEAST),
+            Number::Whole(-1),
+            Number::Null,
+        ),
+        (
+            Operation::Div,
+            Number::Whole(1),
+            Number::Whole(0),
+            Number::Null,
+        ),
+        (
+            Operation::Div,
+            Number::Real(1_000_000),
+            Number::Whole(3),
+            Number::Real(333_333),
+        ),
+        (
+            Operation::Div,
+            Number::Real(-1_000_000),
+            Number::Whole(3),
+            Number::Real(-333_333),
+        ),
+        (
+            Operation::Div,
+            Number::Whole(1),
+            Number::Real(0),
+            Number::Null,
+        ),
+        (
+            Operation::Modulo,
+            Number::Whole(-7),
+            Number::Whole(3),
+            Number::Whole(-1),
+        ),
+        (
+            Operation::Modulo,
+            Number::Whole(7),
+            Number::Whole(-3),
+            Number::Whole(1),
+        ),
+        (
+            Operation::Modulo,
+            Number::Whole(LEAST),
+            Number::Whole(-1),
+            Number::Whole(0),
+        ),
+        (
+            Operation::Modulo,
+            Number::Real(-7_500_000),
+            Number::Whole(2),
+            Number::Real(-1_500_000),
+        ),
+        (
+            Operation::Quantize,
+            Number::Whole(-7),
+            Number::Whole(5),
+            Number::Whole(-10),
+        ),
+        (
+            Operation::Quantize,
+            Number::Whole(LEAST),
+            Number::Whole(2),
+            Number::Whole(LEAST),
+        ),
+        (
+            Operation::Quantize,
+            Number::Whole(LEAST),
+            Number::Whole(3),
+            Number::Null,
+        ),
+        (
+            Operation::Quantize,
+            Number::Whole(7),
+            Number::Real(2_500_000),
+            Number::Real(5_000_000),
+        ),
+        (
+            Operation::Quantize,
+            Number::Whole(7),
+            Number::Whole(0),
+            Number::Null,
+        ),
     ];
-    for (at, (got, want)) in cases.iter().enumerate() {
-        assert!(rt; same(got, want), "case {at}");
+    for (at, (operation, a, b, want)) in cases.into_iter().enumerate() {
+        let got = apply(operation, &value(a), &value(b));
+        assert!(rt; same(&got, &value(want)), "case {at}");
     }
 }
 
@@ -78,7 +251,10 @@ fn texts_read_as_numbers(rt: HostRuntime) {
         (".", None),
     ];
     for (text, want) in reals {
-        assert!(rt; read_real(text).map(|real| real.millionths) == want, "{text}");
+        assert!(rt;
+            read_real(text).map(|real| real.millionths) == want,
+            "{text}"
+        );
     }
 }
 
@@ -93,7 +269,11 @@ fn values_compare_and_have_an_order(rt: HostRuntime) {
     assert!(rt; compare(Compare::Equal, &date, &both) == Truth::Yes);
     assert!(rt; order(&date, &both) == Ordering::Less);
     assert!(rt; order(&Value::Int(2), &real(1_000_000)) == Ordering::Less);
-    assert!(rt; and(Truth::Unknown, Truth::No) == Truth::No && or(Truth::Unknown, Truth::No) == Truth::Unknown && not(Truth::Yes) == Truth::No);
+    assert!(rt;
+        and(Truth::Unknown, Truth::No) == Truth::No
+            && or(Truth::Unknown, Truth::No) == Truth::Unknown
+            && not(Truth::Yes) == Truth::No
+    );
     assert!(rt; both.kind() == Kind::Stamp);
 }
 
@@ -114,7 +294,10 @@ fn values_print(rt: HostRuntime) -> Result<(), AllocError> {
     let mut printed = Bytes::new(rt.alloc());
     for (seconds, part, want) in stamps {
         printed.clear();
-        print(&Stamp::new(seconds, part).map_or(Value::Null, Value::Stamp), &mut printed)?;
+        print(
+            &Stamp::new(seconds, part).map_or(Value::Null, Value::Stamp),
+            &mut printed,
+        )?;
         assert!(rt; printed.as_slice() == want.as_bytes(), "{want}");
     }
     let reals = [

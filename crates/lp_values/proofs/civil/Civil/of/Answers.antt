@@ -1,9 +1,11 @@
-use Rattle.std.proofs.Common.{◌≡◌, ◌/◌, FitsSigned, w16, w64, arith, ◌∙◌, ap}
+use Rattle.std.proofs.Common.{◌≡◌, ◌/◌, ◌+ℤ◌, pos, FitsSigned, w16, w64, arith, ◌∙◌, ap, sym, subst}
 use Rattle.jiff_core.specs.Calendar.{day_count}
 use Rattle.jiff_core.proofs.SignedLemmas.{signed_arith}
 use Rattle.std.proofs.lemmas.Int.{to_z-of_z}
+use Rattle.lp_values.specs.declared.civil.Civil.{Civil}
+use Rattle.lp_values.specs.Civil.{day_seconds, time_seconds}
 use Rattle.lp_values.specs.Moments.{day_number}
-use Rattle.lp_values.proofs.Calendar.{civil_is}
+use Rattle.lp_values.proofs.Calendar.{civil_is, civil_back}
 use Rattle.lp_values.proofs.civil.Civil.of.Goals as goal
 
 pub returns-clause-value : goal.returns-clause-value
@@ -14,3 +16,11 @@ returns-clause-value c =
     let value = simp to_z-of_z at c.moment-moment.ensures.value in
     let same : day_count d.year d.month d.day ≡ day_number c.args.seconds = c.date_of-date.ensures.value ∙ ap (λ m. m / 86_400) value in
     simp (to_z-of_z, value) (civil_is d c.args.seconds c.date_of-date.ensures.year same)
+
+pub returns-clause-back : goal.returns-clause-back
+returns-clause-back c =
+    let d = c.date_of-date.result in
+    let range : FitsSigned w64 c.args.seconds = c.ranges.seconds in
+    let value = simp to_z-of_z at c.moment-moment.ensures.value in
+    let same : day_count d.year d.month d.day ≡ day_number c.args.seconds = c.date_of-date.ensures.value ∙ ap (λ m. m / 86_400) value in
+    subst (λ (v : Civil). day_seconds v +ℤ pos (time_seconds v) ≡ c.args.seconds) (sym (returns-clause-value c)) (civil_back d c.args.seconds c.date_of-date.ensures.year c.requires same)
