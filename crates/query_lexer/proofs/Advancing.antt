@@ -1,21 +1,20 @@
 -- A token has bytes, and ends where a character begins.
 use Rattle.std.specs.Str.{IsCharBoundary, IsUtf8}
-use Rattle.std.specs.List.{prefix_len, position, position_or_len, starts_with}
-use Rattle.std.proofs.Common.{◌≡◌, ℕ, zero, suc, ◌+◌, ◌≤◌, ◌<◌, ◌==◌, ◌&&◌, nat_eq, nat_lt, not, cond, Bool, true, false, List, [], ◌∷◌, ◌++◌, take, take_while, drop, length, get_or, find, Option, Some, None, MatchOption, ◌⊎◌, inl, inr, unwrap_or, if◌then◌else◌, refl, sym, ◌∙◌, ap, subst, arith, lit<, length-append}
+use Rattle.std.specs.List.{prefix_len, position, position_or_len}
+use Rattle.std.proofs.Common.{◌≡◌, ℕ, zero, suc, ◌+◌, ◌<◌, ◌==◌, nat_lt, not, cond, Bool, true, false, List, [], ◌∷◌, ◌++◌, take, take_while, drop, length, get_or, Option, Some, None, MatchOption, ◌⊎◌, inl, inr, unwrap_or, if◌then◌else◌, refl, sym, ◌∙◌, ap, subst, arith, lit<}
 use Rattle.std.proofs.lemmas.Str.{IsCharBoundary-start, IsCharBoundary-from_rest, IsUtf8-drop}
-use Rattle.std.proofs.lemmas.Bool.{false≢true, and_parts, or_left, eqb-true, ltb-true}
+use Rattle.std.proofs.lemmas.Bool.{and_parts, or_left, eqb-true, ltb-true}
 use Rattle.std.proofs.lemmas.List.Folds.{length-prefix_len}
 use Rattle.std.proofs.lemmas.List.Sums.{prefix_len_stops}
 use Rattle.memchr.specs.Find.{is_byte}
 use Rattle.query_lexer.specs.Bytes.{is_letter, is_digit, is_word_byte, is_name_byte}
-use Rattle.query_lexer.specs.Numbers.{is_signed, sign_length, whole_length, whole_of, behind_point, decimals_of, is_outside}
-use Rattle.query_lexer.specs.Standing.{doubled, IsString, IsWordKind, field_length, number_by, number_at, bracket_by, bracket_at, IsSignAt, start_of, StandsBy, Stands}
+use Rattle.query_lexer.specs.Numbers.{is_signed, sign_length, whole_length, whole_of, behind_point, decimals_of}
+use Rattle.query_lexer.specs.Standing.{doubled, IsString, IsWordKind, field_length, number_by, number_at, bracket_by, IsSignAt, start_of, StandsBy, Stands}
 use Rattle.query_lexer.specs.Symbols.{text_of}
 use Rattle.query_lexer.specs.declared.symbol.Symbol.{Symbol}
 use Rattle.query_lexer.specs.declared.symbol.Symbol.TheVariants as y
 use Rattle.query_lexer.specs.declared.token.TokenKind.{TokenKind}
 use Rattle.query_lexer.specs.declared.token.TokenKind.TheVariants as k
-use Rattle.query_lexer.specs.declared.piece.Piece.{Piece}
 use Rattle.query_lexer.specs.declared.piece.Piece.TheVariants as p
 use Rattle.query_lexer.specs.declared.piece.Problem.TheVariants as problem
 use Rattle.query_lexer.specs.declared.piece.Start.{Start}

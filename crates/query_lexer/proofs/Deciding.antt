@@ -1,5 +1,5 @@
 -- At a place stands one piece at most.
-use Rattle.std.proofs.Common.{◌≡◌, ℕ, Bool, true, false, List, [], ◌∷◌, length, take, take_while, Option, Some, None, MatchOption, ◌⊎◌, inl, inr, if◌then◌else◌, refl, sym, ◌∙◌, ap, ap₂, subst}
+use Rattle.std.proofs.Common.{◌≡◌, ℕ, Bool, true, false, List, [], ◌∷◌, length, take, take_while, Option, Some, None, MatchOption, ◌⊎◌, inl, inr, if◌then◌else◌, refl, sym, ◌∙◌, ap, ap₂}
 use Rattle.std.specs.List.{prefix_len}
 use Rattle.query_lexer.specs.Bytes.{is_word_byte}
 use Rattle.query_lexer.specs.Keywords.{IsKeyword, IsNoKeyword}

@@ -1,6 +1,6 @@
 -- Where a text ends, and where it is faulty.
 use Rattle.std.specs.Str.{IsCharBoundary, IsUtf8}
-use Rattle.std.proofs.Common.{◌≡◌, ◌≢◌, ℕ, zero, suc, ◌+◌, ◌≤◌, ◌<◌, Bool, true, false, List, [], ◌∷◌, length, drop, get_or, Option, Some, None, ◌⊎◌, inl, inr, unwrap_or, if◌then◌else◌, refl, sym, ◌∙◌, ap, ap₂, subst, arith}
+use Rattle.std.proofs.Common.{◌≡◌, ◌≢◌, ℕ, zero, suc, ◌+◌, ◌<◌, Bool, true, false, List, [], ◌∷◌, length, drop, get_or, Option, Some, None, inl, inr, unwrap_or, if◌then◌else◌, refl, sym, ◌∙◌, ap, ap₂, subst}
 use Rattle.std.proofs.lemmas.List.{drop_more}
 use Rattle.std.proofs.lemmas.Str.{IsCharBoundary-from_rest, IsUtf8-drop}
 use Rattle.query_lexer.specs.Bytes.{is_blank}
@@ -22,7 +22,7 @@ use Rattle.query_lexer.specs.declared.fault.LexFault.TheVariants as fault
 use Rattle.query_lexer.proofs.Deciding.{string_shape}
 use Rattle.query_lexer.proofs.Starting.{start_of_blank}
 use Rattle.query_lexer.proofs.Advancing.{token_advances}
-use Rattle.query_lexer.proofs.Reading.{Same, IsEnd, reads_once}
+use Rattle.query_lexer.proofs.Reading.{reads_once}
 
 in_range_not_blank : (b : Bool) (problem : Problem) (kind : TokenKind) (n : ℕ) → p.Blank ≡ (if b then p.Bad problem else p.Token kind n) → ⊥
 in_range_not_blank true problem kind n e = cc

@@ -1,5 +1,5 @@
 -- A text as its tokens, from the left.
-use Rattle.std.proofs.Common.{◌≡◌, ℕ, zero, suc, ◌+◌, ◌≤◌, ◌<◌, Bool, true, false, List, [], ◌∷◌, ◌++◌, length, drop, get_or, Option, Some, None, ◌⊎◌, inl, inr, unwrap_or, refl, sym, ◌∙◌, ap, ap₂, subst, arith, drop_of_length-le}
+use Rattle.std.proofs.Common.{◌≡◌, ℕ, suc, ◌+◌, ◌≤◌, ◌<◌, Bool, true, false, List, [], ◌∷◌, ◌++◌, length, drop, get_or, Option, Some, None, inl, inr, refl, sym, ◌∙◌, ap, ap₂, subst, arith, drop_of_length-le}
 use Rattle.std.proofs.lemmas.List.{drop_more}
 use Rattle.std.proofs.lemmas.Bool.{false≢true, false_from_ne_true}
 use Rattle.std.proofs.lemmas.Bool.Decides.{leb_tells}
@@ -8,15 +8,13 @@ use Rattle.query_lexer.specs.Standing.{start_of, StandsBy, Stands}
 use Rattle.query_lexer.specs.Reading.{names_come, after, IsBlankBetween, Reads}
 use Rattle.query_lexer.specs.declared.token.Token.{Token}
 use Rattle.query_lexer.specs.declared.token.TokenKind.{TokenKind}
-use Rattle.query_lexer.specs.declared.token.TokenKind.TheVariants as k
 use Rattle.query_lexer.specs.declared.piece.Piece.{Piece}
 use Rattle.query_lexer.specs.declared.piece.Piece.TheVariants as p
 use Rattle.query_lexer.specs.declared.piece.Problem.{Problem}
-use Rattle.query_lexer.specs.declared.piece.Problem.TheVariants as problem
 use Rattle.query_lexer.specs.declared.piece.Start.{Start}
 use Rattle.query_lexer.specs.declared.piece.Start.TheVariants as s
 use Rattle.query_lexer.specs.declared.piece.Mode.{Mode}
-use Rattle.query_lexer.proofs.Starting.{blank_start, start_of_blank}
+use Rattle.query_lexer.proofs.Starting.{blank_start}
 use Rattle.query_lexer.proofs.Deciding.{stands_once, kind_is}
 
 -- one blank more

@@ -1,9 +1,7 @@
 -- How what begins with a byte is read.
-use Rattle.std.proofs.Common.{◌≡◌, ℕ, ◌==◌, ◌&&◌, ◌||◌, ◌<◌, if◌then◌else◌, Bool, true, false, List, [], ◌∷◌, drop, length, get_or, refl, sym, ◌∙◌, ap, arith}
-use Rattle.query_lexer.specs.Bytes.{is_blank, is_letter, is_digit, is_word_byte, is_name_byte}
-use Rattle.query_lexer.specs.Standing.{start_of, StandsBy, Stands}
-use Rattle.query_lexer.specs.declared.piece.Piece.{Piece}
-use Rattle.query_lexer.specs.declared.piece.Piece.TheVariants as p
+use Rattle.std.proofs.Common.{◌≡◌, ℕ, ◌==◌, ◌&&◌, ◌||◌, if◌then◌else◌, Bool, true, false, refl}
+use Rattle.query_lexer.specs.Bytes.{is_blank, is_letter, is_digit, is_name_byte}
+use Rattle.query_lexer.specs.Standing.{start_of}
 use Rattle.query_lexer.specs.declared.piece.Start.{Start}
 use Rattle.query_lexer.specs.declared.piece.Start.TheVariants as s
 

@@ -1,9 +1,9 @@
 -- The numbers of a query.
-use Rattle.std.specs.Prelude.{ℕ, ◌+◌, ◌-◌, ◌*◌, ◌^◌, Bool, true, false, ◌==◌, nat_lt, nat_le, if◌then◌else◌, List, [], ◌∷◌, ◌++◌, length, take, drop, take_while, codes, ℤ, pos, neg_ℤ}
+use Rattle.std.specs.Prelude.{ℕ, ◌+◌, ◌-◌, ◌*◌, ◌^◌, Bool, false, ◌==◌, nat_lt, nat_le, if◌then◌else◌, List, [], ◌∷◌, ◌++◌, length, take, drop, take_while, codes, ℤ, pos, neg_ℤ}
 use Rattle.std.specs.List.{prefix_len}
 use Rattle.query_lexer.specs.Bytes.{is_digit}
 
--- the number that digits write when they follow those of n
+-- the number that digits (48 is `0`) write when they follow those of n
 abbrev pub number_after : ℕ → List ℕ → ℕ
 number_after n [] = n
 number_after n (b ∷ bs) = number_after (n * 10 + (b - 48)) bs
@@ -16,11 +16,12 @@ number_of digits = number_after 0 digits
 abbrev pub six_of : List ℕ → List ℕ
 six_of decimals = take 6 decimals ++ drop (length decimals) (codes "000000")
 
--- whether a `-` stands first
+-- whether a `-` (45) stands first
 abbrev pub is_signed : List ℕ → Bool
 is_signed [] = false
 is_signed (b ∷ bs) = b == 45
 
+-- how many bytes the sign has
 abbrev pub sign_length : List ℕ → ℕ
 sign_length all = if is_signed all then 1 else 0
 
@@ -32,7 +33,7 @@ whole_length all = prefix_len is_digit (drop (sign_length all) all)
 abbrev pub whole_of : List ℕ → List ℕ
 whole_of all = take (whole_length all) (drop (sign_length all) all)
 
--- the digits behind a point
+-- the digits behind a point (46)
 abbrev pub behind_point : List ℕ → List ℕ
 behind_point [] = []
 behind_point (b ∷ bs) = if b == 46 then take_while is_digit bs else []
@@ -41,10 +42,10 @@ behind_point (b ∷ bs) = if b == 46 then take_while is_digit bs else []
 abbrev pub decimals_of : List ℕ → List ℕ
 decimals_of all = behind_point (drop (sign_length all + whole_length all) all)
 
--- a size with a sign
+-- a magnitude with a sign
 abbrev pub signed_by : Bool → ℕ → ℤ
-signed_by signed size = if signed then neg_ℤ (pos size) else pos size
+signed_by signed magnitude = if signed then neg_ℤ (pos magnitude) else pos magnitude
 
--- whether a size with a sign is outside the whole numbers of 64 bits
+-- whether a magnitude with a sign is outside the whole numbers of 64 bits
 abbrev pub is_outside : Bool → ℕ → Bool
-is_outside signed size = if signed then nat_lt (2 ^ 63) size else nat_le (2 ^ 63) size
+is_outside signed magnitude = if signed then nat_lt (2 ^ 63) magnitude else nat_le (2 ^ 63) magnitude

@@ -1,8 +1,7 @@
 -- A text and its tokens.
-use Rattle.std.specs.Prelude.{◌≡◌, ◌≢◌, ℕ, ◌+◌, ◌≤◌, ◌<◌, Bool, true, false, List, [], ◌∷◌, length, drop, slice_index, Result, Ok, Err}
+use Rattle.std.specs.Prelude.{◌≡◌, ◌≢◌, ℕ, ◌+◌, ◌≤◌, ◌<◌, Bool, true, false, List, [], ◌∷◌, length, drop, slice_index}
 use Rattle.query_lexer.specs.Bytes.{is_blank}
 use Rattle.query_lexer.specs.Standing.{Stands}
-use Rattle.query_lexer.specs.Lexed.{Lexed}
 use Rattle.query_lexer.specs.declared.keyword.Keyword.{Keyword}
 use Rattle.query_lexer.specs.declared.keyword.Keyword.TheVariants as w
 use Rattle.query_lexer.specs.declared.symbol.Symbol.{Symbol}

@@ -4,7 +4,7 @@ ghost use Rattle.std.specs.Prelude.{◌≤◌, ◌↔◌, length, IsOk};
 use thiserror::Error;
 
 /// The longest query, in bytes.
-pub const LONGEST: usize = 65_536;
+pub const LONGEST_QUERY: usize = 65_536;
 
 /// A query has more than 65,536 bytes.
 #[derive(Clone, Copy, Debug, PartialEq, Eq, Error)]
@@ -13,9 +13,9 @@ pub struct TooLong;
 
 /// Whether a query is short enough for `lex`.
 pub fn check_length(text: &[u8]) -> Result<(), TooLong>
-    ensures { IsOk result ↔ (length text.now ≤ LONGEST) }
+    ensures { IsOk result ↔ (length text.now ≤ LONGEST_QUERY) }
 {
-    if text.len() > LONGEST {
+    if text.len() > LONGEST_QUERY {
         return Err(TooLong);
     }
     Ok(())

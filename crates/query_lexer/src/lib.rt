@@ -19,7 +19,7 @@ mod words;
 
 pub use fault::LexFault;
 pub use keyword::Keyword;
-pub use length::{LONGEST, TooLong, check_length};
+pub use length::{LONGEST_QUERY, TooLong, check_length};
 pub use lexer::lex;
 pub use symbol::Symbol;
 pub use token::{Token, TokenKind};

@@ -1,11 +1,7 @@
-use Rattle.std.proofs.Common.{◌≡◌, ℕ, ◌+◌, ◌-◌, ◌≤◌, ◌<◌, ◌^◌, ◌++◌, ◌∷◌, [], List, length, drop, refl, sym, ◌∙◌, ap, subst, arith, rules}
-use Rattle.std.specs.Str.{IsCharBoundary}
+use Rattle.std.proofs.Common.{◌+◌, ◌-◌, ◌≤◌, ◌<◌, length, drop, refl, ◌∙◌, arith, rules}
 use Rattle.std.proofs.lemmas.Str.{IsCharBoundary-start, IsCharBoundary-after_ascii}
-use Rattle.query_lexer.specs.Standing.{Stands}
-use Rattle.query_lexer.specs.Reading.{names_come, after, Reads}
-use Rattle.query_lexer.specs.declared.token.Token.{Token}
+use Rattle.query_lexer.specs.Reading.{names_come}
 use Rattle.query_lexer.specs.declared.piece.Piece.TheVariants as p
-use Rattle.query_lexer.specs.declared.piece.Mode.{Mode}
 use Rattle.query_lexer.specs.declared.piece.Mode.TheVariants as m
 use Rattle.query_lexer.proofs.Boundaries.{blank_is_ascii}
 use Rattle.query_lexer.proofs.Reading.{reads_blank, reads_token}

@@ -1,6 +1,4 @@
-use Rattle.std.proofs.Common.{◌≡◌, ℕ, ◌+◌, ◌-◌, List, take, drop, if◌then◌else◌, refl, sym, ap, ◌∙◌, arith}
-use Rattle.query_lexer.specs.Numbers.{is_signed, sign_length, whole_length, behind_point}
-use Rattle.query_lexer.specs.Standing.{number_by}
+use Rattle.std.proofs.Common.{◌≡◌, ◌+◌, ◌-◌, refl, ◌∙◌, arith}
 use Rattle.query_lexer.proofs.numbers.number.Goals as goal
 
 pub returns : goal.returns

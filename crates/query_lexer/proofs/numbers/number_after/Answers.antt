@@ -1,5 +1,4 @@
 use Rattle.std.proofs.Common.{◌≡◌, ℕ, ◌*◌, ◌+◌, ◌-◌, drop, get_or, List, ◌^◌, ◌<◌, subst, drop_of_length-le, sym, ◌∙◌, ap, arith}
-use Rattle.std.specs.Option.{SomeIff}
 use Rattle.query_lexer.specs.Numbers.{number_after}
 use Rattle.query_lexer.proofs.Numbering.{number_after_more, number_after_grows}
 use Rattle.query_lexer.proofs.numbers.number_after.Goals as goal

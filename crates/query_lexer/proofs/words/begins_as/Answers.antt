@@ -1,4 +1,3 @@
-use Rattle.std.proofs.Common.{◌≡◌}
 use Rattle.query_lexer.proofs.Finding.{front_same}
 use Rattle.query_lexer.proofs.words.begins_as.Goals as goal
 

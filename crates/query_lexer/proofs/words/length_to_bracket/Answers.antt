@@ -1,4 +1,4 @@
-use Rattle.std.proofs.Common.{◌≡◌, ℕ, List, Option, ap, ◌∙◌}
+use Rattle.std.proofs.Common.{ℕ, List, ap, ◌∙◌}
 use Rattle.std.specs.List.{position}
 use Rattle.memchr.specs.Find.{is_byte}
 use Rattle.query_lexer.proofs.Finding.{position_is}

@@ -1,8 +1,8 @@
-use Rattle.std.proofs.Common.{◌≡◌, ℕ, ◌+◌, ◌-◌, ◌<◌, ◌∷◌, ◌++◌, [], List, take, drop, length, Option, sym, ap, subst, ◌∙◌, arith, drop-drop, length-drop}
+use Rattle.std.proofs.Common.{◌≡◌, ℕ, ◌+◌, ◌-◌, ◌<◌, ◌∷◌, ◌++◌, List, take, drop, length, Option, sym, ap, subst, ◌∙◌, arith, drop-drop, length-drop}
 use Rattle.std.specs.String.{string_bytes}
 use Rattle.std.proofs.lemmas.Str.{IsCharBoundary-after_ascii}
 use Rattle.memchr.specs.Find.{IsFirstByte, is_byte}
-use Rattle.query_lexer.specs.Standing.{doubled, is_quote_first}
+use Rattle.query_lexer.specs.Standing.{doubled}
 use Rattle.query_lexer.proofs.Boundaries.{behind_first}
 use Rattle.query_lexer.proofs.Quoting.{first_quote, no_quote, string_begins, quote_is, quote_there, string_piece, string_doubled, string_ends, string_none}
 use Rattle.query_lexer.proofs.words.string_text.Goals as goal
