@@ -15,11 +15,6 @@ const FULL: usize = 4096;
 // At most so many bytes go to the output at once.
 const MOST: usize = 65536;
 
-    ensures { result.now ≡ drop start bytes.now }
-{
-    &bytes[start..]
-}
-
 // The first bytes, no more than go at once.
 fn first_of(bytes: &[u8]) -> &[u8]
     ensures front { result.now ≡ take (length result.now) bytes.now }
