@@ -1,5 +1,5 @@
 -- The reading of a log, line by line and piece by piece.
-use Rattle.std.proofs.Common.{◌≡◌, ℕ, ◌+◌, ◌≤◌, ◌<◌, Bool, true, false, not, List, [], ◌∷◌, ◌++◌, length, map, filter, Option, Result, Ok, Err, OnErr, ap, sym, ◌∙◌, refl, subst, append_assoc, arith, length-append, nat_lt, lt-ltb, if◌then◌else◌}
+use Rattle.std.proofs.Common.{◌≡◌, ℕ, ◌+◌, ◌≤◌, ◌<◌, Bool, true, false, not, List, [], ◌∷◌, ◌++◌, length, map, filter, Option, ap, sym, ◌∙◌, refl, subst, append_assoc, arith, length-append, nat_lt, lt-ltb, if◌then◌else◌}
 use Rattle.std.proofs.lemmas.List.{append-nil, map-append, length-map}
 use Rattle.std.proofs.lemmas.List.Elements.{filter-append}
 use Rattle.std.specs.List.{before_first, after_first, position_or_len}
@@ -10,11 +10,11 @@ use Rattle.lp_model.proofs.Cutting.{lines_to_come-last}
 use Rattle.lp_model.proofs.Feeding.{lines_to_come-first}
 use Rattle.lp_model.proofs.Following.{records_following-append, bad_following-append}
 use Rattle.lp_model.proofs.Ordered.{come_same}
-use Rattle.line_input.specs.Handed.{TakesFirst, first_text}
+use Rattle.line_input.specs.Handed.{TakesFirst}
 use Rattle.line_input.specs.Splitter.{Split}
 use Rattle.log_reading.specs.Found.{Found, found_of}
 use Rattle.log_reading.specs.declared.page.Page.{Page}
-use Rattle.log_reading.specs.Page.{Takes, Stops, to_come, TakesBehind, Follows, Advances, StopsIn, StopsWithin, Spends}
+use Rattle.log_reading.specs.Page.{Takes, Stops, to_come, Follows, Advances, StopsIn, StopsWithin, Spends}
 use Rattle.log_reading.proofs.Founds.{found_of-append}
 
 -- the laws of a taker

@@ -1,5 +1,5 @@
 -- The rows of a line, field list by field list.
-use Rattle.std.proofs.Common.{◌≡◌, ℕ, ◌+◌, ◌<◌, List, [], ◌∷◌, ◌++◌, length, take, drop, get_or, map, Option, ap, sym, ◌∙◌, refl}
+use Rattle.std.proofs.Common.{◌≡◌, ℕ, ◌+◌, ◌<◌, List, [], ◌∷◌, ◌++◌, length, take, drop, get_or, map, Option, ap, sym, ◌∙◌}
 use Rattle.std.proofs.lemmas.List.{map-append, take_more, take-append-drop}
 use Rattle.lp_model.specs.Reading.{Columns, Slots, Record, records_read, rows}
 use Rattle.log_reading.specs.Found.{Found, found_of}

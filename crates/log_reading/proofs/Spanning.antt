@@ -16,7 +16,7 @@ use Rattle.log_reading.specs.Found.{Found, found_of}
 use Rattle.log_reading.specs.declared.span.Span.{Span}
 use Rattle.log_reading.specs.declared.span.Took.{Took}
 use Rattle.log_reading.specs.declared.page.Page.{Page}
-use Rattle.log_reading.specs.Page.{Takes, Stops, to_come, Advances, Follows, StopsIn, StopsWithin}
+use Rattle.log_reading.specs.Page.{Takes, Stops, to_come, Follows, StopsIn, StopsWithin}
 use Rattle.log_reading.specs.Spans.{HasRead, StopsReading, log_to_come, IsKept, TakesSpan, cut_of, span_found, span_bad, EndsSpan, took_at, took_of, span_end}
 use Rattle.log_reading.proofs.Advancing.{TakesMore, StopsHere, StopsLater, advances_trans, advances_none, stops_trans, follows_trans, to_come-waiting}
 

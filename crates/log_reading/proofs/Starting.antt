@@ -1,6 +1,6 @@
 -- A log that is read from its start.
-use Rattle.std.proofs.Common.{◌≡◌, ℕ, Bool, List, [], Option, None, length, inl, ap, sym, ◌∙◌, refl}
-use Rattle.lp_model.specs.Reading.{Format, Standing, lines_before, standing_behind, standing_at}
+use Rattle.std.proofs.Common.{◌≡◌, ℕ, Bool, List, [], None, inl, ap, sym, ◌∙◌}
+use Rattle.lp_model.specs.Reading.{Format, Standing, standing_behind, standing_at}
 use Rattle.lp_model.proofs.Ordered.{lines_before-start}
 use Rattle.log_reading.specs.declared.span.Span.{Span}
 use Rattle.log_reading.specs.Spans.{IsKept}

@@ -1,5 +1,5 @@
 -- How far the reading of a log has come.
-use Rattle.std.specs.Prelude.{◌≡◌, ◌+◌, ◌<◌, ◌≤◌, ◌^◌, ℕ, Bool, List, [], ◌∷◌, ◌++◌, length, Option}
+use Rattle.std.specs.Prelude.{◌≡◌, ◌+◌, ◌<◌, ◌≤◌, ◌^◌, ℕ, Bool, List, ◌++◌, length}
 use Rattle.lp_model.specs.Lines.{Line, lines_to_come}
 use Rattle.lp_model.specs.Reading.{Format, standing_behind}
 use Rattle.lp_model.specs.Following.{records_following, bad_following, end_of}

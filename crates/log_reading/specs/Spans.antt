@@ -1,5 +1,5 @@
 -- Spans of logs, and what a run makes of them.
-use Rattle.std.specs.Prelude.{◌≡◌, ◌+◌, ◌-◌, ◌≤◌, ◌<◌, ◌^◌, ℕ, Bool, true, List, [], ◌∷◌, length, take, map, flat_map, sum_by, get_or, Option}
+use Rattle.std.specs.Prelude.{◌≡◌, ◌+◌, ◌-◌, ◌≤◌, ◌<◌, ◌^◌, ℕ, Bool, true, List, length, take, flat_map, sum_by, get_or, Option}
 use Rattle.lp_model.specs.Lines.{Line}
 use Rattle.lp_model.specs.Outside.{Folder, Told, bytes_in}
 use Rattle.lp_model.specs.Pieces.{IsPiece, rest_of}
@@ -9,7 +9,7 @@ use Rattle.log_reading.specs.Found.{Found, found_of}
 use Rattle.log_reading.specs.declared.page.Page.{Page}
 use Rattle.log_reading.specs.declared.span.Span.{Span}
 use Rattle.log_reading.specs.declared.span.Took.{Took}
-use Rattle.log_reading.specs.Page.{Takes, Stops, Advances, Follows, StopsIn, to_come}
+use Rattle.log_reading.specs.Page.{Takes, Stops, Advances, StopsIn, to_come}
 
 -- a part of a log was read, and its lines were taken
 pub record HasRead {T O : Type 0} (takes : Takes T O) (format : Format) (identity : List ℕ) (waits : Bool) (told : Option Folder) (name : List ℕ) (cut : ℕ) (old new : Page T) (before now : O) : Type 0 where

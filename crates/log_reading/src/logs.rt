@@ -91,11 +91,7 @@ fn read_log<R: LineReader, L: Logs, T: Taker<O>, O>(
 }
 
 // Begins with a log.
-fn start_log<T>(
-    alloc: Global,
-    span: &Span,
-    page: &mut Page<T>,
-) -> Result<(), AllocError>
+fn start_log<T>(alloc: Global, span: &Span, page: &mut Page<T>) -> Result<(), AllocError>
     ensures taker { page.new.taker ≡ page.old.taker }
     ensures rows { page.new.rows ≡ page.old.rows }
     ensures bad { page.new.bad ≡ page.old.bad }

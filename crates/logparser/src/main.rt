@@ -13,7 +13,9 @@ use std::time::{SystemTime, UNIX_EPOCH};
 use std::{env, io};
 
 const USAGE: u8 = 2;
+
 const OUT_OF_MEMORY: u8 = 1;
+
 const WRITE_FAULT: u8 = 7;
 
 // The words behind the program's name.

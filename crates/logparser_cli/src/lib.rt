@@ -6,6 +6,8 @@
 mod report;
 mod running;
 mod status;
+#[cfg(test)]
+mod tests;
 mod words;
 
 pub use running::run;

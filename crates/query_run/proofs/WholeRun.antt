@@ -1,7 +1,7 @@
 -- A whole run, from the line of names to the last row.
-use Rattle.std.proofs.Common.{◌≡◌, ℕ, Bool, List, [], ◌∷◌, ◌++◌, Option, Some, None, ap, sym, ◌∙◌, refl, subst}
+use Rattle.std.proofs.Common.{◌≡◌, ℕ, Bool, List, [], Option, Some, None, ap, ◌∙◌, refl, subst}
 use Rattle.std.proofs.lemmas.List.{append-nil}
-use Rattle.lp_model.specs.Outside.{Folder, Told, Gains, GainsSome}
+use Rattle.lp_model.specs.Outside.{Folder, Told, GainsSome}
 use Rattle.lp_model.proofs.Gaining.{Gains_nothing}
 use Rattle.lp_values.specs.declared.value.Value.{Value}
 use Rattle.log_reading.specs.Found.{Found}

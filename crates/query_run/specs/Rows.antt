@@ -1,5 +1,5 @@
 -- The rows of records, as values.
-use Rattle.std.specs.Prelude.{ℕ, List, [], ◌∷◌, map, pos, Option, Some, None}
+use Rattle.std.specs.Prelude.{ℕ, List, ◌∷◌, map, pos, Option, Some, None}
 use Rattle.std.specs.List.{filter_map}
 use Rattle.std.specs.Str.Lossy.{utf8_lossy}
 use Rattle.lp_model.specs.Reading.{Slots}

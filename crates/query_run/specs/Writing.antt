@@ -1,15 +1,15 @@
 -- What follows from what a writer has written.
-use Rattle.std.specs.Prelude.{◌≡◌, ◌+◌, ℕ, Bool, List, [], ◌∷◌, ◌++◌, length, map, Option, Some}
-use Rattle.std.specs.List.{filter_map, cons_option}
+use Rattle.std.specs.Prelude.{◌≡◌, ◌+◌, ℕ, Bool, List, [], ◌∷◌, ◌++◌, length, Option, Some}
+use Rattle.std.specs.List.{cons_option}
 use Rattle.std.proofs.Common.{ap, sym, ◌∙◌, refl, subst, append_assoc, arith, length-append}
-use Rattle.std.proofs.lemmas.List.{append-nil, map-append}
+use Rattle.std.proofs.lemmas.List.{append-nil}
 use Rattle.std.proofs.lemmas.List.Elements.{filter_map-append}
 use Rattle.lp_model.specs.Outside.{Begins, GainsSome}
 use Rattle.lp_model.proofs.Gaining.{Gains_trans}
 use Rattle.lp_values.specs.declared.value.Value.{Value}
 use Rattle.log_reading.specs.Found.{Found}
 use Rattle.query_run.specs.Output.{IsUnderWay}
-use Rattle.query_run.specs.Rows.{picked, row_of}
+use Rattle.query_run.specs.Rows.{picked}
 use Rattle.query_run.specs.Writer.{Writes, Halts}
 use Rattle.query_run.specs.declared.writer.Writer.{Writer}
 

@@ -1,8 +1,8 @@
-use Rattle.std.proofs.Common.{◌≡◌, ◌+◌, refl, sym}
+use Rattle.std.proofs.Common.{◌+◌, refl, sym}
 use Rattle.std.specs.List.{before_first}
 use Rattle.lp_model.specs.Lines.{is_lf, ended_line}
 use Rattle.lp_model.proofs.Results.{on_err}
-use Rattle.log_reading.proofs.Advancing.{advances_line, advances_none, follows_overlong, stops_in_line}
+use Rattle.log_reading.proofs.Advancing.{advances_line, follows_overlong, stops_in_line}
 use Rattle.log_reading.proofs.lines.take_next.Goals as goal
 
 pub returns-in_err-take_text-in-Line-clause-stops : goal.returns-in_err-take_text-in-Line-clause-stops

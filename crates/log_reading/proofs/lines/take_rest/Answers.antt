@@ -1,4 +1,4 @@
-use Rattle.std.proofs.Common.{◌≡◌, ◌+◌, ◌∷◌, [], List, refl, sym, subst}
+use Rattle.std.proofs.Common.{◌+◌, List, refl, sym, subst}
 use Rattle.lp_model.specs.Lines.{Line, last_line}
 use Rattle.log_reading.specs.Page.{Follows, StopsIn}
 use Rattle.lp_model.proofs.Results.{on_err}

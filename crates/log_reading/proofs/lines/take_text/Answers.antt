@@ -1,4 +1,4 @@
-use Rattle.std.proofs.Common.{[], ◌∷◌}
+use Rattle.std.proofs.Common.{[]}
 use Rattle.log_reading.proofs.lines.take_text.Goals as goal
 
 pub returns-in-Err-clause-stops : goal.returns-in-Err-clause-stops

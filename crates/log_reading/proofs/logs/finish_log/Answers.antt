@@ -1,4 +1,4 @@
-use Rattle.std.proofs.Common.{◌≡◌, [], List, true, Bool, ◌∙◌, ap, sym, subst}
+use Rattle.std.proofs.Common.{◌≡◌, [], List, ◌∙◌, ap, sym, subst}
 use Rattle.lp_model.specs.Lines.{Line}
 use Rattle.log_reading.specs.Page.{Follows, to_come}
 use Rattle.log_reading.proofs.Advancing.{follows_none, to_come-waiting}

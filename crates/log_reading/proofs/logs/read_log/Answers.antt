@@ -1,4 +1,4 @@
-use Rattle.std.proofs.Common.{◌≡◌, ◌≤◌, ◌+◌, [], length, ap, ◌∙◌, arith, rules}
+use Rattle.std.proofs.Common.{◌≡◌, length, ap, arith}
 use Rattle.lp_model.proofs.Growing.{OnlyGrow-refl, OnlyGrow-trans}
 use Rattle.lp_model.proofs.Pieces.{there_grown}
 use Rattle.lp_model.proofs.Results.{on_err}

@@ -1,4 +1,4 @@
-use Rattle.std.proofs.Common.{◌≡◌, ◌≤◌, ◌<◌, ◌+◌, ◌-◌, length, Bool}
+use Rattle.std.proofs.Common.{◌≡◌, ◌≤◌, ◌+◌, ◌-◌, length, Bool}
 use Rattle.std.specs.List.{position_or_len}
 use Rattle.lp_model.specs.Lines.{is_lf}
 use Rattle.lp_model.specs.Outside.{OnlyGrow, Told, bytes_in}

@@ -1,4 +1,4 @@
-use Rattle.std.proofs.Common.{[], take, arith}
+use Rattle.std.proofs.Common.{take}
 use Rattle.log_reading.proofs.Spanning.{stops_in_piece, stops_at_once}
 use Rattle.log_reading.proofs.logs.read_piece.Goals as goal
 

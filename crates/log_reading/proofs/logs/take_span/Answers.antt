@@ -1,4 +1,4 @@
-use Rattle.std.proofs.Common.{◌≡◌, ◌≤◌, ◌+◌, ◌-◌, [], length, ap, arith, subst, Bool, true}
+use Rattle.std.proofs.Common.{◌≡◌, [], length, ap, arith, subst, Bool, true}
 use Rattle.log_reading.specs.Page.{Follows, to_come}
 use Rattle.lp_model.proofs.Results.{on_err}
 use Rattle.log_reading.proofs.Spanning.{IsStart, told_taken, told_stopped, told_at_once, stops_at_end, told_ends}

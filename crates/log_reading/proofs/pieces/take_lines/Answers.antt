@@ -1,4 +1,4 @@
-use Rattle.std.proofs.Common.{[], ◌∙◌, arith, rules}
+use Rattle.std.proofs.Common.{[], ◌∙◌, arith}
 use Rattle.lp_model.proofs.Results.{on_err}
 use Rattle.log_reading.proofs.Advancing.{advances_none, advances_trans, stops_within, spends_trans}
 use Rattle.log_reading.proofs.pieces.take_lines.Goals as goal

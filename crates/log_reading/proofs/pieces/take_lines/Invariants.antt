@@ -1,5 +1,5 @@
 use Rattle.std.proofs.Common.{◌≡◌, ◌≤◌, ◌+◌, length, Bool, []}
-use Rattle.log_reading.specs.Page.{Advances, HasRoom, Spends}
+use Rattle.log_reading.specs.Page.{Advances, Spends}
 use Rattle.log_reading.proofs.pieces.take_lines.Given as goal
 
 -- Some of the lines to come at first were taken.

@@ -1,4 +1,4 @@
-use Rattle.std.proofs.Common.{refl, []}
+use Rattle.std.proofs.Common.{[]}
 use Rattle.lp_model.proofs.Results.{on_err}
 use Rattle.log_reading.proofs.Advancing.{advances_fed, stops_fed}
 use Rattle.log_reading.proofs.pieces.take_piece.Goals as goal

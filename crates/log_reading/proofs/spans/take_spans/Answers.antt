@@ -1,7 +1,7 @@
-use Rattle.std.proofs.Common.{◌≡◌, ◌≤◌, ◌+◌, ◌-◌, length, take, ap, arith, rules}
+use Rattle.std.proofs.Common.{arith}
 use Rattle.lp_model.proofs.Growing.{OnlyGrow-trans}
 use Rattle.lp_model.proofs.Results.{on_err}
-use Rattle.log_reading.proofs.SpansTaken.{there_all, spans_more, spans_stopped, size_more, size_front, took_none, took_more}
+use Rattle.log_reading.proofs.SpansTaken.{there_all, spans_more, spans_stopped, size_more, took_more}
 use Rattle.log_reading.proofs.spans.take_spans.Goals as goal
 
 pub returns-in_err-take_noted-clause-grows : goal.returns-in_err-take_noted-clause-grows

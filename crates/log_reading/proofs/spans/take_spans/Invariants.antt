@@ -1,4 +1,4 @@
-use Rattle.std.proofs.Common.{◌≡◌, ◌≤◌, ◌<◌, ◌+◌, ◌-◌, length, take, map, Bool, true, ◌++◌}
+use Rattle.std.proofs.Common.{◌≡◌, ◌≤◌, ◌+◌, length, take, map, true, ◌++◌}
 use Rattle.lp_model.specs.Outside.{OnlyGrow, Told, bytes_in}
 use Rattle.log_reading.specs.Spans.{AllSpans, AreKept, TakesSpans, spans_size, took_of}
 use Rattle.log_reading.proofs.spans.take_spans.Given as goal

@@ -1,4 +1,4 @@
-use Rattle.std.proofs.Common.{◌≡◌, ◌++◌, ◌∷◌, [], List, ℕ, flat_map, add-one, drop, ◌+◌, sym, ap, ◌∙◌}
+use Rattle.std.proofs.Common.{◌++◌, ◌∷◌, [], flat_map, add-one, drop, ◌+◌, sym, ap, ◌∙◌}
 use Rattle.lp_model.specs.Csv.{doubled}
 use Rattle.output_formats.proofs.Quoting.{doubled_none, doubled_first}
 use Rattle.output_formats.proofs.csv.split_quote.Goals as goal

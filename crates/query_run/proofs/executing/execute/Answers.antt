@@ -1,6 +1,5 @@
-use Rattle.std.proofs.Common.{◌≡◌, ◌++◌, [], List, ℕ, Option, Bool, ap, sym, ◌∙◌, subst}
-use Rattle.lp_model.specs.Outside.{Folder, Told, Gains, GainsSome}
-use Rattle.log_reading.specs.Found.{Found}
+use Rattle.std.proofs.Common.{[], List, ℕ, ap, sym, ◌∙◌, subst}
+use Rattle.lp_model.specs.Outside.{Folder, Gains, GainsSome}
 use Rattle.query_run.specs.Output.{IsUnderWay}
 use Rattle.query_run.specs.Rows.{picked}
 use Rattle.log_reading.specs.Spans.{AreKept, spans_found, TakesSpans}

@@ -1,4 +1,4 @@
-use Rattle.std.proofs.Common.{◌≡◌, ◌∷◌, [], List, Option, Some, None, true, ap, sym, ◌∙◌, refl, if◌then◌else◌}
+use Rattle.std.proofs.Common.{refl}
 use Rattle.query_run.specs.Writing.{writes_one, halts_one, halts_at_once}
 use Rattle.lp_model.proofs.Results.{on_err}
 use Rattle.query_run.proofs.writing.WriterTaker.take.Goals as goal
