@@ -1,0 +1,31 @@
+-- The rows of a line, field list by field list.
+use Rattle.std.proofs.Common.{◌≡◌, ℕ, ◌+◌, ◌<◌, List, [], ◌∷◌, ◌++◌, length, take, drop, get_or, map, Option, ap, sym, ◌∙◌, refl}
+use Rattle.std.proofs.lemmas.List.{map-append, take_more, take-append-drop}
+use Rattle.lp_model.specs.Reading.{Columns, Slots, Record, records_read, rows}
+use Rattle.log_reading.specs.Found.{Found, found_of}
+
+abbrev pub founds : List ℕ → ℕ → Option Columns → List Slots → List Found
+founds identity number columns slots = found_of identity (records_read number columns (rows slots))
+
+pub found_of-append : (identity : List ℕ) (xs ys : List Record) → found_of identity (xs ++ ys) ≡ found_of identity xs ++ found_of identity ys
+found_of-append identity xs ys = map-append _ xs ys
+
+pub founds-append : (identity : List ℕ) (number : ℕ) (columns : Option Columns) (xs ys : List Slots)
+    → founds identity number columns (xs ++ ys) ≡ founds identity number columns xs ++ founds identity number columns ys
+founds-append identity number columns xs ys = ap (found_of identity) (map-append _ xs ys) ∙ found_of-append identity (records_read number columns (rows xs)) (records_read number columns (rows ys))
+
+-- one field list more
+pub founds_more : {X : Type 0} (s : X → Slots) (identity : List ℕ) (number : ℕ) (columns : Option Columns) (items : List X) (i : ℕ) (x : X) → i < length items → x ≡ get_or items i x
+    → founds identity number columns (map s (take i items)) ++ founds identity number columns (s x ∷ []) ≡ founds identity number columns (map s (take (i + 1) items))
+founds_more s identity number columns items i x lt is =
+    sym (ap (λ t. founds identity number columns (map s t)) (take_more items i x lt ∙ ap (λ y. take i items ++ y ∷ []) (sym is))
+    ∙ (ap (founds identity number columns) (map-append s (take i items) (x ∷ []))
+    ∙ founds-append identity number columns (map s (take i items)) (s x ∷ [])))
+
+-- those so far, one more and the rest
+pub founds_split : {X : Type 0} (s : X → Slots) (identity : List ℕ) (number : ℕ) (columns : Option Columns) (items : List X) (i : ℕ) (x : X) → i < length items → x ≡ get_or items i x
+    → (founds identity number columns (map s (take i items)) ++ founds identity number columns (s x ∷ [])) ++ founds identity number columns (map s (drop (i + 1) items)) ≡ founds identity number columns (map s items)
+founds_split s identity number columns items i x lt is =
+    ap (λ t. t ++ founds identity number columns (map s (drop (i + 1) items))) (founds_more s identity number columns items i x lt is)
+    ∙ (sym (founds-append identity number columns (map s (take (i + 1) items)) (map s (drop (i + 1) items)))
+    ∙ ap (founds identity number columns) (sym (map-append s (take (i + 1) items) (drop (i + 1) items)) ∙ ap (map s) (take-append-drop (i + 1) items)))

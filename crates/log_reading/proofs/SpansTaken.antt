@@ -1,0 +1,165 @@
+-- The reading of logs, one after the other, while they grow.
+use Rattle.std.proofs.Common.{◌≡◌, ℕ, zero, suc, true, ◌+◌, ◌-◌, ◌<◌, ◌≤◌, Bool, List, [], ◌∷◌, ◌++◌, length, take, drop, get_or, map, flat_map, sum_by, Option, Some, None, ap, sym, ◌∙◌, refl, subst, arith, length-append, append_assoc}
+use Rattle.std.proofs.lemmas.List.{take_more, take-append-drop, get_or-take, append-nil, length-take-le, map-append}
+use Rattle.std.proofs.lemmas.List.Sums.{sum_by-append}
+use Rattle.std.proofs.lemmas.Grind.{flat_map-append}
+use Rattle.lp_model.specs.Outside.{Folder, OnlyGrow, Told, bytes_in}
+use Rattle.lp_model.specs.Reading.{Format, records_of, bad_lines_of, standing_at, lines_between}
+use Rattle.lp_model.specs.Following.{IsLineEnd, end_of}
+use Rattle.lp_model.proofs.Pieces.{take_grown, there_grown}
+use Rattle.log_reading.specs.Found.{Found, found_of}
+use Rattle.log_reading.specs.declared.page.Page.{Page}
+use Rattle.log_reading.specs.declared.span.Span.{Span}
+use Rattle.log_reading.specs.declared.span.Took.{Took}
+use Rattle.log_reading.specs.Page.{Takes, Stops}
+use Rattle.log_reading.specs.Spans.{IsKept, TakesSpan, TakesSpans, AllSpans, AreKept, cut_of, span_found, span_bad, spans_found, spans_bad, spans_size, took_of, took_at}
+use Rattle.log_reading.proofs.Advancing.{TakesMore, StopsLater, StopsMore}
+
+-- what a span's bytes say, where they are the same in two folders
+kept_along : (format : Format) (waits : Bool) (a b : Folder) (span : Span) → cut_of b span ≡ cut_of a span → IsKept format waits (cut_of b span) span → IsKept format waits (cut_of a span) span
+kept_along format waits a b span same kept = subst (λ (t : List ℕ). IsKept format waits t span) same kept
+
+found_along : (format : Format) (waits : Bool) (a b : Folder) (span : Span) → cut_of b span ≡ cut_of a span → span_found format waits b span ≡ span_found format waits a span
+found_along format waits a b span same = ap (λ t. found_of span.identity (records_of format t waits span.from (length t))) same
+
+bad_along : (format : Format) (waits : Bool) (a b : Folder) (span : Span) → cut_of b span ≡ cut_of a span → span_bad format waits b span ≡ span_bad format waits a span
+bad_along format waits a b span same = ap (λ t. bad_lines_of format t waits span.from (length t)) same
+
+flat_map-same : {Y : Type 0} (f g : Span → List Y) (spans : List Span) → AllSpans spans (λ s. f s ≡ g s) → flat_map f spans ≡ flat_map g spans
+flat_map-same f g [] same = refl
+flat_map-same f g (span ∷ spans) same =
+    let first : f span ≡ g span = same 0 span (omega arith) refl in
+    let rest : flat_map f spans ≡ flat_map g spans = flat_map-same f g spans (λ k s lt is. same (suc k) s (omega arith) is) in
+    ap (λ t. t ++ flat_map f spans) first ∙ ap (λ t. g span ++ t) rest
+
+-- the cuts of spans stay
+cuts_stay : (a b : Folder) (spans : List Span) → OnlyGrow (Some a) (Some b) → AllSpans spans (λ s. s.listed ≤ length (bytes_in a s.name)) → AllSpans spans (λ s. cut_of b s ≡ cut_of a s)
+cuts_stay a b spans grows there = λ k s lt is. take_grown a b s.name s.listed grows (there k s lt is)
+
+front_all : (spans : List Span) (P : Span → Type 0) (i : ℕ) → i ≤ length spans → AllSpans spans P → AllSpans (take i spans) P
+front_all spans P i fits all = λ k s lt is.
+    let size : length (take i spans) ≡ i = length-take-le i spans fits in
+    all k s (omega arith) (is ∙ get_or-take i spans k s (omega arith))
+
+pub there_all : (a b : Option Folder) (spans : List Span) → OnlyGrow a b → Told a (λ folder. AllSpans spans (λ s. s.listed ≤ length (bytes_in folder s.name))) → Told b (λ folder. AllSpans spans (λ s. s.listed ≤ length (bytes_in folder s.name)))
+there_all None None spans h t = tt
+there_all None (Some y) spans h t = let e : Some y ≡ None = h in cc
+there_all (Some x) None spans h t = absurd h
+there_all (Some x) (Some y) spans h t = λ k s lt is. there_grown (Some x) (Some y) s.name s.listed h (t k s lt is)
+
+-- one span of all is there
+pub there_one : (a : Option Folder) (spans : List Span) (i : ℕ) (span : Span) → i < length spans → span ≡ get_or spans i span → Told a (λ folder. AllSpans spans (λ s. s.listed ≤ length (bytes_in folder s.name))) → Told a (λ folder. span.listed ≤ length (bytes_in folder span.name))
+there_one None spans i span lt is t = tt
+there_one (Some x) spans i span lt is t = t i span lt is
+
+pub spans_none : {T O : Type 0} (takes : Takes T O) (format : Format) (waits : Bool) (told : Option Folder) (spans : List Span) (page : Page T) (w : O) → takes page.taker w [] page.taker w
+    → Told told (λ folder. AreKept format waits spans folder → TakesSpans takes format waits folder [] page page w w)
+spans_none takes format waits None spans page w nothing = tt
+spans_none takes format waits (Some x) spans page w nothing = λ kept. record { done = nothing; rows = omega arith; bad = omega arith }
+
+one_more : (spans : List Span) (i : ℕ) (span : Span) → i < length spans → span ≡ get_or spans i span → take (i + 1) spans ≡ take i spans ++ span ∷ []
+one_more spans i span lt is = take_more spans i span lt ∙ ap (λ s. take i spans ++ s ∷ []) (sym is)
+
+pub size_more : (spans : List Span) (i : ℕ) (span : Span) → i < length spans → span ≡ get_or spans i span → spans_size (take (i + 1) spans) ≡ spans_size (take i spans) + (span.listed - span.from)
+size_more spans i span lt is =
+    let one : spans_size (span ∷ []) ≡ span.listed - span.from = omega arith in
+    ap spans_size (one_more spans i span lt is) ∙ (sum_by-append (λ (s : Span). s.listed - s.from) (take i spans) (span ∷ []) ∙ ap (λ k. spans_size (take i spans) + k) one)
+
+pub size_front : (spans : List Span) (i : ℕ) → spans_size (take i spans) ≤ spans_size spans
+size_front spans i =
+    let whole : spans_size spans ≡ spans_size (take i spans) + spans_size (drop i spans) =
+    ap spans_size (sym (take-append-drop i spans)) ∙ sum_by-append (λ (s : Span). s.listed - s.from) (take i spans) (drop i spans) in
+    omega arith
+
+flat_one : {Y : Type 0} (f : Span → List Y) (spans : List Span) (i : ℕ) (span : Span) → i < length spans → span ≡ get_or spans i span → flat_map f (take (i + 1) spans) ≡ flat_map f (take i spans) ++ f span
+flat_one f spans i span lt is =
+    ap (flat_map f) (one_more spans i span lt is) ∙ (flat_map-append f (take i spans) (span ∷ []) ∙ ap (λ t. flat_map f (take i spans) ++ t) (append-nil (f span)))
+
+-- one span more was taken
+pub spans_more : {T O : Type 0} (takes : Takes T O) (more : TakesMore takes) (format : Format) (waits : Bool) (first second : Option Folder) (spans : List Span) (i : ℕ) (span : Span) (a b c : Page T) (u v w : O) → i < length spans → span ≡ get_or spans i span
+    → OnlyGrow first second → Told first (λ folder. AllSpans spans (λ s. s.listed ≤ length (bytes_in folder s.name)))
+    → Told first (λ folder. AreKept format waits spans folder → TakesSpans takes format waits folder (take i spans) a b u v)
+    → Told second (λ folder. IsKept format waits (cut_of folder span) span → TakesSpan takes format waits folder span b c v w)
+    → Told second (λ folder. AreKept format waits spans folder → TakesSpans takes format waits folder (take (i + 1) spans) a c u w)
+spans_more takes more format waits None None spans i span a b c u v w lt is grows there f s = tt
+spans_more takes more format waits None (Some y) spans i span a b c u v w lt is grows there f s = let e : Some y ≡ None = grows in cc
+spans_more takes more format waits (Some x) None spans i span a b c u v w lt is grows there f s = tt
+spans_more takes more format waits (Some x) (Some y) spans i span a b c u v w lt is grows there f s = λ kept.
+    let same = cuts_stay x y spans grows there in
+    let so_far = f (λ k s lt' is'. kept_along format waits x y s (same k s lt' is') (kept k s lt' is')) in
+    let here = s (kept i span lt is) in
+    let front = front_all spans (λ s. cut_of y s ≡ cut_of x s) i (omega arith) same in
+    let founds : spans_found format waits y (take i spans) ≡ spans_found format waits x (take i spans) =
+    flat_map-same (span_found format waits y) (span_found format waits x) (take i spans) (λ k s lt' is'. found_along format waits x y s (front k s lt' is')) in
+    let bads : spans_bad format waits y (take i spans) ≡ spans_bad format waits x (take i spans) =
+    flat_map-same (span_bad format waits y) (span_bad format waits x) (take i spans) (λ k s lt' is'. bad_along format waits x y s (front k s lt' is')) in
+    let found_one : spans_found format waits y (take (i + 1) spans) ≡ spans_found format waits y (take i spans) ++ span_found format waits y span = flat_one (span_found format waits y) spans i span lt is in
+    let bad_one : spans_bad format waits y (take (i + 1) spans) ≡ spans_bad format waits y (take i spans) ++ span_bad format waits y span = flat_one (span_bad format waits y) spans i span lt is in
+    let all : spans_found format waits x (take i spans) ++ span_found format waits y span ≡ spans_found format waits y (take (i + 1) spans) = ap (λ t. t ++ span_found format waits y span) (sym founds) ∙ sym found_one in
+    let size : length (spans_found format waits y (take (i + 1) spans)) ≡ length (spans_found format waits x (take i spans)) + length (span_found format waits y span) = ap length (sym all) ∙ length-append (spans_found format waits x (take i spans)) (span_found format waits y span) in
+    let bad_size : length (spans_bad format waits y (take (i + 1) spans)) ≡ length (spans_bad format waits x (take i spans)) + length (span_bad format waits y span) =
+    ap length bad_one ∙ (length-append (spans_bad format waits y (take i spans)) (span_bad format waits y span) ∙ ap (λ t. length t + length (span_bad format waits y span)) bads) in
+    let rows_before = so_far.rows in
+    let rows_now = here.rows in
+    let bad_before = so_far.bad in
+    let bad_now = here.bad in
+    let Done : List Found → Type 0 = λ t. takes a.taker u t c.taker w in
+    record { done = subst Done all (more _ _ _ _ _ _ _ _ so_far.done here.done); rows = omega arith; bad = omega arith }
+
+-- it stopped within a span
+pub spans_stopped : {T O : Type 0} (takes : Takes T O) (stops : Stops T O) (later : StopsLater takes stops) (more : StopsMore stops) (format : Format) (waits : Bool) (first second : Option Folder) (spans : List Span) (i : ℕ) (span : Span) (a b z : Page T) (u v w : O) → i < length spans → span ≡ get_or spans i span
+    → OnlyGrow first second → Told first (λ folder. AllSpans spans (λ s. s.listed ≤ length (bytes_in folder s.name)))
+    → Told first (λ folder. AreKept format waits spans folder → TakesSpans takes format waits folder (take i spans) a b u v)
+    → Told second (λ folder. IsKept format waits (cut_of folder span) span → stops b.taker v (span_found format waits folder span) z.taker w)
+    → Told second (λ folder. AreKept format waits spans folder → stops a.taker u (spans_found format waits folder spans) z.taker w)
+spans_stopped takes stops later more format waits None None spans i span a b z u v w lt is grows there f s = tt
+spans_stopped takes stops later more format waits None (Some y) spans i span a b z u v w lt is grows there f s = let e : Some y ≡ None = grows in cc
+spans_stopped takes stops later more format waits (Some x) None spans i span a b z u v w lt is grows there f s = tt
+spans_stopped takes stops later more format waits (Some x) (Some y) spans i span a b z u v w lt is grows there f s = λ kept.
+    let same = cuts_stay x y spans grows there in
+    let so_far = f (λ k s lt' is'. kept_along format waits x y s (same k s lt' is') (kept k s lt' is')) in
+    let here = s (kept i span lt is) in
+    let front = front_all spans (λ s. cut_of y s ≡ cut_of x s) i (omega arith) same in
+    let founds : spans_found format waits y (take i spans) ≡ spans_found format waits x (take i spans) =
+    flat_map-same (span_found format waits y) (span_found format waits x) (take i spans) (λ k s lt' is'. found_along format waits x y s (front k s lt' is')) in
+    let found_one : spans_found format waits y (take (i + 1) spans) ≡ spans_found format waits y (take i spans) ++ span_found format waits y span = flat_one (span_found format waits y) spans i span lt is in
+    let all : spans_found format waits x (take i spans) ++ span_found format waits y span ≡ spans_found format waits y (take (i + 1) spans) = ap (λ t. t ++ span_found format waits y span) (sym founds) ∙ sym found_one in
+    let rest = spans_found format waits y (drop (i + 1) spans) in
+    let whole : (spans_found format waits x (take i spans) ++ span_found format waits y span) ++ rest ≡ spans_found format waits y spans =
+    ap (λ t. t ++ rest) all ∙ (sym (flat_map-append (span_found format waits y) (take (i + 1) spans) (drop (i + 1) spans)) ∙ ap (spans_found format waits y) (take-append-drop (i + 1) spans)) in
+    let Stopped : List Found → Type 0 = λ t. stops a.taker u t z.taker w in
+    subst Stopped whole (more _ _ _ _ _ _ (later _ _ _ _ _ _ _ _ so_far.done here))
+
+-- what a run notes of a log
+took_along : (format : Format) (a b : Folder) (span : Span) → cut_of b span ≡ cut_of a span → took_of format b span ≡ took_of format a span
+took_along format a b span same = ap (λ (t : List ℕ). let to : ℕ = end_of span.from (lines_between t true span.from (length t)) in took_at span.identity span.from to (standing_at format t true to)) same
+
+map-same : {Y : Type 0} (f g : Span → Y) (spans : List Span) → AllSpans spans (λ s. f s ≡ g s) → map f spans ≡ map g spans
+map-same f g [] same = refl
+map-same f g (span ∷ spans) same =
+    let first : f span ≡ g span = same 0 span (omega arith) refl in
+    let rest : map f spans ≡ map g spans = map-same f g spans (λ k s lt is. same (suc k) s (omega arith) is) in
+    ap (λ t. t ∷ map f spans) first ∙ ap (λ t. g span ∷ t) rest
+
+pub took_none : (format : Format) (told : Option Folder) (spans : List Span) (list : List Took) → Told told (λ folder. AreKept format true spans folder → list ≡ list ++ map (took_of format folder) [])
+took_none format None spans list = tt
+took_none format (Some x) spans list = λ kept. sym (append-nil list)
+
+pub took_more : (format : Format) (first second : Option Folder) (spans : List Span) (i : ℕ) (span : Span) (a b c : List Took) → i < length spans → span ≡ get_or spans i span
+    → OnlyGrow first second → Told first (λ folder. AllSpans spans (λ s. s.listed ≤ length (bytes_in folder s.name)))
+    → Told first (λ folder. AreKept format true spans folder → b ≡ a ++ map (took_of format folder) (take i spans))
+    → Told second (λ folder. IsKept format true (cut_of folder span) span → c ≡ b ++ took_of format folder span ∷ [])
+    → Told second (λ folder. AreKept format true spans folder → c ≡ a ++ map (took_of format folder) (take (i + 1) spans))
+took_more format None None spans i span a b c lt is grows there f s = tt
+took_more format None (Some y) spans i span a b c lt is grows there f s = let e : Some y ≡ None = grows in cc
+took_more format (Some x) None spans i span a b c lt is grows there f s = tt
+took_more format (Some x) (Some y) spans i span a b c lt is grows there f s = λ kept.
+    let same = cuts_stay x y spans grows there in
+    let so_far = f (λ k s lt' is'. kept_along format true x y s (same k s lt' is') (kept k s lt' is')) in
+    let here = s (kept i span lt is) in
+    let front = front_all spans (λ s. cut_of y s ≡ cut_of x s) i (omega arith) same in
+    let list : map (took_of format y) (take i spans) ≡ map (took_of format x) (take i spans) =
+    map-same (took_of format y) (took_of format x) (take i spans) (λ k s lt' is'. took_along format x y s (front k s lt' is')) in
+    let one : map (took_of format y) (take (i + 1) spans) ≡ map (took_of format y) (take i spans) ++ took_of format y span ∷ [] =
+    ap (map (took_of format y)) (one_more spans i span lt is) ∙ map-append (took_of format y) (take i spans) (span ∷ []) in
+    here ∙ (ap (λ t. t ++ took_of format y span ∷ []) (so_far ∙ ap (λ t. a ++ t) (sym list)) ∙ (append_assoc a (map (took_of format y) (take i spans)) (took_of format y span ∷ []) ∙ ap (λ t. a ++ t) (sym one)))

@@ -1,0 +1,36 @@
+use Rattle.std.proofs.Common.{◌≡◌, ◌+◌, ◌∷◌, [], List, refl, sym, subst}
+use Rattle.lp_model.specs.Lines.{Line, last_line}
+use Rattle.log_reading.specs.Page.{Follows, StopsIn}
+use Rattle.lp_model.proofs.Results.{on_err}
+use Rattle.log_reading.proofs.Advancing.{follows_overlong, to_come-last}
+use Rattle.log_reading.proofs.lines.take_rest.Goals as goal
+
+pub returns-in_err-take_text-in-Line-clause-stops : goal.returns-in_err-take_text-in-Line-clause-stops
+returns-in_err-take_text-in-Line-clause-stops g c = on_err _ c.from_residual.result (
+    let page = c.args.page.now in
+    let line = last_line (page.standing.lines + 1) page.splitter.place page.splitter.left in
+    let stopped = c.in_err-take_text-in-Line.ensures.stops line refl (sym c.in-Line.ensures.1) c.in-Line.ensures.2 in
+    let Of : List Line → Type 0 = λ lines. StopsIn g.T.Taker.stops (g.R.LineReader.format c.args.reader.now) c.args.identity.now lines page c.take_text.new.page c.args.out.now c.take_text.new.out in
+    subst Of (sym (to_come-last page c.requires.last c.in-Line.ensures.0.some)) (record { behind = λ history at. stopped.behind history at }))
+
+pub returns-in-TooLongLine-clause-takes : goal.returns-in-TooLongLine-clause-takes
+returns-in-TooLongLine-clause-takes g c =
+    let page = c.args.page.now in
+    let new = c.pass_overlong.new.page in
+    let passed = c.pass_overlong.ensures in
+    let w = c.args.out.now in
+    let line = last_line (page.standing.lines + 1) page.splitter.place page.splitter.left in
+    let Of : List Line → Type 0 = λ lines. Follows g.T.Taker.takes (g.R.LineReader.format c.args.reader.now) c.args.identity.now lines page new w w in
+    subst Of (sym (to_come-last page c.requires.last c.in-TooLongLine.ensures.0.some))
+    (follows_overlong g.T.Taker.takes (g.R.LineReader.format c.args.reader.now) c.args.identity.now line page new w (g.met.T.Taker.takes_none page.taker w) c.in-TooLongLine.ensures.2 passed.taker passed.lines passed.columns passed.rows passed.bad)
+
+pub returns-in_ok-take_text-in-Line-clause-takes : goal.returns-in_ok-take_text-in-Line-clause-takes
+returns-in_ok-take_text-in-Line-clause-takes g c =
+    let page = c.args.page.now in
+    let new = c.take_text.new.page in
+    let took = c.in_ok-take_text-in-Line.ensures in
+    let line = last_line (page.standing.lines + 1) page.splitter.place page.splitter.left in
+    let follows = took.takes line refl (sym c.in-Line.ensures.1) c.in-Line.ensures.2 in
+    let Of : List Line → Type 0 = λ lines. Follows g.T.Taker.takes (g.R.LineReader.format c.args.reader.now) c.args.identity.now lines page new c.args.out.now c.take_text.new.out in
+    subst Of (sym (to_come-last page c.requires.last c.in-Line.ensures.0.some))
+    (record { behind = λ history at. let b = follows.behind history at in record { done = b.done; standing = b.standing; rows = b.rows; bad = b.bad } })

@@ -1,0 +1,63 @@
+use Rattle.std.proofs.Common.{◌≡◌, ◌≤◌, ◌+◌, [], length, ap, ◌∙◌, arith, rules}
+use Rattle.lp_model.proofs.Growing.{OnlyGrow-refl, OnlyGrow-trans}
+use Rattle.lp_model.proofs.Pieces.{there_grown}
+use Rattle.lp_model.proofs.Results.{on_err}
+use Rattle.log_reading.proofs.Spanning.{has_read_none, has_read_trans, stops_behind}
+use Rattle.log_reading.proofs.logs.read_log.Goals as goal
+
+pub log-init : goal.log-init
+log-init g c =
+    let page = c.args.page.now in
+    let span = c.args.span.now in
+    let w = c.args.out.now in
+    let empty : length page.splitter.left ≡ 0 = ap length c.requires.empty in
+    let start = c.requires.start in
+    record {
+      grows = OnlyGrow-refl _;
+      there = c.requires.there;
+      read = λ waits. has_read_none g.T.Taker.takes (g.R.LineReader.format c.args.reader.now) span.identity waits (g.L.Logs.folder c.args.logs.now) span.name span.listed page w (g.met.T.Taker.takes_none page.taker w) (omega arith) c.requires.there;
+      fits = omega arith;
+      last = omega arith;
+      room = c.requires.room;
+      spends = record { lines = omega arith; rows = omega arith; bad = omega arith; taken = omega arith };
+      longer = omega arith;
+      given = omega arith;
+      later_logs = omega arith;
+      later = omega arith;
+    }
+
+pub log-preserved : goal.log-preserved
+log-preserved g c =
+    let span = c.args.span.now in
+    let so_far = c.log.invariant in
+    let here = c.in_ok-read_piece.ensures in
+    let longer = here.longer in
+    let longer_before = so_far.longer in
+    let given_before = so_far.given in
+    let given_now = here.given in
+    let logs_before = so_far.later_logs in
+    let logs_now = here.later_logs in
+    let before = so_far.later in
+    let now = here.later in
+    record {
+      grows = OnlyGrow-trans _ _ _ so_far.grows here.grows;
+      there = there_grown _ _ span.name span.listed here.grows so_far.there;
+      read = λ waits. has_read_trans g.T.Taker.takes g.met.T.Taker.takes_more (g.R.LineReader.format c.args.reader.now) span.identity waits _ _ span.name span.listed _ _ _ _ _ _ here.grows (so_far.read waits) (here.read waits);
+      fits = here.fits;
+      last = here.last;
+      room = here.room;
+      spends = let first = so_far.spends in let second = here.spends in
+          let f1 = first.lines in let f2 = first.rows in let f3 = first.bad in let f4 = first.taken in
+          let s1 = second.lines in let s2 = second.rows in let s3 = second.bad in let s4 = second.taken in
+          record { lines = omega arith; rows = omega arith; bad = omega arith; taken = omega arith };
+      longer = omega arith;
+      given = omega arith;
+      later_logs = omega arith;
+      later = omega arith;
+    }
+
+pub returns-in_err-read_piece-clause-stops : goal.returns-in_err-read_piece-clause-stops
+returns-in_err-read_piece-clause-stops g c = on_err _ c.from_residual.result (λ waits.
+    let span = c.args.span.now in
+    let here = c.in_err-read_piece.ensures in
+    stops_behind g.T.Taker.takes g.T.Taker.stops g.met.T.Taker.stops_later (g.R.LineReader.format c.args.reader.now) span.identity waits _ _ span.name span.listed _ _ _ _ _ _ here.grows (c.log.invariant.read waits) (here.stops waits))

@@ -1,0 +1,26 @@
+use Rattle.std.proofs.Common.{◌≡◌, ◌≤◌, ◌<◌, ◌+◌, ◌-◌, length, Bool}
+use Rattle.std.specs.List.{position_or_len}
+use Rattle.lp_model.specs.Lines.{is_lf}
+use Rattle.lp_model.specs.Outside.{OnlyGrow, Told, bytes_in}
+use Rattle.log_reading.specs.Page.{HasRoom, Spends}
+use Rattle.log_reading.specs.Spans.{HasRead}
+use Rattle.log_reading.proofs.logs.read_log.Given as goal
+
+-- A part of the log was read.
+abbrev pub invariant-log : goal.invariant-log
+invariant-log g l = record {
+  grows : OnlyGrow (g.L.Logs.folder l.initial.logs) (g.L.Logs.folder l.logs);
+  there : Told (g.L.Logs.folder l.logs) (λ folder. l.span.listed ≤ length (bytes_in folder l.span.name));
+  read : (waits : Bool) → HasRead g.T.Taker.takes (g.R.LineReader.format l.reader) l.span.identity waits (g.L.Logs.folder l.logs) l.span.name l.span.listed l.initial.page l.page l.initial.out l.out;
+  fits : l.page.splitter.place + length l.page.splitter.left ≤ l.span.listed;
+  last : length l.page.splitter.left ≤ position_or_len is_lf l.page.splitter.left;
+  room : HasRoom g.T.Taker.count l.page (l.span.listed - l.page.splitter.place + 1);
+  spends : Spends g.T.Taker.count l.initial.page l.page ((l.page.splitter.place + length l.page.splitter.left) - l.initial.page.splitter.place);
+  longer : l.initial.page.splitter.place ≤ l.page.splitter.place + length l.page.splitter.left;
+  given : g.L.Logs.given l.logs + l.initial.page.splitter.place ≡ g.L.Logs.given l.initial.logs + (l.page.splitter.place + length l.page.splitter.left);
+  later_logs : g.L.Logs.faults l.initial.logs ≤ g.L.Logs.faults l.logs;
+  later : g.T.Taker.faults l.initial.out ≤ g.T.Taker.faults l.out;
+}
+
+abbrev pub decreases-log : goal.decreases-log
+decreases-log g l = l.span.listed - (l.page.splitter.place + length l.page.splitter.left)

@@ -1,0 +1,20 @@
+use Rattle.std.proofs.Common.{[], take, arith}
+use Rattle.log_reading.proofs.Spanning.{stops_in_piece, stops_at_once}
+use Rattle.log_reading.proofs.logs.read_piece.Goals as goal
+
+pub returns-in-Err-clause-stops : goal.returns-in-Err-clause-stops
+returns-in-Err-clause-stops g c = λ waits.
+    let span = c.args.span.now in
+    let page = c.args.page.now in
+    let w = c.args.out.now in
+    stops_at_once g.T.Taker.takes g.T.Taker.stops g.met.T.Taker.stops_here (g.R.LineReader.format c.args.reader.now) span.identity waits _ span.name span.listed page w (g.met.T.Taker.takes_none page.taker w)
+
+pub returns-in-Err-Memory-clause-stops : goal.returns-in-Err-Memory-clause-stops
+returns-in-Err-Memory-clause-stops g c = λ waits.
+    let span = c.args.span.now in
+    stops_in_piece g.T.Taker.stops (g.R.LineReader.format c.args.reader.now) span.identity waits _ span.name span.listed c.args.page.now c.take_piece.new.page (take c.in-Ok.count c.read_some.new.chunk) _ _ (rw c.end-at.ensures at c.in-Ok.ensures.piece) (c.in-Err-Memory.ensures.stops waits)
+
+pub returns-in-Err-Failed-clause-stops : goal.returns-in-Err-Failed-clause-stops
+returns-in-Err-Failed-clause-stops g c = λ waits.
+    let span = c.args.span.now in
+    stops_in_piece g.T.Taker.stops (g.R.LineReader.format c.args.reader.now) span.identity waits _ span.name span.listed c.args.page.now c.take_piece.new.page (take c.in-Ok.count c.read_some.new.chunk) _ _ (rw c.end-at.ensures at c.in-Ok.ensures.piece) (c.in-Err-Failed.ensures.stops waits)

@@ -1,0 +1,39 @@
+use Rattle.std.proofs.Common.{[], ◌∙◌, arith, rules}
+use Rattle.lp_model.proofs.Results.{on_err}
+use Rattle.log_reading.proofs.Advancing.{advances_none, advances_trans, stops_within, spends_trans}
+use Rattle.log_reading.proofs.pieces.take_lines.Goals as goal
+
+pub loop-more-init : goal.loop-more-init
+loop-more-init g c =
+    let page = c.args.page.now in
+    let w = c.args.out.now in
+    record {
+      advances = λ waits. advances_none g.T.Taker.takes (g.R.LineReader.format c.args.reader.now) c.args.identity.now waits page w (g.met.T.Taker.takes_none page.taker w);
+      spends = record { lines = omega arith; rows = omega arith; bad = omega arith; taken = omega arith };
+      end = omega arith;
+      later = omega arith;
+    }
+
+pub loop-more-preserved : goal.loop-more-preserved
+loop-more-preserved g c =
+    let took = c.in_ok-more.ensures in
+    let so_far = c.loop-more.invariant in
+    let later = took.later in
+    let before = so_far.later in
+    record {
+      advances = λ waits. advances_trans g.T.Taker.takes g.met.T.Taker.takes_more (g.R.LineReader.format c.args.reader.now) c.args.identity.now waits [] [] _ _ _ _ _ _ (so_far.advances waits) (took.advances waits);
+      spends = spends_trans g.T.Taker.count _ _ _ 0 0 so_far.spends took.spends;
+      end = took.end ∙ so_far.end;
+      later = omega arith;
+    }
+
+pub returns-in_err-more-clause-stops : goal.returns-in_err-more-clause-stops
+returns-in_err-more-clause-stops g c = on_err _ c.from_residual.result (λ waits.
+    stops_within g.T.Taker.takes g.T.Taker.stops g.met.T.Taker.stops_later (g.R.LineReader.format c.args.reader.now) c.args.identity.now waits [] [] _ _ _ _ _ _ (c.loop-more.invariant.advances waits) (c.in_err-more.ensures.stops waits))
+
+pub returns-clause-advances : goal.returns-clause-advances
+returns-clause-advances g c = λ waits.
+    advances_trans g.T.Taker.takes g.met.T.Taker.takes_more (g.R.LineReader.format c.args.reader.now) c.args.identity.now waits [] [] _ _ _ _ _ _ (c.loop-more.invariant.advances waits) (c.in_ok-more.ensures.advances waits)
+
+pub returns-clause-spends : goal.returns-clause-spends
+returns-clause-spends g c = spends_trans g.T.Taker.count _ _ _ 0 0 c.loop-more.invariant.spends c.in_ok-more.ensures.spends

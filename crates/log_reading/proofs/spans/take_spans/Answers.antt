@@ -1,0 +1,42 @@
+use Rattle.std.proofs.Common.{◌≡◌, ◌≤◌, ◌+◌, ◌-◌, length, take, ap, arith, rules}
+use Rattle.lp_model.proofs.Growing.{OnlyGrow-trans}
+use Rattle.lp_model.proofs.Results.{on_err}
+use Rattle.log_reading.proofs.SpansTaken.{there_all, spans_more, spans_stopped, size_more, size_front, took_none, took_more}
+use Rattle.log_reading.proofs.spans.take_spans.Goals as goal
+
+pub returns-in_err-take_noted-clause-grows : goal.returns-in_err-take_noted-clause-grows
+returns-in_err-take_noted-clause-grows g c = OnlyGrow-trans _ _ _ c.loop-span.invariant.grows c.in_err-take_noted.ensures.grows
+
+pub returns-in_err-take_noted-clause-stops : goal.returns-in_err-take_noted-clause-stops
+returns-in_err-take_noted-clause-stops g c = on_err _ c.from_residual.result (
+    let so_far = c.loop-span.invariant in
+    let here = c.in_err-take_noted.ensures in
+    spans_stopped g.T.Taker.takes g.T.Taker.stops g.met.T.Taker.stops_later g.met.T.Taker.stops_more (g.R.LineReader.format c.args.reader.now) c.args.waits _ _ c.args.spans.now c.loop-span.span-index c.span-item.result _ _ c.take_noted.new.page _ _ _ c.loop-span-test.true c.span-item.is
+    here.grows so_far.there so_far.takes here.stops)
+
+pub loop-span-preserved : goal.loop-span-preserved
+loop-span-preserved g c =
+    let so_far = c.loop-span.invariant in
+    let here = c.in_ok-take_noted.ensures in
+    let size = size_more c.args.spans.now c.loop-span.span-index c.span-item.result c.loop-span-test.true c.span-item.is in
+    let rows1 = so_far.rows in let rows2 = here.rows in
+    let bad1 = so_far.bad in let bad2 = here.bad in
+    let taken1 = so_far.taken in let taken2 = here.taken in
+    let given1 = so_far.given in let given2 = here.given in
+    let logs1 = so_far.later_logs in let logs2 = here.later_logs in
+    let later1 = so_far.later in let later2 = here.later in
+    let start = (c.requires.spans c.loop-span.span-index c.span-item.result c.loop-span-test.true c.span-item.is).start in
+    record {
+      grows = OnlyGrow-trans _ _ _ so_far.grows here.grows;
+      there = there_all _ _ c.args.spans.now here.grows so_far.there;
+      takes = spans_more g.T.Taker.takes g.met.T.Taker.takes_more (g.R.LineReader.format c.args.reader.now) c.args.waits _ _ c.args.spans.now c.loop-span.span-index c.span-item.result _ _ _ _ _ _ c.loop-span-test.true c.span-item.is
+          here.grows so_far.there so_far.takes here.takes;
+      took = λ waits. took_more (g.R.LineReader.format c.args.reader.now) _ _ c.args.spans.now c.loop-span.span-index c.span-item.result c.args.took.now _ _ c.loop-span-test.true c.span-item.is
+          here.grows so_far.there (so_far.took waits) (here.took waits);
+      rows = omega arith;
+      bad = omega arith;
+      taken = omega arith;
+      given = omega arith;
+      later_logs = omega arith;
+      later = omega arith;
+    }

@@ -1,0 +1,96 @@
+-- Spans of logs, and what a run makes of them.
+use Rattle.std.specs.Prelude.{◌≡◌, ◌+◌, ◌-◌, ◌≤◌, ◌<◌, ◌^◌, ℕ, Bool, true, List, [], ◌∷◌, length, take, map, flat_map, sum_by, get_or, Option}
+use Rattle.lp_model.specs.Lines.{Line}
+use Rattle.lp_model.specs.Outside.{Folder, Told, bytes_in}
+use Rattle.lp_model.specs.Pieces.{IsPiece, rest_of}
+use Rattle.lp_model.specs.Reading.{Format, Standing, standing_at, records_of, bad_lines_of, lines_between}
+use Rattle.lp_model.specs.Following.{IsLineEnd, end_of}
+use Rattle.log_reading.specs.Found.{Found, found_of}
+use Rattle.log_reading.specs.declared.page.Page.{Page}
+use Rattle.log_reading.specs.declared.span.Span.{Span}
+use Rattle.log_reading.specs.declared.span.Took.{Took}
+use Rattle.log_reading.specs.Page.{Takes, Stops, Advances, Follows, StopsIn, to_come}
+
+-- a part of a log was read, and its lines were taken
+pub record HasRead {T O : Type 0} (takes : Takes T O) (format : Format) (identity : List ℕ) (waits : Bool) (told : Option Folder) (name : List ℕ) (cut : ℕ) (old new : Page T) (before now : O) : Type 0 where
+  pub bytes : List ℕ
+  pub piece : IsPiece told name (old.splitter.place + length old.splitter.left) cut bytes
+  pub end : new.splitter.place + length new.splitter.left ≡ old.splitter.place + length old.splitter.left + length bytes
+  pub advances : Advances takes format identity waits bytes old new before now
+
+-- the lines of a log up to a cut that are still to come
+abbrev pub log_to_come : {T : Type 0} → Bool → Page T → Folder → List ℕ → ℕ → List Line
+log_to_come waits page folder name cut = to_come waits page (rest_of folder name (page.splitter.place + length page.splitter.left) cut)
+
+-- the output holds what a taker left that stopped within the rest of a log
+pub record StopsReading {T O : Type 0} (stops : Stops T O) (format : Format) (identity : List ℕ) (waits : Bool) (told : Option Folder) (name : List ℕ) (cut : ℕ) (old new : Page T) (before now : O) : Type 0 where
+  pub within : Told told (λ folder. StopsIn stops format identity (log_to_come waits old folder name cut) old new before now)
+
+-- the bytes of a span's log up to its cut
+abbrev pub cut_of : Folder → Span → List ℕ
+cut_of folder span = take span.listed (bytes_in folder span.name)
+
+-- a span begins at a line's end, and its standing is the log's
+pub record IsKept (format : Format) (waits : Bool) (bytes : List ℕ) (span : Span) : Type 0 where
+  pub at_end : IsLineEnd bytes span.from
+  pub standing : span.standing ≡ standing_at format bytes waits span.from
+
+-- the rows of a span, and the numbers of its bad lines
+abbrev pub span_found : Format → Bool → Folder → Span → List Found
+span_found format waits folder span = let bytes = cut_of folder span in found_of span.identity (records_of format bytes waits span.from (length bytes))
+
+abbrev pub span_bad : Format → Bool → Folder → Span → List ℕ
+span_bad format waits folder span = let bytes = cut_of folder span in bad_lines_of format bytes waits span.from (length bytes)
+
+-- a span's log was read and its rows were taken
+pub record TakesSpan {T O : Type 0} (takes : Takes T O) (format : Format) (waits : Bool) (folder : Folder) (span : Span) (old new : Page T) (before now : O) : Type 0 where
+  pub done : takes old.taker before (span_found format waits folder span) new.taker now
+  pub rows : new.rows ≡ old.rows + length (span_found format waits folder span)
+  pub bad : new.bad ≡ old.bad + length (span_bad format waits folder span)
+
+-- each span of a list
+abbrev pub AllSpans : List Span → (Span → Type 0) → Type 0
+AllSpans spans P = (k : ℕ) (s : Span) → k < length spans → s ≡ get_or spans k s → P s
+
+-- what the spans of a run meet
+pub record IsSpan (span : Span) : Type 0 where
+  pub start : span.from ≤ span.listed
+  pub cut : span.listed ≤ 2 ^ 46
+  pub lines : span.standing.lines ≤ span.from
+
+-- the rows of spans, joined, and the numbers of their bad lines
+abbrev pub spans_found : Format → Bool → Folder → List Span → List Found
+spans_found format waits folder spans = flat_map (span_found format waits folder) spans
+
+abbrev pub spans_bad : Format → Bool → Folder → List Span → List ℕ
+spans_bad format waits folder spans = flat_map (span_bad format waits folder) spans
+
+-- how many bytes spans have
+abbrev pub spans_size : List Span → ℕ
+spans_size spans = sum_by (λ (span : Span). span.listed - span.from) spans
+
+-- the rows of spans were taken
+pub record TakesSpans {T O : Type 0} (takes : Takes T O) (format : Format) (waits : Bool) (folder : Folder) (spans : List Span) (old new : Page T) (before now : O) : Type 0 where
+  pub done : takes old.taker before (spans_found format waits folder spans) new.taker now
+  pub rows : new.rows ≡ old.rows + length (spans_found format waits folder spans)
+  pub bad : new.bad ≡ old.bad + length (spans_bad format waits folder spans)
+
+-- each span begins as the log was kept
+abbrev pub AreKept : Format → Bool → List Span → Folder → Type 0
+AreKept format waits spans folder = AllSpans spans (λ span. IsKept format waits (cut_of folder span) span)
+
+-- where a span ends: the place behind its last line, or its start
+abbrev pub span_end : Folder → Span → ℕ
+span_end folder span = let bytes = cut_of folder span in end_of span.from (lines_between bytes true span.from (length bytes))
+
+-- how the page stands at a span's end
+pub record EndsSpan {T : Type 0} (format : Format) (folder : Folder) (span : Span) (new : Page T) : Type 0 where
+  pub place : new.splitter.place ≡ span_end folder span
+  pub standing : new.standing ≡ standing_at format (cut_of folder span) true (span_end folder span)
+
+abbrev pub took_at : List ℕ → ℕ → ℕ → Standing → Took
+took_at identity from to standing = record { identity = identity; from = from; to = to; standing = standing }
+
+-- what a run takes of a span, where lines wait
+abbrev pub took_of : Format → Folder → Span → Took
+took_of format folder span = took_at span.identity span.from (span_end folder span) (standing_at format (cut_of folder span) true (span_end folder span))

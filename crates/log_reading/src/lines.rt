@@ -1,0 +1,160 @@
+// A log's lines, one after the other, to a taker.
+ghost use Rattle.std.specs.Prelude.{◌≡◌, ◌≤◌, ◌<◌, ◌^◌, ◌+◌, ◌++◌, ◌∷◌, [], ℕ, List, Bool, true, false, length, map, Option, OnOk, OnErr, IfOk, IsErrOf, IsTrue, IsFalse};
+ghost use Rattle.std.specs.List.{position_or_len};
+ghost use Rattle.lp_model.specs.Outside.{Rose};
+ghost use Rattle.lp_model.specs.Lines.{Line, is_lf, is_overlong};
+ghost use Rattle.lp_model.specs.Reading.{records_read, rows};
+ghost use Rattle.line_input.specs.Taken.{slots_of};
+ghost use Rattle.log_reading.specs.Found.{Found, found_of};
+ghost use Rattle.log_reading.specs.Page.{HasRoom, Spends, Follows, Advances, StopsIn, StopsWithin, to_come};
+
+use crate::{Page, TakeFault, Taker};
+use line_input::{Columns, FieldsList, LineReader, Next, Taken};
+use lp_outside::Name;
+use std::alloc::Global;
+
+// Hands the rows of a line to the taker.
+fn take_rows<T: Taker<O>, O>(
+    alloc: Global,
+    identity: &Name,
+    number: u64,
+    columns: &Option<Columns>,
+    line: &[u8],
+    list: &FieldsList,
+    taker: &mut T,
+    out: &mut O,
+) -> Result<(), TakeFault>
+    requires number { number < 2 ^ 63 }
+    requires room { T.count taker.old + length list.now < 2 ^ 63 }
+    ensures takes { OnOk result (T.takes taker.old out.old (found_of identity.now (records_read number columns.now (rows (map (slots_of line.now) list.now)))) taker.new out.new) }
+    ensures stops { OnErr result (T.stops taker.old out.old (found_of identity.now (records_read number columns.now (rows (map (slots_of line.now) list.now)))) taker.new out.new) }
+    ensures count { OnOk result (T.count taker.new ≡ T.count taker.old + length list.now) }
+    ensures later { T.faults out.old ≤ T.faults out.new }
+    ensures failed { IsErrOf result TakeFault.Failed → Rose (T.faults out.old) (T.faults out.new) }
+{
+    for fields in list.as_slice() {
+        taker.take(alloc, identity, number, columns, line, fields, out)?;
+    }
+    Ok(())
+}
+
+// Takes the line that the splitter handed out.
+fn take_text<R: LineReader, T: Taker<O>, O>(
+    alloc: Global,
+    reader: &R,
+    identity: &Name,
+    page: &mut Page<T>,
+    out: &mut O,
+) -> Result<(), TakeFault>
+    requires { HasRoom T.count page.old (length page.old.splitter.line + 1) }
+    ensures takes { OnOk result ((line : Line) → line.number ≡ page.old.standing.lines + 1 → line.text ≡ page.old.splitter.line → is_overlong line.text ≡ false
+        → Follows T.takes (R.format reader.now) identity.now (line ∷ []) page.old page.new out.old out.new) }
+    ensures stops { OnErr result ((line : Line) → line.number ≡ page.old.standing.lines + 1 → line.text ≡ page.old.splitter.line → is_overlong line.text ≡ false
+        → StopsIn T.stops (R.format reader.now) identity.now (line ∷ []) page.old page.new out.old out.new) }
+    ensures lines { OnOk result (page.new.standing.lines ≡ page.old.standing.lines + 1) }
+    ensures rows { OnOk result (page.new.rows ≤ page.old.rows + length page.old.splitter.line + 1) }
+    ensures bad { OnOk result (page.new.bad ≤ page.old.bad + 1) }
+    ensures count { OnOk result (T.count page.new.taker ≤ T.count page.old.taker + length page.old.splitter.line + 1) }
+    ensures splitter { page.new.splitter ≡ page.old.splitter }
+    ensures later { T.faults out.old ≤ T.faults out.new }
+    ensures failed { IsErrOf result TakeFault.Failed → Rose (T.faults out.old) (T.faults out.new) }
+{
+    let number = page.standing.lines() + 1;
+    match reader.take_line(alloc, &mut page.standing, page.splitter.line()) {
+        Ok(Taken::Rows(list)) => {
+            take_rows(
+                alloc,
+                identity,
+                number,
+                page.standing.columns(),
+                page.splitter.line(),
+                &list,
+                &mut page.taker,
+                out,
+            )?;
+            page.rows += list.len() as u64;
+            Ok(())
+        }
+        Ok(Taken::Bad) => {
+            page.bad += 1;
+            Ok(())
+        }
+        Ok(Taken::Passed) => Ok(()),
+        Err(_) => Err(TakeFault::Memory),
+    }
+}
+
+// Passes a line that is too long.
+fn pass_overlong<T>(page: &mut Page<T>)
+    requires lines { page.old.standing.lines < 2 ^ 63 }
+    requires bad { page.old.bad + 1 < 2 ^ 63 }
+    ensures taker { page.new.taker ≡ page.old.taker }
+    ensures splitter { page.new.splitter ≡ page.old.splitter }
+    ensures lines { page.new.standing.lines ≡ page.old.standing.lines + 1 }
+    ensures columns { page.new.standing.columns ≡ page.old.standing.columns }
+    ensures rows { page.new.rows ≡ page.old.rows }
+    ensures bad { page.new.bad ≡ page.old.bad + 1 }
+{
+    page.standing.pass_line();
+    page.bad += 1;
+}
+
+/// Takes the next line that LF ends, and tells whether there was one.
+pub fn take_next<R: LineReader, T: Taker<O>, O>(
+    alloc: Global,
+    reader: &R,
+    identity: &Name,
+    page: &mut Page<T>,
+    out: &mut O,
+) -> Result<bool, TakeFault>
+    requires { HasRoom T.count page.old (length page.old.splitter.left + 1) }
+    ensures advances { OnOk result ((waits : Bool) → Advances T.takes (R.format reader.now) identity.now waits [] page.old page.new out.old out.new) }
+    ensures stops { OnErr result ((waits : Bool) → StopsWithin T.stops (R.format reader.now) identity.now waits [] page.old page.new out.old out.new) }
+    ensures spends { OnOk result (Spends T.count page.old page.new 0) }
+    ensures end { OnOk result (page.new.splitter.place + length page.new.splitter.left ≡ page.old.splitter.place + length page.old.splitter.left) }
+    ensures shorter { IfOk result (λ more. IsTrue more → length page.new.splitter.left < length page.old.splitter.left) }
+    ensures last { IfOk result (λ more. IsFalse more → length page.new.splitter.left ≤ position_or_len is_lf page.new.splitter.left) }
+    ensures later { T.faults out.old ≤ T.faults out.new }
+    ensures failed { IsErrOf result TakeFault.Failed → Rose (T.faults out.old) (T.faults out.new) }
+{
+    match page.splitter.next_line() {
+        Next::NeedMore => Ok(false),
+        Next::TooLongLine => {
+            pass_overlong(page);
+            Ok(true)
+        }
+        Next::Line => {
+            take_text(alloc, reader, identity, page, out)?;
+            Ok(true)
+        }
+    }
+}
+
+/// Takes what stands behind the last LF, where it has a text.
+pub fn take_rest<R: LineReader, T: Taker<O>, O>(
+    alloc: Global,
+    reader: &R,
+    identity: &Name,
+    page: &mut Page<T>,
+    out: &mut O,
+) -> Result<(), TakeFault>
+    requires room { HasRoom T.count page.old (length page.old.splitter.left + 1) }
+    requires last { length page.old.splitter.left ≤ position_or_len is_lf page.old.splitter.left }
+    ensures takes { OnOk result (Follows T.takes (R.format reader.now) identity.now (to_come false page.old []) page.old page.new out.old out.new) }
+    ensures stops { OnErr result (StopsIn T.stops (R.format reader.now) identity.now (to_come false page.old []) page.old page.new out.old out.new) }
+    ensures spends { OnOk result (Spends T.count page.old page.new 1) }
+    ensures later { T.faults out.old ≤ T.faults out.new }
+    ensures failed { IsErrOf result TakeFault.Failed → Rose (T.faults out.old) (T.faults out.new) }
+{
+    match page.splitter.unended() {
+        Next::NeedMore => Ok(()),
+        Next::TooLongLine => {
+            pass_overlong(page);
+            Ok(())
+        }
+        Next::Line => {
+            take_text(alloc, reader, identity, page, out)?;
+            Ok(())
+        }
+    }
+}

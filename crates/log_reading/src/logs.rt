@@ -1,0 +1,244 @@
+// A log up to its cut, to a taker.
+ghost use Rattle.std.specs.Prelude.{◌≡◌, ◌≤◌, ◌<◌, ◌^◌, ◌+◌, ◌-◌, ◌++◌, ◌∷◌, [], ℕ, List, Bool, length, take, Option, OnOk, OnErr, IfOk, MatchResult, IsErrOf, true};
+ghost use Rattle.std.specs.List.{position_or_len};
+ghost use Rattle.lp_model.specs.Outside.{Rose, OnlyGrow, Told, bytes_in};
+ghost use Rattle.lp_model.specs.Lines.{is_lf};
+ghost use Rattle.log_reading.specs.Page.{HasRoom, Spends, Follows, StopsIn, to_come};
+ghost use Rattle.log_reading.specs.Spans.{HasRead, StopsReading, IsKept, TakesSpan, EndsSpan, span_found, cut_of, took_at, took_of};
+
+use crate::lines::take_rest;
+use crate::pieces::{read_some, take_piece};
+use crate::{Page, RunFault, Span, TakeFault, Taker, Took, TookList};
+use line_input::{LineReader, Splitter};
+use lp_outside::Logs;
+use std::alloc::{AllocError, Global};
+
+// Reads a piece of a log and takes its lines.
+fn read_piece<R: LineReader, L: Logs, T: Taker<O>, O>(
+    alloc: Global,
+    reader: &R,
+    logs: &mut L,
+    span: &Span,
+    chunk: &mut [u8],
+    page: &mut Page<T>,
+    out: &mut O,
+) -> Result<(), RunFault>
+    requires there { Told (L.folder logs.old) (λ folder. span.now.listed ≤ length (bytes_in folder span.now.name)) }
+    requires cut { span.now.listed ≤ 2 ^ 46 }
+    requires below { page.old.splitter.place + length page.old.splitter.left < span.now.listed }
+    requires chunk { 0 < length chunk.old }
+    requires room { HasRoom T.count page.old (span.now.listed - page.old.splitter.place + 1) }
+    ensures grows { OnlyGrow (L.folder logs.old) (L.folder logs.new) }
+    ensures read { OnOk result ((waits : Bool) → HasRead T.takes (R.format reader.now) span.now.identity waits (L.folder logs.new) span.now.name span.now.listed page.old page.new out.old out.new) }
+    ensures stops { OnErr result ((waits : Bool) → StopsReading T.stops (R.format reader.now) span.now.identity waits (L.folder logs.new) span.now.name span.now.listed page.old page.new out.old out.new) }
+    ensures longer { OnOk result (page.old.splitter.place + length page.old.splitter.left < page.new.splitter.place + length page.new.splitter.left) }
+    ensures fits { OnOk result (page.new.splitter.place + length page.new.splitter.left ≤ span.now.listed) }
+    ensures last { OnOk result (length page.new.splitter.left ≤ position_or_len is_lf page.new.splitter.left) }
+    ensures room { OnOk result (HasRoom T.count page.new (span.now.listed - page.new.splitter.place + 1)) }
+    ensures spends { OnOk result (Spends T.count page.old page.new ((page.new.splitter.place + length page.new.splitter.left) - (page.old.splitter.place + length page.old.splitter.left))) }
+    ensures given { OnOk result (L.given logs.new + (page.old.splitter.place + length page.old.splitter.left) ≡ L.given logs.old + (page.new.splitter.place + length page.new.splitter.left)) }
+    ensures given_at_most { OnErr result (L.given logs.new + (page.old.splitter.place + length page.old.splitter.left) ≤ L.given logs.old + span.now.listed) }
+    ensures later_logs { L.faults logs.old ≤ L.faults logs.new }
+    ensures logs { IsErrOf result RunFault.Logs → Rose (L.faults logs.old) (L.faults logs.new) }
+    ensures later { T.faults out.old ≤ T.faults out.new }
+    ensures output { IsErrOf result RunFault.Output → Rose (T.faults out.old) (T.faults out.new) }
+{
+    let at = page.splitter.end();
+    let count = match read_some(logs, &span.name, at, span.listed, chunk) {
+        Ok(count) => count,
+        Err(_) => return Err(RunFault::Logs),
+    };
+    match take_piece(alloc, reader, &span.identity, &chunk[..count], page, out) {
+        Ok(()) => Ok(()),
+        Err(TakeFault::Memory) => Err(RunFault::Memory),
+        Err(TakeFault::Failed) => Err(RunFault::Output),
+    }
+}
+
+// Reads a log up to its cut and takes its lines that LF ends.
+fn read_log<R: LineReader, L: Logs, T: Taker<O>, O>(
+    alloc: Global,
+    reader: &R,
+    logs: &mut L,
+    span: &Span,
+    chunk: &mut [u8],
+    page: &mut Page<T>,
+    out: &mut O,
+) -> Result<(), RunFault>
+    requires there { Told (L.folder logs.old) (λ folder. span.now.listed ≤ length (bytes_in folder span.now.name)) }
+    requires cut { span.now.listed ≤ 2 ^ 46 }
+    requires start { page.old.splitter.place ≤ span.now.listed }
+    requires empty { page.old.splitter.left ≡ [] }
+    requires chunk { 0 < length chunk.old }
+    requires room { HasRoom T.count page.old (span.now.listed - page.old.splitter.place + 1) }
+    ensures grows { OnlyGrow (L.folder logs.old) (L.folder logs.new) }
+    ensures read { OnOk result ((waits : Bool) → HasRead T.takes (R.format reader.now) span.now.identity waits (L.folder logs.new) span.now.name span.now.listed page.old page.new out.old out.new) }
+    ensures stops { OnErr result ((waits : Bool) → StopsReading T.stops (R.format reader.now) span.now.identity waits (L.folder logs.new) span.now.name span.now.listed page.old page.new out.old out.new) }
+    ensures whole { OnOk result (page.new.splitter.place + length page.new.splitter.left ≡ span.now.listed) }
+    ensures last { OnOk result (length page.new.splitter.left ≤ position_or_len is_lf page.new.splitter.left) }
+    ensures room { OnOk result (HasRoom T.count page.new (span.now.listed - page.new.splitter.place + 1)) }
+    ensures spends { OnOk result (Spends T.count page.old page.new (span.now.listed - page.old.splitter.place)) }
+    ensures given { L.given logs.new + page.old.splitter.place ≤ L.given logs.old + span.now.listed }
+    ensures later_logs { L.faults logs.old ≤ L.faults logs.new }
+    ensures logs { IsErrOf result RunFault.Logs → Rose (L.faults logs.old) (L.faults logs.new) }
+    ensures later { T.faults out.old ≤ T.faults out.new }
+    ensures output { IsErrOf result RunFault.Output → Rose (T.faults out.old) (T.faults out.new) }
+{
+    'log: while page.splitter.end() < span.listed {
+        read_piece(alloc, reader, logs, span, chunk, page, out)?;
+    }
+    Ok(())
+}
+
+// Begins with a log.
+fn start_log<T>(
+    alloc: Global,
+    span: &Span,
+    page: &mut Page<T>,
+) -> Result<(), AllocError>
+    ensures taker { page.new.taker ≡ page.old.taker }
+    ensures rows { page.new.rows ≡ page.old.rows }
+    ensures bad { page.new.bad ≡ page.old.bad }
+    ensures place { OnOk result (page.new.splitter.place ≡ span.now.from) }
+    ensures left { OnOk result (page.new.splitter.left ≡ []) }
+    ensures standing { OnOk result (page.new.standing ≡ span.now.standing) }
+{
+    let standing = span.standing.copy(alloc)?;
+    page.standing = standing;
+    page.splitter = Splitter::new(alloc, span.from);
+    Ok(())
+}
+
+// Takes what stands behind the last LF, unless lines wait for their LF.
+fn finish_log<R: LineReader, T: Taker<O>, O>(
+    alloc: Global,
+    reader: &R,
+    waits: bool,
+    span: &Span,
+    page: &mut Page<T>,
+    out: &mut O,
+) -> Result<(), TakeFault>
+    requires room { HasRoom T.count page.old (length page.old.splitter.left + 1) }
+    requires last { length page.old.splitter.left ≤ position_or_len is_lf page.old.splitter.left }
+    ensures takes { OnOk result (Follows T.takes (R.format reader.now) span.now.identity (to_come waits page.old []) page.old page.new out.old out.new) }
+    ensures stops { OnErr result (StopsIn T.stops (R.format reader.now) span.now.identity (to_come waits page.old []) page.old page.new out.old out.new) }
+    ensures spends { OnOk result (Spends T.count page.old page.new 1) }
+    ensures place { waits ≡ true → page.new.splitter ≡ page.old.splitter }
+    ensures later { T.faults out.old ≤ T.faults out.new }
+    ensures failed { IsErrOf result TakeFault.Failed → Rose (T.faults out.old) (T.faults out.new) }
+{
+    if waits {
+        Ok(())
+    } else {
+        take_rest(alloc, reader, &span.identity, page, out)?;
+        Ok(())
+    }
+}
+
+/// Takes the rows of a span.
+fn take_span<R: LineReader, L: Logs, T: Taker<O>, O>(
+    alloc: Global,
+    reader: &R,
+    waits: bool,
+    logs: &mut L,
+    span: &Span,
+    chunk: &mut [u8],
+    page: &mut Page<T>,
+    out: &mut O,
+) -> Result<(), RunFault>
+    requires there { Told (L.folder logs.old) (λ folder. span.now.listed ≤ length (bytes_in folder span.now.name)) }
+    requires cut { span.now.listed ≤ 2 ^ 46 }
+    requires start { span.now.from ≤ span.now.listed }
+    requires lines { span.now.standing.lines ≤ span.now.from }
+    requires chunk { 0 < length chunk.old }
+    requires rows { page.old.rows + (span.now.listed - span.now.from) + 1 < 2 ^ 63 }
+    requires bad { page.old.bad + (span.now.listed - span.now.from) + 1 < 2 ^ 63 }
+    requires taken { T.count page.old.taker + (span.now.listed - span.now.from) + 1 < 2 ^ 63 }
+    ensures grows { OnlyGrow (L.folder logs.old) (L.folder logs.new) }
+    ensures takes { OnOk result (Told (L.folder logs.new) (λ folder. IsKept (R.format reader.now) waits (cut_of folder span.now) span.now
+        → TakesSpan T.takes (R.format reader.now) waits folder span.now page.old page.new out.old out.new)) }
+    ensures stops { OnErr result (Told (L.folder logs.new) (λ folder. IsKept (R.format reader.now) waits (cut_of folder span.now) span.now
+        → T.stops page.old.taker out.old (span_found (R.format reader.now) waits folder span.now) page.new.taker out.new)) }
+    ensures ends { OnOk result (waits ≡ true → Told (L.folder logs.new) (λ folder. IsKept (R.format reader.now) true (cut_of folder span.now) span.now
+        → EndsSpan (R.format reader.now) folder span.now page.new)) }
+    ensures rows { OnOk result (page.new.rows ≤ page.old.rows + (span.now.listed - span.now.from) + 1) }
+    ensures bad { OnOk result (page.new.bad ≤ page.old.bad + (span.now.listed - span.now.from) + 1) }
+    ensures taken { OnOk result (T.count page.new.taker ≤ T.count page.old.taker + (span.now.listed - span.now.from) + 1) }
+    ensures given { L.given logs.new + span.now.from ≤ L.given logs.old + span.now.listed }
+    ensures later_logs { L.faults logs.old ≤ L.faults logs.new }
+    ensures logs { IsErrOf result RunFault.Logs → Rose (L.faults logs.old) (L.faults logs.new) }
+    ensures later { T.faults out.old ≤ T.faults out.new }
+    ensures output { IsErrOf result RunFault.Output → Rose (T.faults out.old) (T.faults out.new) }
+{
+    let Ok(()) = start_log(alloc, span, page) else {
+        return Err(RunFault::Memory);
+    };
+    read_log(alloc, reader, logs, span, chunk, page, out)?;
+    match finish_log(alloc, reader, waits, span, page, out) {
+        Ok(()) => Ok(()),
+        Err(TakeFault::Memory) => Err(RunFault::Memory),
+        Err(TakeFault::Failed) => Err(RunFault::Output),
+    }
+}
+
+// Notes what was taken of a log.
+fn note_span<T>(
+    alloc: Global,
+    span: &Span,
+    page: &Page<T>,
+    took: &mut TookList,
+) -> Result<(), AllocError>
+    ensures { OnOk result (took.new ≡ took.old ++ took_at span.now.identity span.now.from page.now.splitter.place page.now.standing ∷ []) }
+{
+    let standing = page.standing.copy(alloc)?;
+    took.push(Took {
+        identity: span.identity.copy(),
+        from: span.from,
+        to: page.splitter.place(),
+        standing,
+    })?;
+    Ok(())
+}
+
+/// Takes the rows of a span, and notes it.
+pub fn take_noted<R: LineReader, L: Logs, T: Taker<O>, O>(
+    alloc: Global,
+    reader: &R,
+    waits: bool,
+    logs: &mut L,
+    span: &Span,
+    chunk: &mut [u8],
+    page: &mut Page<T>,
+    took: &mut TookList,
+    out: &mut O,
+) -> Result<(), RunFault>
+    requires there { Told (L.folder logs.old) (λ folder. span.now.listed ≤ length (bytes_in folder span.now.name)) }
+    requires cut { span.now.listed ≤ 2 ^ 46 }
+    requires start { span.now.from ≤ span.now.listed }
+    requires lines { span.now.standing.lines ≤ span.now.from }
+    requires chunk { 0 < length chunk.old }
+    requires rows { page.old.rows + (span.now.listed - span.now.from) + 1 < 2 ^ 63 }
+    requires bad { page.old.bad + (span.now.listed - span.now.from) + 1 < 2 ^ 63 }
+    requires taken { T.count page.old.taker + (span.now.listed - span.now.from) + 1 < 2 ^ 63 }
+    ensures grows { OnlyGrow (L.folder logs.old) (L.folder logs.new) }
+    ensures takes { OnOk result (Told (L.folder logs.new) (λ folder. IsKept (R.format reader.now) waits (cut_of folder span.now) span.now
+        → TakesSpan T.takes (R.format reader.now) waits folder span.now page.old page.new out.old out.new)) }
+    ensures stops { OnErr result (Told (L.folder logs.new) (λ folder. IsKept (R.format reader.now) waits (cut_of folder span.now) span.now
+        → T.stops page.old.taker out.old (span_found (R.format reader.now) waits folder span.now) page.new.taker out.new)) }
+    ensures took { OnOk result (waits ≡ true → Told (L.folder logs.new) (λ folder. IsKept (R.format reader.now) true (cut_of folder span.now) span.now
+        → took.new ≡ took.old ++ took_of (R.format reader.now) folder span.now ∷ [])) }
+    ensures rows { OnOk result (page.new.rows ≤ page.old.rows + (span.now.listed - span.now.from) + 1) }
+    ensures bad { OnOk result (page.new.bad ≤ page.old.bad + (span.now.listed - span.now.from) + 1) }
+    ensures taken { OnOk result (T.count page.new.taker ≤ T.count page.old.taker + (span.now.listed - span.now.from) + 1) }
+    ensures given { L.given logs.new + span.now.from ≤ L.given logs.old + span.now.listed }
+    ensures later_logs { L.faults logs.old ≤ L.faults logs.new }
+    ensures logs { IsErrOf result RunFault.Logs → Rose (L.faults logs.old) (L.faults logs.new) }
+    ensures later { T.faults out.old ≤ T.faults out.new }
+    ensures output { IsErrOf result RunFault.Output → Rose (T.faults out.old) (T.faults out.new) }
+{
+    take_span(alloc, reader, waits, logs, span, chunk, page, out)?;
+    match note_span(alloc, span, page, took) {
+        Ok(()) => Ok(()),
+        Err(_) => Err(RunFault::Memory),
+    }
+}

@@ -1,0 +1,14 @@
+// How far the reading of a log has come.
+use line_input::{Splitter, Standing};
+
+/// The state of the loop: what takes the rows, and how far the log is read.
+#[derive(Drop)]
+pub struct Page<T> {
+    pub taker: T,
+    pub splitter: Splitter,
+    pub standing: Standing,
+    /// Rows of all logs so far.
+    pub rows: u64,
+    /// Bad lines of all logs so far.
+    pub bad: u64,
+}

@@ -1,0 +1,89 @@
+// A log's bytes, piece by piece, to a taker.
+ghost use Rattle.std.specs.Prelude.{◌≡◌, ◌≤◌, ◌<◌, ◌^◌, ◌+◌, ◌-◌, ◌++◌, [], ℕ, List, Bool, length, take, Option, OnOk, OnErr, IfOk, MatchResult, IsErrOf};
+ghost use Rattle.std.specs.List.{position_or_len};
+ghost use Rattle.lp_model.specs.Outside.{Rose, HasCause, OnlyGrow, Told, bytes_in};
+ghost use Rattle.lp_model.specs.Lines.{is_lf};
+ghost use Rattle.lp_model.specs.Pieces.{IsPiece, rest_of};
+ghost use Rattle.log_reading.specs.Page.{HasRoom, Spends, Advances, StopsIn, StopsWithin, to_come};
+
+use crate::lines::take_next;
+use crate::{Page, TakeFault, Taker};
+use line_input::LineReader;
+use lp_outside::{Logs, LogsFailed, Name};
+use std::alloc::Global;
+
+/// Takes the lines that LF ends of what the splitter holds.
+pub fn take_lines<R: LineReader, T: Taker<O>, O>(
+    alloc: Global,
+    reader: &R,
+    identity: &Name,
+    page: &mut Page<T>,
+    out: &mut O,
+) -> Result<(), TakeFault>
+    requires { HasRoom T.count page.old (length page.old.splitter.left + 1) }
+    ensures advances { OnOk result ((waits : Bool) → Advances T.takes (R.format reader.now) identity.now waits [] page.old page.new out.old out.new) }
+    ensures stops { OnErr result ((waits : Bool) → StopsWithin T.stops (R.format reader.now) identity.now waits [] page.old page.new out.old out.new) }
+    ensures spends { OnOk result (Spends T.count page.old page.new 0) }
+    ensures end { OnOk result (page.new.splitter.place + length page.new.splitter.left ≡ page.old.splitter.place + length page.old.splitter.left) }
+    ensures last { OnOk result (length page.new.splitter.left ≤ position_or_len is_lf page.new.splitter.left) }
+    ensures later { T.faults out.old ≤ T.faults out.new }
+    ensures failed { IsErrOf result TakeFault.Failed → Rose (T.faults out.old) (T.faults out.new) }
+{
+    loop {
+        let more = take_next(alloc, reader, identity, page, out)?;
+        if !more {
+            break;
+        }
+    }
+    Ok(())
+}
+
+/// Takes the lines that LF ends, as far as they are there with this piece.
+pub fn take_piece<R: LineReader, T: Taker<O>, O>(
+    alloc: Global,
+    reader: &R,
+    identity: &Name,
+    piece: &[u8],
+    page: &mut Page<T>,
+    out: &mut O,
+) -> Result<(), TakeFault>
+    requires room { HasRoom T.count page.old (length page.old.splitter.left + length piece.now + 1) }
+    requires fits { page.old.splitter.place + length page.old.splitter.left + length piece.now < 2 ^ 64 }
+    ensures advances { OnOk result ((waits : Bool) → Advances T.takes (R.format reader.now) identity.now waits piece.now page.old page.new out.old out.new) }
+    ensures stops { OnErr result ((waits : Bool) → StopsWithin T.stops (R.format reader.now) identity.now waits piece.now page.old page.new out.old out.new) }
+    ensures spends { OnOk result (Spends T.count page.old page.new (length piece.now)) }
+    ensures end { OnOk result (page.new.splitter.place + length page.new.splitter.left ≡ page.old.splitter.place + length page.old.splitter.left + length piece.now) }
+    ensures last { OnOk result (length page.new.splitter.left ≤ position_or_len is_lf page.new.splitter.left) }
+    ensures later { T.faults out.old ≤ T.faults out.new }
+    ensures failed { IsErrOf result TakeFault.Failed → Rose (T.faults out.old) (T.faults out.new) }
+{
+    let Ok(()) = page.splitter.feed(piece) else {
+        return Err(TakeFault::Memory);
+    };
+    take_lines(alloc, reader, identity, page, out)?;
+    Ok(())
+}
+
+/// Reads some more of a log below a cut, at least one byte.
+pub fn read_some<L: Logs>(
+    logs: &mut L,
+    name: &Name,
+    at: u64,
+    cut: u64,
+    chunk: &mut [u8],
+) -> Result<usize, LogsFailed>
+    requires there { Told (L.folder logs.old) (λ folder. cut ≤ length (bytes_in folder name.now)) }
+    requires below { at < cut }
+    requires chunk { 0 < length chunk.old }
+    ensures grows { OnlyGrow (L.folder logs.old) (L.folder logs.new) }
+    ensures piece { IfOk result (λ count. IsPiece (L.folder logs.new) name.now at cut (take count chunk.new)) }
+    ensures some { IfOk result (λ count. 0 < count) }
+    ensures fits { IfOk result (λ count. count ≤ length chunk.new) }
+    ensures below { IfOk result (λ count. at + count ≤ cut) }
+    ensures given { MatchResult result (λ count. L.given logs.new ≡ L.given logs.old + count) (λ _. L.given logs.new ≡ L.given logs.old) }
+    ensures cause { HasCause (L.faults logs.old) (L.faults logs.new) result }
+{
+    let want = (cut - at).min(chunk.len() as u64) as usize;
+    let count = logs.read_at(name, at, &mut chunk[..want])?;
+    Ok(count)
+}

@@ -1,0 +1,47 @@
+// Logs, one after the other, to a taker.
+ghost use Rattle.std.specs.Prelude.{◌≡◌, ◌≤◌, ◌<◌, ◌^◌, ◌+◌, ◌-◌, ◌++◌, ℕ, List, Bool, true, length, map, Option, OnOk, OnErr, IfOk, IsErrOf};
+ghost use Rattle.lp_model.specs.Outside.{Rose, OnlyGrow, Told, bytes_in};
+ghost use Rattle.log_reading.specs.Spans.{AllSpans, IsSpan, AreKept, TakesSpans, spans_found, spans_size, took_of};
+
+use crate::logs::take_noted;
+use crate::{Page, RunFault, Span, Taker, TookList};
+use line_input::LineReader;
+use lp_outside::Logs;
+use std::alloc::Global;
+
+/// Takes the rows of spans, in order.
+pub fn take_spans<R: LineReader, L: Logs, T: Taker<O>, O>(
+    alloc: Global,
+    reader: &R,
+    waits: bool,
+    logs: &mut L,
+    spans: &[Span],
+    chunk: &mut [u8],
+    page: &mut Page<T>,
+    took: &mut TookList,
+    out: &mut O,
+) -> Result<(), RunFault>
+    requires there { Told (L.folder logs.old) (λ folder. AllSpans spans.now (λ span. span.listed ≤ length (bytes_in folder span.name))) }
+    requires spans { AllSpans spans.now IsSpan }
+    requires chunk { 0 < length chunk.old }
+    requires rows { page.old.rows + spans_size spans.now + length spans.now < 2 ^ 63 }
+    requires bad { page.old.bad + spans_size spans.now + length spans.now < 2 ^ 63 }
+    requires taken { T.count page.old.taker + spans_size spans.now + length spans.now < 2 ^ 63 }
+    ensures grows { OnlyGrow (L.folder logs.old) (L.folder logs.new) }
+    ensures takes { OnOk result (Told (L.folder logs.new) (λ folder. AreKept (R.format reader.now) waits spans.now folder
+        → TakesSpans T.takes (R.format reader.now) waits folder spans.now page.old page.new out.old out.new)) }
+    ensures stops { OnErr result (Told (L.folder logs.new) (λ folder. AreKept (R.format reader.now) waits spans.now folder
+        → T.stops page.old.taker out.old (spans_found (R.format reader.now) waits folder spans.now) page.new.taker out.new)) }
+    ensures took { OnOk result (waits ≡ true → Told (L.folder logs.new) (λ folder. AreKept (R.format reader.now) true spans.now folder
+        → took.new ≡ took.old ++ map (took_of (R.format reader.now) folder) spans.now)) }
+    ensures given { L.given logs.new ≤ L.given logs.old + spans_size spans.now }
+    ensures later_logs { L.faults logs.old ≤ L.faults logs.new }
+    ensures logs { IsErrOf result RunFault.Logs → Rose (L.faults logs.old) (L.faults logs.new) }
+    ensures later { T.faults out.old ≤ T.faults out.new }
+    ensures output { IsErrOf result RunFault.Output → Rose (T.faults out.old) (T.faults out.new) }
+{
+    for span in spans {
+        take_noted(alloc, reader, waits, logs, span, chunk, page, took, out)?;
+    }
+    Ok(())
+}

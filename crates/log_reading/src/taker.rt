@@ -1,0 +1,63 @@
+// What takes the rows of logs.
+ghost use Rattle.std.specs.Prelude.{◌≡◌, ◌≤◌, ◌<◌, ◌+◌, ◌^◌, ◌++◌, ◌∷◌, [], ℕ, List, OnOk, OnErr, IsErrOf};
+ghost use Rattle.lp_model.specs.Outside.{Rose};
+ghost use Rattle.lp_model.specs.Reading.{records_read, rows};
+ghost use Rattle.line_input.specs.Taken.{slots_of};
+ghost use Rattle.log_reading.specs.Found.{Found, found_of};
+
+use line_input::{Columns, Fields};
+use lp_outside::Name;
+use std::alloc::Global;
+
+#[derive(Debug, Drop)]
+pub enum TakeFault {
+    Memory,
+    /// The output failed.
+    Failed,
+}
+
+/// Takes rows, one after the other, with an output `O` at hand: a writer, a table of groups, a list of values.
+///
+/// The loop over logs knows a taker by the two relations and the five laws alone.
+pub trait Taker<O> {
+    /// From the first state and output it has taken these rows to the second state and output.
+    ghost takes: { Self → O → List Found → Self → O → Type 0 };
+
+    /// It stopped within these rows, and has left this state and output.
+    ghost stops: { Self → O → List Found → Self → O → Type 0 };
+
+    /// How many rows it has taken.
+    ghost count: { Self → ℕ };
+
+    /// How often the output has failed.
+    ghost faults: { O → ℕ };
+
+    /// Takes a row, whose fields may be parts of this line.
+    fn take(
+        &mut self,
+        alloc: Global,
+        identity: &Name,
+        number: u64,
+        columns: &Option<Columns>,
+        line: &[u8],
+        fields: &Fields,
+        out: &mut O,
+    ) -> Result<(), TakeFault>
+        requires number { number < 2 ^ 63 }
+        requires room { count self.old < 2 ^ 63 }
+        ensures takes { OnOk result (takes self.old out.old (found_of identity.now (records_read number columns.now (rows (slots_of line.now fields.now ∷ [])))) self.new out.new) }
+        ensures stops { OnErr result (stops self.old out.old (found_of identity.now (records_read number columns.now (rows (slots_of line.now fields.now ∷ [])))) self.new out.new) }
+        ensures count { OnOk result (count self.new ≡ count self.old + 1) }
+        ensures later { faults out.old ≤ faults out.new }
+        ensures failed { IsErrOf result TakeFault.Failed → Rose (faults out.old) (faults out.new) };
+
+    ghost takes_none: { (s : Self) (w : O) → takes s w [] s w };
+
+    ghost takes_more: { (a b c : Self) (u v w : O) (xs ys : List Found) → takes a u xs b v → takes b v ys c w → takes a u (xs ++ ys) c w };
+
+    ghost stops_here: { (a b : Self) (u v : O) (xs ys : List Found) → takes a u xs b v → stops a u (xs ++ ys) b v };
+
+    ghost stops_later: { (a b c : Self) (u v w : O) (xs ys : List Found) → takes a u xs b v → stops b v ys c w → stops a u (xs ++ ys) c w };
+
+    ghost stops_more: { (a c : Self) (u w : O) (xs ys : List Found) → stops a u xs c w → stops a u (xs ++ ys) c w };
+}

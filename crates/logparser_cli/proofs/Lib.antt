@@ -1,0 +1,4 @@
+pub mod Prefix
+pub mod Reporting
+pub mod WholeLog
+pub mod Cuts

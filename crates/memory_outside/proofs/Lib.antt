@@ -1,0 +1,5 @@
+pub mod OneFile
+pub mod Listings
+pub mod MemorySteps
+pub mod Replayed
+pub mod DiskCalls

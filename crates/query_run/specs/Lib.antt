@@ -1,0 +1,4 @@
+pub mod Output
+pub mod Rows
+pub mod Writer
+pub mod Writing

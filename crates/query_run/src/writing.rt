@@ -1,0 +1,66 @@
+// How a writer takes rows.
+ghost use Rattle.std.specs.Prelude.{◌≡◌, ◌≤◌, ◌<◌, ◌+◌, ◌^◌, ◌++◌, ◌∷◌, [], ℕ, List, Bool, length, Option, OnOk, OnErr, IfOk, IsErrOf};
+ghost use Rattle.query_run.specs.Writer.{Writes, Halts};
+ghost use Rattle.query_run.specs.Writing.{writes_none, writes_more, halts_here, halts_later, halts_more};
+
+use crate::output::put_row;
+use crate::{Picker, Writer};
+use line_input::{Columns, Fields};
+use log_reading::{TakeFault, Taker};
+use lp_outside::{Name, Sink};
+use output_formats::Shape;
+use std::alloc::Global;
+
+impl<F: Shape + Drop, P: Picker + Drop, S: Sink> Taker<S> for Writer<F, P> {
+    ghost takes = { λ a u xs b v. Writes F.text F.has_text P.picks a (S.written u) xs b (S.written v) };
+
+    ghost stops = { λ a u xs b v. Halts F.text F.has_text P.picks a (S.written u) xs (S.written v) };
+
+    ghost count = { λ w. w.taken };
+
+    ghost faults = { S.faults };
+
+    fn take(
+        &mut self,
+        alloc: Global,
+        identity: &Name,
+        number: u64,
+        columns: &Option<Columns>,
+        line: &[u8],
+        fields: &Fields,
+        out: &mut S,
+    ) -> Result<(), TakeFault> {
+        let picked = self.picker.pick(
+            alloc,
+            identity,
+            number,
+            columns,
+            line,
+            fields,
+            &mut self.row,
+        );
+        match picked {
+            Err(_) => Err(TakeFault::Memory),
+            Ok(false) => {
+                self.taken += 1;
+                Ok(())
+            }
+            Ok(true) => {
+                put_row(&mut self.shape, &self.row, &mut self.buffer, out)?;
+                self.taken += 1;
+                self.output += 1;
+                Ok(())
+            }
+        }
+    }
+
+    ghost takes_none = { λ s w. writes_none F.text F.has_text P.picks s (S.written w) };
+
+    ghost takes_more = { λ a b c u v w. writes_more F.text F.has_text P.picks a b c (S.written u) (S.written v) (S.written w) };
+
+    ghost stops_here = { λ a b u v. halts_here F.text F.has_text P.picks F.begins a b (S.written u) (S.written v) };
+
+    ghost stops_later = { λ a b c u v w. halts_later F.text F.has_text P.picks a b (S.written u) (S.written v) (S.written w) };
+
+    ghost stops_more = { λ a c u w. halts_more F.text F.has_text P.picks a (S.written u) (S.written w) };
+}
