@@ -1,17 +1,14 @@
 -- A pattern reads back what it wrote.
-use Rattle.std.proofs.Common.{◌≡◌, ℕ, zero, suc, ◌+◌, ◌*◌, ◌<◌, ◌≤◌, Bool, true, false, not, ◌&&◌, ◌||◌, List, [], ◌∷◌, ◌++◌, length, drop, Option, Some, None, refl, sym, ◌∙◌, ap, arith, ℤ, pos, ◌+ℤ◌, le-leb, lt-ltb, nat_eq, if◌then◌else◌, nat_lt, nat_le}
+use Rattle.std.proofs.Common.{◌≡◌, ℕ, zero, suc, ◌<◌, ◌≤◌, true, not, List, [], ◌∷◌, ◌++◌, Some, refl, ◌∙◌, ap, arith}
 use Rattle.std.specs.Cmp.{first_so, second_so}
-use Rattle.std.specs.Char.{is_ascii_digit}
-use Rattle.std.specs.Option.{option_and_then, option_map_or}
+use Rattle.std.specs.Option.{option_and_then}
 use Rattle.std.proofs.Math.Seq.{drop-append_seam}
-use Rattle.jiff_core.specs.Calendar.{days_in_month}
 use Rattle.lp_values.specs.declared.civil.Civil.{Civil}
 use Rattle.lp_time.specs.declared.field.Field.{Field}
 use Rattle.lp_time.specs.declared.field.Field.TheVariants as F
 use Rattle.lp_time.specs.declared.piece.Piece.{Piece}
 use Rattle.lp_time.specs.declared.piece.Piece.TheVariants.{Padded, Short, MonthName, Other}
-use Rattle.lp_time.specs.Patterns.{field_of, is_same_field, has_field}
-use Rattle.lp_time.specs.Readings.{read_onto, taken, taken_digits, with_field, with_piece, is_existing, month_names}
+use Rattle.lp_time.specs.Readings.{read_onto, taken, with_piece}
 use Rattle.lp_time.specs.ReadsBack.{is_clear, may_begin_with_digit}
 use Rattle.lp_time.specs.Writings.{number_of, padded_text, written_piece, written}
 use Rattle.lp_time.proofs.PieceLemmas.{is_bare, two_back, four_back, short_back, month_back, other_back}

@@ -1,5 +1,5 @@
 -- Days and times of day.
-use Rattle.std.proofs.Common.{◌≡◌, ℕ, ◌+◌, ◌%◌, ◌<◌, ℤ, pos, ◌+ℤ◌, ◌-ℤ◌, arith, ap, unsigned_abs}
+use Rattle.std.proofs.Common.{◌≡◌, ℕ, ◌<◌, ℤ, pos, arith}
 use Rattle.std.proofs.lemmas.Int.{ints}
 use Rattle.lp_values.specs.Moments.{second_of_day}
 use Rattle.lp_values.specs.Stamps.{IsInYears}

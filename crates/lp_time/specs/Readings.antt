@@ -1,5 +1,5 @@
 -- Texts read by a pattern.
-use Rattle.std.specs.Prelude.{ℕ, ◌+◌, ◌*◌, Bool, true, false, ◌&&◌, ◌||◌, List, [], ◌∷◌, length, take, drop, map, codes, ◌==◌, nat_eq, nat_le, nat_lt, if◌then◌else◌, ℤ, pos, ◌+ℤ◌, Option, Some, None, option_map, option_and_then, position}
+use Rattle.std.specs.Prelude.{ℕ, ◌+◌, Bool, ◌&&◌, ◌||◌, List, [], ◌∷◌, length, take, drop, map, codes, nat_eq, nat_le, nat_lt, if◌then◌else◌, ℤ, pos, ◌+ℤ◌, Option, Some, None, option_map, option_and_then, position}
 use Rattle.std.specs.Char.{to_ascii_lowercase}
 use Rattle.std.specs.Cmp.Lexicographic.{pointwise}
 use Rattle.std.specs.List.{starts_with}
