@@ -1,11 +1,11 @@
 -- Days and times of day.
-use Rattle.std.proofs.Common.{◌≡◌, ℕ, ◌+◌, ◌%◌, ◌<◌, ℤ, pos, ◌+ℤ◌, ◌-ℤ◌, arith, ap, unsigned_abs}
+use Rattle.std.proofs.Common.{◌≡◌, ℕ, ◌<◌, ℤ, pos, arith}
 use Rattle.std.proofs.lemmas.Int.{ints}
 use Rattle.lp_values.specs.Moments.{second_of_day}
 use Rattle.lp_values.specs.Stamps.{IsInYears}
 use Rattle.lp_time.specs.Days.{day_start, joined}
 
-first_second : (x : ℕ) → x < 86_400 → second_of_day (pos x) ≡ x
+pub first_second : (x : ℕ) → x < 86_400 → second_of_day (pos x) ≡ x
 first_second x lt = omega arith
 
 -- a day and a time of day give the moment back

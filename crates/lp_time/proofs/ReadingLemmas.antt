@@ -1,9 +1,8 @@
 -- Reading a text piece by piece.
-use Rattle.std.proofs.Common.{◌≡◌, ℕ, zero, suc, ◌+◌, ◌<◌, ◌≤◌, Bool, true, false, ◌&&◌, List, [], ◌∷◌, length, drop, get_or, Option, Some, None, option_map, refl, sym, ◌∙◌, ap, arith, ℤ, pos, ◌≤ℤ◌, add-one, drop-cons, ◌==◌, if◌then◌else◌}
+use Rattle.std.proofs.Common.{◌≡◌, ℕ, suc, ◌+◌, ◌<◌, ◌≤◌, true, false, List, [], ◌∷◌, length, drop, get_or, Some, None, refl, sym, ◌∙◌, ap, arith, pos, ◌≤ℤ◌, add-one, drop-cons, ◌==◌, if◌then◌else◌}
 use Rattle.std.proofs.Math.Dec.{eqb-suc-zero}
 use Rattle.std.proofs.Math.ListN.{drop_of_length-le}
 use Rattle.std.proofs.lemmas.Bool.Decides.{nat_tests}
-use Rattle.std.specs.Cmp.{first_so, second_so}
 use Rattle.std.specs.Option.{option_and_then}
 use Rattle.jiff_core.specs.Calendar.{days_in_month, day_count}
 use Rattle.jiff_core.specs.declared.civil.date.Date.{Date}

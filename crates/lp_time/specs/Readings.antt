@@ -1,11 +1,12 @@
 -- Texts read by a pattern.
-use Rattle.std.specs.Prelude.{ℕ, ◌+◌, ◌*◌, Bool, true, false, ◌&&◌, ◌||◌, List, [], ◌∷◌, length, take, drop, map, codes, ◌==◌, nat_eq, nat_le, nat_lt, if◌then◌else◌, ℤ, pos, ◌+ℤ◌, ◌*ℤ◌, Option, Some, None, option_map, option_and_then, position}
+use Rattle.std.specs.Prelude.{ℕ, ◌+◌, Bool, ◌&&◌, ◌||◌, List, [], ◌∷◌, length, take, drop, map, codes, nat_eq, nat_le, nat_lt, if◌then◌else◌, ℤ, pos, ◌+ℤ◌, Option, Some, None, option_map, option_and_then, position}
 use Rattle.std.specs.Char.{to_ascii_lowercase}
 use Rattle.std.specs.Cmp.Lexicographic.{pointwise}
 use Rattle.std.specs.List.{starts_with}
 use Rattle.std.specs.Str.Parse.{digits_value}
-use Rattle.jiff_core.specs.Calendar.{days_from_civil, days_in_month}
+use Rattle.jiff_core.specs.Calendar.{days_in_month}
 use Rattle.lp_values.specs.declared.civil.Civil.{Civil}
+use Rattle.lp_values.specs.Civil.{day_seconds, time_seconds}
 use Rattle.lp_values.specs.declared.part.Part.{Part}
 use Rattle.lp_values.specs.declared.part.Part.TheVariants.{Date, Time, Both}
 use Rattle.lp_values.specs.Readings.{is_digits}
@@ -97,12 +98,6 @@ is_existing civil =
     nat_le 1 civil.year && nat_le civil.year 9999 && nat_le 1 civil.month && nat_le civil.month 12
     && nat_le 1 civil.day && nat_le civil.day (days_in_month (pos civil.year) civil.month)
     && nat_lt civil.hour 24 && nat_lt civil.minute 60 && nat_lt civil.second 60
-
-abbrev pub day_seconds : Civil → ℤ
-day_seconds civil = days_from_civil (pos civil.year) civil.month civil.day *ℤ pos 86_400
-
-abbrev pub time_seconds : Civil → ℕ
-time_seconds civil = civil.hour * 3600 + civil.minute * 60 + civil.second
 
 -- a time lies in the first day of 1970
 abbrev pub unix_seconds : Part → Civil → ℤ

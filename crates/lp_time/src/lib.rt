@@ -1,4 +1,8 @@
 //! Patterns of dates and times, and calls on stamps.
+//!
+//! A crate above may rely on the exact meaning of each call: which texts are patterns and where the first fault is, which
+//! stamp a text is by a pattern and what a stamp is written as, that the one reads back what the other wrote, and what a
+//! stamp's day, time of day and step are. No call but `write_stamp` takes memory. `specs` has the definitions.
 #![tactic(auto)]
 
 mod character;

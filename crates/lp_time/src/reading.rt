@@ -1,10 +1,11 @@
 // Reading texts as stamps.
 ghost use Rattle.std.specs.Prelude.{◌≡◌, ◌<◌, ◌≤ℤ◌, pos, neg_ℤ, true, Some, option_map, IfSome};
 ghost use Rattle.jiff_core.specs.Calendar.{days_from_civil, IsBetween};
+ghost use Rattle.lp_values.specs.Civil.{day_seconds, time_seconds};
 ghost use Rattle.lp_values.specs.Moments.{second_of_day};
 ghost use Rattle.lp_values.specs.Stamps.{IsInYears};
 ghost use Rattle.lp_time.specs.Patterns.{field_of};
-ghost use Rattle.lp_time.specs.Readings.{room_of, with_field, with_piece, read_onto, missing_parts, part_of, is_existing, day_seconds, time_seconds, existing_seconds, seconds_in};
+ghost use Rattle.lp_time.specs.Readings.{room_of, with_field, with_piece, read_onto, missing_parts, part_of, is_existing, existing_seconds, seconds_in};
 
 use crate::days::moment;
 use crate::taking::taken;

@@ -2,6 +2,7 @@
 ghost use Rattle.std.specs.Prelude.{◌≡◌, ◌≤◌, ◌<◌, ◌-◌, ◌++◌, [], length, take, slice_index_or, OnOk, OnErr};
 ghost use Rattle.lp_values.specs.Civil.{civil_of};
 ghost use Rattle.lp_time.specs.Readings.{month_names};
+ghost use Rattle.lp_time.specs.ReadsBack.{ReadsBack};
 ghost use Rattle.lp_time.specs.Writings.{number_of, padded_text, written_piece, written};
 
 use crate::taking::MONTH_NAMES;
@@ -14,6 +15,7 @@ use std::alloc::AllocError;
 pub fn write_stamp(pattern: &Pattern, stamp: Stamp, to: &mut Bytes) -> Result<(), AllocError>
     ensures ok { OnOk result (to.new ≡ to.old ++ written pattern.now (civil_of stamp.seconds)) }
     ensures err { OnErr result (to.new ≡ to.old) }
+    ensures reads_back { ReadsBack pattern.now stamp }
 {
     let before = to.len();
     match add_pieces(pattern.as_slice(), Civil::of(stamp.seconds), to) {

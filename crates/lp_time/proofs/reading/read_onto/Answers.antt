@@ -1,4 +1,4 @@
-use Rattle.std.proofs.Common.{◌≡◌, ◌+◌, drop, ◌∙◌, ap, sym, Bool, Option, Some, None, if◌then◌else◌}
+use Rattle.std.proofs.Common.{◌+◌, drop, ◌∙◌, ap, sym, Bool, Option, Some, None, if◌then◌else◌}
 use Rattle.lp_values.specs.declared.civil.Civil.{Civil}
 use Rattle.lp_time.specs.Readings.{read_onto}
 use Rattle.lp_time.proofs.ReadingLemmas.{read_on, read_none, read_end}

@@ -1,4 +1,4 @@
-use Rattle.std.proofs.Common.{◌≡◌, ◌∙◌, ap, sym, ℕ, List, Ok, Err, Result, if◌then◌else◌, Bool}
+use Rattle.std.proofs.Common.{◌∙◌, ap, sym, ℕ, List, Ok, Err, Result, if◌then◌else◌, Bool}
 use Rattle.lp_time.specs.declared.piece.Piece.{Piece}
 use Rattle.lp_time.specs.Patterns.{pattern_in}
 use Rattle.lp_time.proofs.PatternLemmas.{read_step, read_fault, read_end}
