@@ -52,12 +52,12 @@ torn_same from to a = record { before = take_short; after = refl; no_shorter = o
 
 pub torn_overwritten : (old : List ℕ) (place : ℕ) (bytes : List ℕ) → Torn (start_of old place) (place + length bytes) old (overwritten old place bytes)
 torn_overwritten old place bytes =
-    let gap = replicate (place - length old) 0 in
-    let front = take place (old ++ gap) in
+    let gap : List ℕ = replicate (place - length old) 0 in
+    let front : List ℕ = take place (old ++ gap) in
     let reach : length (old ++ gap) ≡ length old + (place - length old) = length-append old gap ∙ ap (λ (n : ℕ). length old + n) (length-replicate {A = ℕ} (place - length old) 0) in
     let size : length front ≡ place = length-take-le place (old ++ gap) (omega (arith, reach)) in
-    let from = start_of old place in
-    let back = drop (place + length bytes) old in
+    let from : ℕ = start_of old place in
+    let back : List ℕ = drop (place + length bytes) old in
     let whole : overwritten old place bytes ≡ front ++ (bytes ++ back) = append_assoc front bytes back in
     let long : length (overwritten old place bytes) ≡ place + (length bytes + length back) = ap length whole ∙ length-append front (bytes ++ back) ∙ (λ i. size i + length-append bytes back i) in
     record {

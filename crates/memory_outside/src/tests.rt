@@ -2,6 +2,7 @@
 use super::*;
 use lp_outside::{Disk, Logs, Name, Sink, Source};
 use lp_values::Bytes;
+use std::alloc::Global;
 use std::test::Fail;
 
 fn named(text: &str) -> Result<Name, Fail> {
@@ -14,26 +15,35 @@ fn named(text: &str) -> Result<Name, Fail> {
 #[test]
 fn logs(rt: HostRuntime) -> Result<(), Fail> {
     let mut logs = MemoryLogs::new(rt.alloc());
-    let (one, two) = (named("a.log")?, named("b.log")?);
-    logs.put(&two, b"xyz")?;
+    let one = named("a.log")?;
     logs.put(&one, b"ab")?;
     logs.put(&one, b"cd")?;
     assert_eq!(rt; logs.length(&one)?, Some(4));
     let mut piece = [0u8; 3];
     assert_eq!(rt; logs.read_at(&one, 1, &mut piece)?, 3);
     assert_eq!(rt; piece, *b"bcd");
+    logs.fail(1)?;
     assert_eq!(rt; logs.read_at(&one, 4, &mut piece)?, 0);
+    assert!(rt; logs.length(&one).is_err());
+    assert_eq!(rt; logs.length(&one)?, Some(4));
+    Ok(())
+}
+
+#[test]
+fn rotated_logs(rt: HostRuntime) -> Result<(), Fail> {
+    let mut logs = MemoryLogs::new(rt.alloc());
+    let (one, two, old) = (named("b.log")?, named("a.log")?, named("b.log.1")?);
+    logs.put(&one, b"x")?;
+    logs.put(&two, b"y")?;
     let list = logs.names(rt.alloc(), &named("?.log")?)?;
     assert_eq!(rt; list.len(), 2);
     assert_eq!(rt; list.get(0).map(|name| name.as_str()), Some("a.log"));
-    logs.rename(&one, &named("a.log.1")?);
-    assert_eq!(rt; logs.length(&one)?, None);
+    assert!(rt; logs.length(&one)?.is_some());
+    assert!(rt; logs.length(&old)?.is_none());
+    logs.rename(&one, &old);
     logs.remove(&two);
+    assert_eq!(rt; logs.length(&old)?, Some(1));
     assert_eq!(rt; logs.names(rt.alloc(), &named("*")?)?.len(), 1);
-    logs.fail(1)?;
-    assert_eq!(rt; logs.length(&two)?, None);
-    assert!(rt; logs.length(&two).is_err());
-    assert_eq!(rt; logs.length(&two)?, None);
     Ok(())
 }
 
@@ -79,35 +89,58 @@ fn disk(rt: HostRuntime) -> Result<(), Fail> {
     Ok(())
 }
 
-// Three unsynced calls of one file and one of another, by different lists.
+// Two unsynced calls of one file and one of another.
+fn unsynced(alloc: Global, one: &Name, two: &Name) -> Result<MemoryDisk, Fail> {
+    let mut disk = MemoryDisk::new(alloc);
+    disk.put(one, b"ab")?;
+    disk.write_at(one, 2, b"cd")?;
+    disk.sync(one)?;
+    disk.write_at(one, 1, b"XY")?;
+    disk.write_at(two, 0, b"Z")?;
+    disk.cut(one, 3)?;
+    Ok(disk)
+}
+
+fn list_of(alloc: Global, items: &[Torn]) -> Result<TornList, Fail> {
+    let mut torn = TornList::new(alloc);
+    for item in items {
+        torn.push(*item)?;
+    }
+    Ok(torn)
+}
+
 #[test]
 fn crashes(rt: HostRuntime) -> Result<(), Fail> {
-    let all = [Torn::Kept, Torn::Lost, Torn::Filled(7)];
-    for (list, one, two) in [
-        (&[] as &[Torn], b"abcd".as_slice(), b"".as_slice()),
-        (&[all[0], all[0], all[0], all[0]], b"aXY".as_slice(), b"Z".as_slice()),
-        (&[all[0], all[0], all[1], all[1]], b"aXYd".as_slice(), b"".as_slice()),
-        (&[all[2], all[2], all[2]], b"a\x07\x07".as_slice(), b"\x07".as_slice()),
-        (&[all[1], all[2], all[0]], b"abc".as_slice(), b"\x07".as_slice()),
+    let (kept, lost, filled) = (Torn::Kept, Torn::Lost, Torn::Filled(7));
+    let (one, two) = (named("one")?, named("two")?);
+    for (items, first, second) in [
+        ([lost, lost, lost], b"abcd".as_slice(), b"".as_slice()),
+        ([kept, kept, kept], b"aXY".as_slice(), b"Z".as_slice()),
+        ([kept, lost, lost], b"aXYd".as_slice(), b"".as_slice()),
+        (
+            [filled, filled, filled],
+            b"a\x07\x07".as_slice(),
+            b"\x07".as_slice(),
+        ),
+        ([lost, filled, kept], b"abc".as_slice(), b"\x07".as_slice()),
     ] {
-        let mut disk = MemoryDisk::new(rt.alloc());
-        let names = (named("one")?, named("two")?);
-        disk.put(&names.0, b"ab")?;
-        disk.write_at(&names.0, 2, b"cd")?;
-        disk.sync(&names.0)?;
-        disk.write_at(&names.0, 1, b"XY")?;
-        disk.write_at(&names.1, 0, b"Z")?;
-        disk.cut(&names.0, 3)?;
-        let mut torn = TornList::new(rt.alloc());
-        for item in list {
-            torn.push(*item)?;
-        }
-        disk.crash(&torn)?;
-        assert_eq!(rt; disk.bytes(&names.0), one);
-        assert_eq!(rt; disk.bytes(&names.1), two);
-        disk.crash(&TornList::new(rt.alloc()))?;
-        assert_eq!(rt; disk.bytes(&names.0), one);
+        let mut disk = unsynced(rt.alloc(), &one, &two)?;
+        disk.crash(&list_of(rt.alloc(), &items)?)?;
+        assert_eq!(rt; disk.bytes(&one), first);
+        assert_eq!(rt; disk.bytes(&two), second);
     }
+    Ok(())
+}
+
+// Without an item a call is lost, and behind a crash nothing is unsynced.
+#[test]
+fn short_lists(rt: HostRuntime) -> Result<(), Fail> {
+    let (one, two) = (named("one")?, named("two")?);
+    let mut disk = unsynced(rt.alloc(), &one, &two)?;
+    disk.crash(&list_of(rt.alloc(), &[Torn::Kept])?)?;
+    disk.crash(&list_of(rt.alloc(), &[])?)?;
+    assert_eq!(rt; disk.bytes(&one), b"aXYd".as_slice());
+    assert_eq!(rt; disk.bytes(&two), b"".as_slice());
     Ok(())
 }
 
@@ -122,10 +155,7 @@ fn stops(rt: HostRuntime) -> Result<(), Fail> {
     assert!(rt; disk.write_at(&one, 1, b"b").is_err());
     assert!(rt; disk.write_at(&one, 2, b"c").is_err());
     assert!(rt; disk.length(&one).is_err());
-    let mut torn = TornList::new(rt.alloc());
-    torn.push(Torn::Kept)?;
-    torn.push(Torn::Kept)?;
-    disk.crash(&torn)?;
+    disk.crash(&list_of(rt.alloc(), &[Torn::Kept, Torn::Kept])?)?;
     assert_eq!(rt; disk.bytes(&one), b"ab".as_slice());
     assert_eq!(rt; disk.length(&one)?, 2);
     Ok(())
