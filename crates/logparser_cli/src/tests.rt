@@ -140,7 +140,10 @@ fn a_failing_log_is_a_read_fault(rt: HostRuntime) -> Result<(), Fail> {
         outside.logs.fail(call)?;
         let status = run_query(rt.alloc(), "SELECT * FROM a.log", 0, &mut outside)?;
         assert!(rt; matches!(status, Status::LogsFault));
-        assert_eq!(rt; outside.err.bytes(), b"logparser: read fault: logs\n".as_slice());
+        assert_eq!(rt;
+            outside.err.bytes(),
+            b"logparser: read fault: logs\n".as_slice()
+        );
     }
     Ok(())
 }
@@ -163,6 +166,9 @@ fn a_failing_message_changes_no_status(rt: HostRuntime) -> Result<(), Fail> {
     let status = run_query(rt.alloc(), "SELECT * FROM a.log", 0, &mut outside)?;
     assert!(rt; matches!(status, Status::Done));
     assert_eq!(rt; outside.out.bytes(), TWO_LINES);
-    assert_eq!(rt; outside.err.bytes(), b"Statistics:\n-----------\nElements processed: ".as_slice());
+    assert_eq!(rt;
+        outside.err.bytes(),
+        b"Statistics:\n-----------\nElements processed: ".as_slice()
+    );
     Ok(())
 }
