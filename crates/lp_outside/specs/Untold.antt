@@ -1,5 +1,5 @@
 -- A disk of which nothing is known.
-use Rattle.std.specs.Prelude.{ℕ, List, []}
+use Rattle.std.specs.Prelude.{[]}
 use Rattle.disk_model.specs.Disk.{DiskState}
 
 -- it tells nothing, and isn't honest

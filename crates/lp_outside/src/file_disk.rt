@@ -57,7 +57,7 @@ fn open_in_folders<R: Files>(rt: &R, name: &Name) -> io::Result<R::File> {
 
 impl<'a, R: Files> FileDisk<'a, R> {
     pub fn new(rt: &'a R) -> Self
-        ensures { result.faults ≡ 0 }
+        ensures { ⟦<FileDisk<'a, R> as Disk>⟧.faults result ≡ 0 }
     {
         FileDisk {
             rt,

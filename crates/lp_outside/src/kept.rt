@@ -1,5 +1,5 @@
 // Files of a system, one of them kept open.
-ghost use Rattle.std.specs.Prelude.{◌≤◌, length, IfOk};
+ghost use Rattle.std.specs.Prelude.{◌≡◌, ◌≤◌, length, IfOk, bytes_eq};
 
 use crate::Name;
 use std::fs::OpenFile;
@@ -31,7 +31,10 @@ impl<F: Drop> Kept<F> {
         }
     }
 
-    pub fn is(&self, name: &Name) -> bool {
+    /// Whether it is the file of that name.
+    pub fn is(&self, name: &Name) -> bool
+        ensures { result ≡ bytes_eq self.now.name name.now }
+    {
         self.name.is(name)
     }
 }

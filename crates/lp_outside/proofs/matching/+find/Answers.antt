@@ -1,5 +1,5 @@
 use Rattle.std.proofs.lemmas.Bool.{true≢false}
-use Rattle.std.proofs.Common.{rules, refl, sym, arith, ◌≡◌, ◌↔◌, ◌<◌, ◌≤◌, ℕ, List, length, drop, IsTrue, ◌+◌, ◌-◌, Bool, true, false, [], ◌∷◌}
+use Rattle.std.proofs.Common.{rules, refl, sym}
 use Rattle.lp_outside.proofs.Matchings.{ended, not_ended, here, nowhere, passed, no_text, apart, step}
 use Rattle.lp_outside.proofs.matching.+find.Goals as goal
 

@@ -1,6 +1,5 @@
-use Rattle.std.proofs.Common.{length, ◌≡◌, ◌↔◌, ◌<◌, ◌≤◌, ℕ, List, drop, IsTrue, ◌+◌, ◌-◌, ◌*◌}
-use Rattle.lp_outside.specs.Found.{IsFound}
-use Rattle.lp_outside.specs.Matching.{MatchesPart, IsPartStart, Matches}
+use Rattle.std.proofs.Common.{length, ◌<◌, ℕ, drop}
+use Rattle.lp_outside.specs.Matching.{MatchesPart}
 use Rattle.lp_outside.proofs.matching.+find.Given as goal
 
 -- proposed from what the function passes where it calls itself

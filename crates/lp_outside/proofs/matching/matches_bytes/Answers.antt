@@ -1,5 +1,5 @@
 use Rattle.std.proofs.lemmas.Bool.{true≢false}
-use Rattle.std.proofs.Common.{◌≡◌, ℕ, List, sym, take}
+use Rattle.std.proofs.Common.{◌≡◌, sym, take}
 use Rattle.lp_outside.proofs.Matchings.{same_start, by_parts, has_folder, has_part, differ, alike}
 use Rattle.lp_outside.proofs.matching.matches_bytes.Goals as goal
 

@@ -1,7 +1,6 @@
-use Rattle.std.proofs.Common.{◌≡◌, ◌↔◌, ◌<◌, ◌≤◌, ℕ, List, length, drop, IsTrue, ◌+◌, ◌-◌, ◌*◌}
+use Rattle.std.proofs.Common.{◌≤◌, length, drop}
 use Rattle.std.proofs.Common.{◌≢◌}
 use Rattle.std.specs.List.{All}
-use Rattle.lp_outside.specs.Matching.{MatchesPart, IsPartStart, Matches}
 use Rattle.lp_outside.proofs.matching.part_start.Given as goal
 
 abbrev pub invariant-loop-start : goal.invariant-loop-start
