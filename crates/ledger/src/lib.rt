@@ -4,7 +4,11 @@
 mod entry;
 mod input_text;
 mod mark;
+mod reader;
+mod refused;
 
 pub use entry::{Entry, EntrySpan, EntrySpanList, ListValues, Output, OutputList};
 pub use input_text::InputText;
 pub use mark::Mark;
+pub use reader::EntryReader;
+pub use refused::{LedgerRefused, Part2, TextRefused};
