@@ -1,0 +1,67 @@
+-- What a reader of a part of a ledger has before it.
+use Rattle.std.specs.Prelude.{◌≡◌, ◌⊎◌, ℕ, ◌+◌, ◌-◌, ◌<◌, ◌≤◌, List, ◌++◌, length, take, drop}
+use Rattle.std.specs.Bool.{⊤}
+use Rattle.disk_model.specs.Disk.{DiskState, Works, Shows, Nothing}
+use Rattle.ledger_model.specs.Layouts.{Layout}
+use Rattle.ledger.specs.declared.refused.LedgerRefused.{LedgerRefused}
+use Rattle.ledger.specs.declared.refused.LedgerRefused.TheVariants.{DiskFault, LedgerFault}
+use Rattle.ledger.specs.declared.refused.Part2.{Part2}
+use Rattle.ledger.specs.declared.refused.Part2.TheVariants.{Ledger}
+
+-- the place of the next byte, the place where reading ends, and the bytes that are read ahead
+pub record Position : Type 0 where
+  pub at : ℕ
+  pub to : ℕ
+  pub ahead : List ℕ
+
+-- the disk tells that a file holds these bytes
+pub record Holds (disk : DiskState) (name file : List ℕ) : Type 0 where
+  pub tells : disk.tells
+  pub seen : disk.seen name ≡ file
+
+-- it does, and what was read ahead stands there
+pub record CanRead (disk : DiskState) (name file : List ℕ) (to : ℕ) (position : Position) : Type 0 where
+  pub holds : Holds disk name file
+  pub end : position.to ≡ to
+  pub ahead : position.ahead ≡ take (length position.ahead) (drop position.at file)
+
+-- the bytes from a place on, up to another
+abbrev pub left_of : List ℕ → ℕ → ℕ → List ℕ
+left_of file to at = take (to - at) (drop at file)
+
+-- no file changes
+pub record Rests (old new : DiskState) : Type 0 where
+  pub shows : old.tells → Shows Nothing old new
+  pub crash : old.honest → Works Nothing old new
+
+-- so many bytes of a buffer are those of a file from a place on: at least as many as are wanted, or all that fit or are left
+pub record IsFilled (file : List ℕ) (at want count : ℕ) (room : List ℕ) : Type 0 where
+  pub bytes : take count room ≡ take count (drop at file)
+  pub within : count ≤ length (drop at file)
+  pub enough : (want ≤ count) ⊎ (count ≡ length room) ⊎ (length (drop at file) ≤ count)
+
+-- these bytes stand from one place up to another
+pub record Stood (file : List ℕ) (to from at : ℕ) (bytes : List ℕ) : Type 0 where
+  pub split : left_of file to from ≡ bytes ++ left_of file to at
+  pub moved : at ≡ from + length bytes
+
+-- a value stands there that fits
+pub record IsRead {A : Type 0} (layout : Layout A) (file : List ℕ) (to from at : ℕ) (value : A) : Type 0 where
+  pub fits : layout.Fits value
+  pub stood : Stood file to from at (layout.spell value)
+
+-- some value does
+pub record SomeRead {A : Type 0} (layout : Layout A) (file : List ℕ) (to from at : ℕ) : Type 0 where
+  pub value : A
+  pub read : IsRead layout file to from at value
+
+-- the first field that doesn't fit begins at a place of the file
+pub record IsBroken {A : Type 0} (layout : Layout A) (file : List ℕ) (to from at : ℕ) : Type 0 where
+  pub later : ℕ
+  pub breaks : layout.Breaks (left_of file to from) later
+  pub at_is : at ≡ from + later
+
+-- a refusal for the bytes is one of the ledger, at the first field that doesn't fit
+abbrev pub RefusedAt : {A : Type 0} → Layout A → List ℕ → ℕ → ℕ → LedgerRefused → Type 0
+RefusedAt layout file to from DiskFault = ⊤
+RefusedAt layout file to from (LedgerFault part at) = (part ≡ Ledger) × IsBroken layout file to from at

@@ -1,0 +1,107 @@
+// Reads a part of a ledger from its front.
+ghost use Rattle.std.specs.Prelude.{◌≡◌, ◌⊎◌, ℕ, ◌+◌, ◌-◌, ◌<◌, ◌≤◌, ◌^◌, List, [], ◌++◌, length, take, drop, min, max, IfOk, OnOk, OnErr};
+ghost use Rattle.lp_model.specs.Outside.{HasCause};
+ghost use Rattle.ledger.specs.Reader.{Position, Holds, CanRead, IsFilled, Rests, left_of};
+
+use lp_outside::{Disk, DiskFailed, Name};
+use std::marker::Model;
+
+const ROOM: u64 = 1024;
+
+/// Reads the bytes of a ledger from one place up to another.
+#[derive(Drop)]
+pub struct EntryReader {
+    at: u64,
+    to: u64,
+    room: [u8; 1024],
+    start: usize,
+    end: usize,
+}
+
+impl Model for EntryReader {
+    ghost Value = { Position };
+
+    ghost view = { λ r. record { at = r.at; to = r.to; ahead = drop r.start (take r.end r.room) } };
+
+    ghost invariant = { λ r. (r.start ≤ r.end) × (r.end ≤ 1024) × (r.at + (r.end - r.start) ≤ max r.at r.to) };
+}
+
+/// Fills a buffer from its front with bytes of a file: at least as many as are wanted, or all that fit or are left.
+fn fill<D: Disk>(disk: &mut D, name: &Name, at: u64, room: &mut [u8], want: usize) -> Result<usize, DiskFailed>
+    requires { at + length room.old < 2 ^ 64 }
+    ensures count { IfOk result (λ count. count ≤ length room.new) }
+    ensures holds { (file : List ℕ) → Holds (D.state disk.old) name.now file → Holds (D.state disk.new) name.now file }
+    ensures filled { IfOk result (λ count. (file : List ℕ) → Holds (D.state disk.old) name.now file → IsFilled file at want count room.new) }
+    ensures rests { Rests (D.state disk.old) (D.state disk.new) }
+    ensures cause { HasCause (D.faults disk.old) (D.faults disk.new) result }
+{
+    let mut done = 0;
+    while done < want && done < room.len() {
+        let count = disk.read_at(name, at + done as u64, &mut room[done..])?;
+        if count == 0 {
+            break;
+        }
+        done += count;
+    }
+    Ok(done)
+}
+
+impl EntryReader {
+    /// A reader of the bytes from one place up to another; there are none where the second is the lower one.
+    pub fn new(from: u64, to: u64) -> EntryReader
+        ensures at { result.at ≡ from }
+        ensures to { result.to ≡ to }
+        ensures ahead { result.ahead ≡ [] }
+    {
+        EntryReader {
+            at: from,
+            to,
+            room: [0; 1024],
+            start: 0,
+            end: 0,
+        }
+    }
+
+    /// The place of the next byte.
+    pub fn place(&self) -> u64
+        ensures { result ≡ self.now.at }
+    {
+        self.at
+    }
+
+    fn ahead(&self) -> &[u8]
+        ensures { result.now ≡ self.now.ahead }
+    {
+        &self.room[self.start..self.end]
+    }
+
+    fn skip(&mut self, count: usize)
+        requires { count ≤ length self.old.ahead }
+        ensures at { self.new.at ≡ self.old.at + count }
+        ensures to { self.new.to ≡ self.old.to }
+        ensures ahead { self.new.ahead ≡ drop count self.old.ahead }
+    {
+        self.start += count;
+        self.at += count as u64;
+    }
+
+    /// Reads at least so many bytes ahead, or all that are left.
+    fn load<D: Disk>(&mut self, disk: &mut D, ledger: &Name, want: usize) -> Result<(), DiskFailed>
+        requires { want ≤ 1024 }
+        ensures at { self.new.at ≡ self.old.at }
+        ensures to { self.new.to ≡ self.old.to }
+        ensures reads { (file : List ℕ) (to : ℕ) → CanRead (D.state disk.old) ledger.now file to self.old → CanRead (D.state disk.new) ledger.now file to self.new }
+        ensures enough { OnOk result ((file : List ℕ) (to : ℕ) → CanRead (D.state disk.old) ledger.now file to self.old → (want ≤ length self.new.ahead) ⊎ (self.new.ahead ≡ left_of file to self.old.at)) }
+        ensures rests { Rests (D.state disk.old) (D.state disk.new) }
+        ensures cause { HasCause (D.faults disk.old) (D.faults disk.new) result }
+    {
+        if self.end - self.start >= want {
+            return Ok(());
+        }
+        self.start = 0;
+        self.end = 0;
+        let limit = self.to.saturating_sub(self.at).min(ROOM) as usize;
+        self.end = fill(disk, ledger, self.at, &mut self.room[..limit], want)?;
+        Ok(())
+    }
+}
