@@ -1,2 +1,4 @@
 pub mod Resting
 pub mod Filling
+pub mod Moving
+pub mod Composing
