@@ -10,7 +10,7 @@ use Rattle.ledger_model.proofs.Laws.{IsLawful}
 use Rattle.ledger_model.proofs.Fields.{u16_length, u32_length, u64_length, u32_one}
 use Rattle.ledger.specs.declared.refused.LedgerRefused.{LedgerRefused}
 use Rattle.ledger.specs.declared.refused.LedgerRefused.TheVariants.{DiskFault, LedgerFault}
-use Rattle.ledger.specs.Reader.{Stood, IsRead, SomeRead, IsBroken, RefusedAt, RefusedShort, left_of}
+use Rattle.ledger.specs.Reader.{Stood, IsRead, SomeRead, IsBroken, RefusedAt, RefusedShort, left_of, any_byte}
 
 -- an error that a `?` hands on
 pub handed : {U E : Type 0} (r : Result U E) (e : E) (P : U → Type 0) (Q : E → Type 0) → IsErrAnd r (λ y. y ≡ e) → Q e → MatchResult r P Q
@@ -81,3 +81,11 @@ misfit {A} Wide Fits spell law wider file to from at value read unfit = record {
 pub refused_narrower : {A : Type 0} (Wide Fits : A → Type 0) (spell : A → List ℕ) → ((a : A) → Fits a → Wide a) → (file : List ℕ) (to from : ℕ) (refused : LedgerRefused) → RefusedAt (field Wide spell) file to from refused → RefusedAt (field Fits spell) file to from refused
 refused_narrower Wide Fits spell wider file to from DiskFault broken = tt
 refused_narrower Wide Fits spell wider file to from (LedgerFault part at) broken = (broken.0, record { later = broken.1.later; breaks = (broken.1.breaks.0, λ a more fits e. broken.1.breaks.1 a more (wider a fits) e); at_is = broken.1.at_is })
+
+one_byte : (bytes : List ℕ) → length bytes ≡ 1 → bytes ≡ get_or bytes 0 0 ∷ []
+one_byte [] e = absurd (omega (arith, e))
+one_byte (b ∷ []) e = refl
+one_byte (b ∷ d ∷ bytes) e = absurd (omega (arith, e))
+
+pub read_u8 : (file : List ℕ) (to from at : ℕ) (bytes : List ℕ) (n : ℕ) → length bytes ≡ 1 → n ≡ get_or bytes 0 0 → get_or bytes 0 0 < 256 → Stood file to from at bytes → IsRead any_byte file to from at n
+read_u8 file to from at bytes n size is low stood = record { fits = omega (arith, is, low); stood = subst (λ (t : List ℕ). Stood file to from at t) (one_byte bytes size ∙ ap (λ (k : ℕ). k ∷ []) (sym is)) stood }

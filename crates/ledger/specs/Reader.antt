@@ -1,10 +1,11 @@
 -- What a reader of a part of a ledger has before it.
-use Rattle.std.specs.Prelude.{◌≡◌, ◌⊎◌, ℕ, ◌+◌, ◌-◌, ◌<◌, ◌≤◌, List, ◌++◌, length, take, drop}
+use Rattle.std.specs.Prelude.{◌≡◌, ◌⊎◌, ℕ, ◌+◌, ◌-◌, ◌<◌, ◌≤◌, ◌^◌, List, ◌++◌, length, take, drop}
 use Rattle.std.specs.Bool.{⊤}
 use Rattle.std.specs.Prelude.{Result, MatchResult, IfErr}
 use Rattle.lp_model.specs.Outside.{Rose}
 use Rattle.disk_model.specs.Disk.{DiskState, Works, Shows, Nothing}
-use Rattle.ledger_model.specs.Layouts.{Layout}
+use Rattle.ledger_model.specs.Layouts.{Layout, field}
+use Rattle.ledger_model.specs.Numbers.{u8_bytes, u16_bytes, u32_bytes}
 use Rattle.ledger.specs.declared.refused.LedgerRefused.{LedgerRefused}
 use Rattle.ledger.specs.declared.refused.LedgerRefused.TheVariants.{DiskFault, LedgerFault}
 use Rattle.ledger.specs.declared.refused.Part2.{Part2}
@@ -91,3 +92,20 @@ RoseFor before now (LedgerFault part at) = ⊤
 pub record HasReason {T : Type 0} (before now : ℕ) (result : Result T LedgerRefused) : Type 0 where
   pub later : before ≤ now
   pub failed : IfErr result (RoseFor before now)
+
+-- a call that reads a value of a layout, and one that only looks at one
+abbrev pub Gives : {A : Type 0} → Layout A → DiskState → DiskState → List ℕ → Position → Position → Result A LedgerRefused → Type 0
+Gives layout before now name old new result = (file : List ℕ) (to : ℕ) → CanRead before name file to old → CanRead now name file to new × Reads layout file to old.at new.at result
+
+abbrev pub Looks : {A B : Type 0} → Layout A → DiskState → DiskState → List ℕ → Position → Position → Result B LedgerRefused → Type 0
+Looks layout before now name old new result = (file : List ℕ) (to : ℕ) → CanRead before name file to old → CanRead now name file to new × Checks layout file to old.at new.at result
+
+-- any numbers of 8, 16 and 32 bits
+abbrev pub any_byte : Layout ℕ
+any_byte = field (λ n. n < 256) u8_bytes
+
+abbrev pub any_short : Layout ℕ
+any_short = field (λ n. n < 2 ^ 16) u16_bytes
+
+abbrev pub any_word : Layout ℕ
+any_word = field (λ n. n < 2 ^ 32) u32_bytes

@@ -1,9 +1,8 @@
 // Reads a part of a ledger from its front.
 ghost use Rattle.std.specs.Prelude.{◌≡◌, ◌⊎◌, ℕ, ◌+◌, ◌-◌, ◌<◌, ◌≤◌, ◌^◌, List, [], ◌++◌, length, take, drop, min, max, IfOk, OnOk, OnErr, MatchBool, MatchResult, slice_index};
 ghost use Rattle.lp_model.specs.Outside.{HasCause};
-ghost use Rattle.ledger.specs.Reader.{Position, Holds, CanRead, IsFilled, IsRead, Stood, Rests, Reads, Checks, RefusedShort, HasReason, left_of};
+ghost use Rattle.ledger.specs.Reader.{Position, Holds, CanRead, IsFilled, Stood, Rests, Gives, RefusedShort, HasReason, left_of, any_byte, any_short, any_word};
 ghost use Rattle.ledger_model.specs.Numbers.{number};
-ghost use Rattle.ledger_model.specs.Grammar.{counts_layout};
 
 use crate::{LedgerRefused, Part2};
 use lp_outside::{Disk, DiskFailed, Name};
@@ -166,8 +165,38 @@ impl EntryReader {
         Ok(())
     }
 
-    fn number<D: Disk>(&mut self, disk: &mut D, ledger: &Name) -> Result<u64, LedgerRefused>
-        ensures reads { (file : List ℕ) (to : ℕ) → CanRead (D.state disk.old) ledger.now file to self.old → CanRead (D.state disk.new) ledger.now file to self.new × Reads number file to self.old.at self.new.at result }
+    pub(crate) fn byte<D: Disk>(&mut self, disk: &mut D, ledger: &Name) -> Result<u8, LedgerRefused>
+        ensures gives { Gives any_byte (D.state disk.old) (D.state disk.new) ledger.now self.old self.new result }
+        ensures rests { Rests (D.state disk.old) (D.state disk.new) }
+        ensures reason { HasReason (D.faults disk.old) (D.faults disk.new) result }
+    {
+        let mut bytes = [0; 1];
+        self.take(disk, ledger, &mut bytes)?;
+        Ok(bytes[0])
+    }
+
+    pub(crate) fn short<D: Disk>(&mut self, disk: &mut D, ledger: &Name) -> Result<u16, LedgerRefused>
+        ensures gives { Gives any_short (D.state disk.old) (D.state disk.new) ledger.now self.old self.new result }
+        ensures rests { Rests (D.state disk.old) (D.state disk.new) }
+        ensures reason { HasReason (D.faults disk.old) (D.faults disk.new) result }
+    {
+        let mut bytes = [0; 2];
+        self.take(disk, ledger, &mut bytes)?;
+        Ok(u16::from_le_bytes(bytes))
+    }
+
+    pub(crate) fn word<D: Disk>(&mut self, disk: &mut D, ledger: &Name) -> Result<u32, LedgerRefused>
+        ensures gives { Gives any_word (D.state disk.old) (D.state disk.new) ledger.now self.old self.new result }
+        ensures rests { Rests (D.state disk.old) (D.state disk.new) }
+        ensures reason { HasReason (D.faults disk.old) (D.faults disk.new) result }
+    {
+        let mut bytes = [0; 4];
+        self.take(disk, ledger, &mut bytes)?;
+        Ok(u32::from_le_bytes(bytes))
+    }
+
+    pub(crate) fn number<D: Disk>(&mut self, disk: &mut D, ledger: &Name) -> Result<u64, LedgerRefused>
+        ensures gives { Gives number (D.state disk.old) (D.state disk.new) ledger.now self.old self.new result }
         ensures rests { Rests (D.state disk.old) (D.state disk.new) }
         ensures reason { HasReason (D.faults disk.old) (D.faults disk.new) result }
     {
