@@ -71,13 +71,13 @@ impl EntryReader {
         self.at
     }
 
-    fn ahead(&self) -> &[u8]
+    pub(crate) fn ahead(&self) -> &[u8]
         ensures { result.now ≡ self.now.ahead }
     {
         &self.room[self.start..self.end]
     }
 
-    fn skip(&mut self, count: usize)
+    pub(crate) fn skip(&mut self, count: usize)
         requires { count ≤ length self.old.ahead }
         ensures at { self.new.at ≡ self.old.at + count }
         ensures to { self.new.to ≡ self.old.to }
@@ -88,7 +88,7 @@ impl EntryReader {
     }
 
     /// Reads at least so many bytes ahead, or all that are left.
-    fn load<D: Disk>(&mut self, disk: &mut D, ledger: &Name, want: usize) -> Result<(), DiskFailed>
+    pub(crate) fn load<D: Disk>(&mut self, disk: &mut D, ledger: &Name, want: usize) -> Result<(), DiskFailed>
         requires { want ≤ 1024 }
         ensures at { self.new.at ≡ self.old.at }
         ensures to { self.new.to ≡ self.old.to }
