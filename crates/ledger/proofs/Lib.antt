@@ -1,2 +1,6 @@
 pub mod Resting
 pub mod Filling
+pub mod Moving
+pub mod Composing
+pub mod Utf8s
+pub mod Fronts

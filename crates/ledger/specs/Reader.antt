@@ -1,8 +1,11 @@
 -- What a reader of a part of a ledger has before it.
-use Rattle.std.specs.Prelude.{◌≡◌, ◌⊎◌, ℕ, ◌+◌, ◌-◌, ◌<◌, ◌≤◌, List, ◌++◌, length, take, drop}
+use Rattle.std.specs.Prelude.{◌≡◌, ◌⊎◌, ℕ, ◌+◌, ◌-◌, ◌<◌, ◌≤◌, ◌^◌, List, ◌++◌, length, take, drop}
 use Rattle.std.specs.Bool.{⊤}
+use Rattle.std.specs.Prelude.{Result, MatchResult, IfErr}
+use Rattle.lp_model.specs.Outside.{Rose}
 use Rattle.disk_model.specs.Disk.{DiskState, Works, Shows, Nothing}
-use Rattle.ledger_model.specs.Layouts.{Layout}
+use Rattle.ledger_model.specs.Layouts.{Layout, field}
+use Rattle.ledger_model.specs.Numbers.{u8_bytes, u16_bytes, u32_bytes}
 use Rattle.ledger.specs.declared.refused.LedgerRefused.{LedgerRefused}
 use Rattle.ledger.specs.declared.refused.LedgerRefused.TheVariants.{DiskFault, LedgerFault}
 use Rattle.ledger.specs.declared.refused.Part2.{Part2}
@@ -24,6 +27,7 @@ pub record CanRead (disk : DiskState) (name file : List ℕ) (to : ℕ) (positio
   pub holds : Holds disk name file
   pub end : position.to ≡ to
   pub ahead : position.ahead ≡ take (length position.ahead) (drop position.at file)
+  pub within : length position.ahead ≤ to - position.at
 
 -- the bytes from a place on, up to another
 abbrev pub left_of : List ℕ → ℕ → ℕ → List ℕ
@@ -65,3 +69,43 @@ pub record IsBroken {A : Type 0} (layout : Layout A) (file : List ℕ) (to from 
 abbrev pub RefusedAt : {A : Type 0} → Layout A → List ℕ → ℕ → ℕ → LedgerRefused → Type 0
 RefusedAt layout file to from DiskFault = ⊤
 RefusedAt layout file to from (LedgerFault part at) = (part ≡ Ledger) × IsBroken layout file to from at
+
+-- fewer bytes are left than are wanted
+abbrev pub RefusedShort : List ℕ → ℕ → ℕ → ℕ → LedgerRefused → Type 0
+RefusedShort file to from want DiskFault = ⊤
+RefusedShort file to from want (LedgerFault part at) = (part ≡ Ledger) × (at ≡ from) × (length (left_of file to from) < want)
+
+-- a value is read, or the bytes are refused
+abbrev pub Reads : {A : Type 0} → Layout A → List ℕ → ℕ → ℕ → ℕ → Result A LedgerRefused → Type 0
+Reads layout file to from at result = MatchResult result (IsRead layout file to from at) (RefusedAt layout file to from)
+
+-- and the same of a call that only looks
+abbrev pub Checks : {A B : Type 0} → Layout A → List ℕ → ℕ → ℕ → ℕ → Result B LedgerRefused → Type 0
+Checks layout file to from at result = MatchResult result (λ _. SomeRead layout file to from at) (RefusedAt layout file to from)
+
+-- a disk's fault is one that it counted
+abbrev pub RoseFor : ℕ → ℕ → LedgerRefused → Type 0
+RoseFor before now DiskFault = Rose before now
+RoseFor before now (LedgerFault part at) = ⊤
+
+-- a count of faults never falls, and a call is refused for the disk only where it rose
+pub record HasReason {T : Type 0} (before now : ℕ) (result : Result T LedgerRefused) : Type 0 where
+  pub later : before ≤ now
+  pub failed : IfErr result (RoseFor before now)
+
+-- a call that reads a value of a layout, and one that only looks at one
+abbrev pub Gives : {A : Type 0} → Layout A → DiskState → DiskState → List ℕ → Position → Position → Result A LedgerRefused → Type 0
+Gives layout before now name old new result = (file : List ℕ) (to : ℕ) → CanRead before name file to old → CanRead now name file to new × Reads layout file to old.at new.at result
+
+abbrev pub Looks : {A B : Type 0} → Layout A → DiskState → DiskState → List ℕ → Position → Position → Result B LedgerRefused → Type 0
+Looks layout before now name old new result = (file : List ℕ) (to : ℕ) → CanRead before name file to old → CanRead now name file to new × Checks layout file to old.at new.at result
+
+-- any numbers of 8, 16 and 32 bits
+abbrev pub any_byte : Layout ℕ
+any_byte = field (λ n. n < 256) u8_bytes
+
+abbrev pub any_short : Layout ℕ
+any_short = field (λ n. n < 2 ^ 16) u16_bytes
+
+abbrev pub any_word : Layout ℕ
+any_word = field (λ n. n < 2 ^ 32) u32_bytes

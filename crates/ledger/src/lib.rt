@@ -4,6 +4,7 @@
 mod entry;
 mod input_text;
 mod mark;
+mod passing;
 mod reader;
 mod refused;
 

@@ -1,8 +1,10 @@
 // Reads a part of a ledger from its front.
-ghost use Rattle.std.specs.Prelude.{◌≡◌, ◌⊎◌, ℕ, ◌+◌, ◌-◌, ◌<◌, ◌≤◌, ◌^◌, List, [], ◌++◌, length, take, drop, min, max, IfOk, OnOk, OnErr};
+ghost use Rattle.std.specs.Prelude.{◌≡◌, ◌⊎◌, ℕ, ◌+◌, ◌-◌, ◌<◌, ◌≤◌, ◌^◌, List, [], ◌++◌, length, take, drop, min, max, IfOk, OnOk, OnErr, MatchBool, MatchResult, slice_index};
 ghost use Rattle.lp_model.specs.Outside.{HasCause};
-ghost use Rattle.ledger.specs.Reader.{Position, Holds, CanRead, IsFilled, Rests, left_of};
+ghost use Rattle.ledger.specs.Reader.{Position, Holds, CanRead, IsFilled, Stood, Rests, Gives, RefusedShort, HasReason, left_of, any_byte, any_short, any_word};
+ghost use Rattle.ledger_model.specs.Numbers.{number};
 
+use crate::{LedgerRefused, Part2};
 use lp_outside::{Disk, DiskFailed, Name};
 use std::marker::Model;
 
@@ -69,13 +71,13 @@ impl EntryReader {
         self.at
     }
 
-    fn ahead(&self) -> &[u8]
+    pub(crate) fn ahead(&self) -> &[u8]
         ensures { result.now ≡ self.now.ahead }
     {
         &self.room[self.start..self.end]
     }
 
-    fn skip(&mut self, count: usize)
+    pub(crate) fn skip(&mut self, count: usize)
         requires { count ≤ length self.old.ahead }
         ensures at { self.new.at ≡ self.old.at + count }
         ensures to { self.new.to ≡ self.old.to }
@@ -86,7 +88,7 @@ impl EntryReader {
     }
 
     /// Reads at least so many bytes ahead, or all that are left.
-    fn load<D: Disk>(&mut self, disk: &mut D, ledger: &Name, want: usize) -> Result<(), DiskFailed>
+    pub(crate) fn load<D: Disk>(&mut self, disk: &mut D, ledger: &Name, want: usize) -> Result<(), DiskFailed>
         requires { want ≤ 1024 }
         ensures at { self.new.at ≡ self.old.at }
         ensures to { self.new.to ≡ self.old.to }
@@ -103,5 +105,103 @@ impl EntryReader {
         let limit = self.to.saturating_sub(self.at).min(ROOM) as usize;
         self.end = fill(disk, ledger, self.at, &mut self.room[..limit], want)?;
         Ok(())
+    }
+
+    fn rewind(&mut self, place: u64)
+        ensures at { self.new.at ≡ place }
+        ensures to { self.new.to ≡ self.old.to }
+        ensures ahead { self.new.ahead ≡ [] }
+    {
+        self.at = place;
+        self.start = 0;
+        self.end = 0;
+    }
+
+    /// Takes a piece of at most 1,024 bytes, or none where fewer are left.
+    fn take_piece<D: Disk>(&mut self, disk: &mut D, ledger: &Name, piece: &mut [u8]) -> Result<bool, DiskFailed>
+        requires { length piece.old ≤ 1024 }
+        ensures to { self.new.to ≡ self.old.to }
+        ensures reads { (file : List ℕ) (to : ℕ) → CanRead (D.state disk.old) ledger.now file to self.old → CanRead (D.state disk.new) ledger.now file to self.new
+            × IfOk result (λ taken. MatchBool taken (Stood file to self.old.at self.new.at piece.new) (length (left_of file to self.old.at) < length piece.old)) }
+        ensures rests { Rests (D.state disk.old) (D.state disk.new) }
+        ensures cause { HasCause (D.faults disk.old) (D.faults disk.new) result }
+    {
+        self.load(disk, ledger, piece.len())?;
+        let ahead = self.ahead();
+        if ahead.len() < piece.len() {
+            return Ok(false);
+        }
+        piece.copy_from_slice(&ahead[..piece.len()]);
+        self.skip(piece.len());
+        Ok(true)
+    }
+
+    /// Takes the next bytes. Where fewer are left the ledger is damaged at the first of them, and none are taken.
+    pub fn take<D: Disk>(&mut self, disk: &mut D, ledger: &Name, into: &mut [u8]) -> Result<(), LedgerRefused>
+        ensures to { self.new.to ≡ self.old.to }
+        ensures reads { (file : List ℕ) (to : ℕ) → CanRead (D.state disk.old) ledger.now file to self.old → CanRead (D.state disk.new) ledger.now file to self.new
+            × MatchResult result (λ _. Stood file to self.old.at self.new.at into.new) (RefusedShort file to self.old.at (length into.old)) }
+        ensures err { OnErr result (self.new.at ≡ self.old.at) }
+        ensures low { (i : ℕ) → slice_index into.new i < 256 }
+        ensures rests { Rests (D.state disk.old) (D.state disk.new) }
+        ensures reason { HasReason (D.faults disk.old) (D.faults disk.new) result }
+    {
+        let place = self.at;
+        let mut done = 0;
+        while done < into.len() {
+            let end = into.len().min(done + 1024);
+            match self.take_piece(disk, ledger, &mut into[done..end]) {
+                Ok(true) => done = end,
+                Ok(false) => {
+                    self.rewind(place);
+                    return Err(LedgerRefused::LedgerFault { part: Part2::Ledger, at: place });
+                }
+                Err(_) => {
+                    self.rewind(place);
+                    return Err(LedgerRefused::DiskFault);
+                }
+            }
+        }
+        Ok(())
+    }
+
+    pub(crate) fn byte<D: Disk>(&mut self, disk: &mut D, ledger: &Name) -> Result<u8, LedgerRefused>
+        ensures gives { Gives any_byte (D.state disk.old) (D.state disk.new) ledger.now self.old self.new result }
+        ensures rests { Rests (D.state disk.old) (D.state disk.new) }
+        ensures reason { HasReason (D.faults disk.old) (D.faults disk.new) result }
+    {
+        let mut bytes = [0; 1];
+        self.take(disk, ledger, &mut bytes)?;
+        Ok(bytes[0])
+    }
+
+    pub(crate) fn short<D: Disk>(&mut self, disk: &mut D, ledger: &Name) -> Result<u16, LedgerRefused>
+        ensures gives { Gives any_short (D.state disk.old) (D.state disk.new) ledger.now self.old self.new result }
+        ensures rests { Rests (D.state disk.old) (D.state disk.new) }
+        ensures reason { HasReason (D.faults disk.old) (D.faults disk.new) result }
+    {
+        let mut bytes = [0; 2];
+        self.take(disk, ledger, &mut bytes)?;
+        Ok(u16::from_le_bytes(bytes))
+    }
+
+    pub(crate) fn word<D: Disk>(&mut self, disk: &mut D, ledger: &Name) -> Result<u32, LedgerRefused>
+        ensures gives { Gives any_word (D.state disk.old) (D.state disk.new) ledger.now self.old self.new result }
+        ensures rests { Rests (D.state disk.old) (D.state disk.new) }
+        ensures reason { HasReason (D.faults disk.old) (D.faults disk.new) result }
+    {
+        let mut bytes = [0; 4];
+        self.take(disk, ledger, &mut bytes)?;
+        Ok(u32::from_le_bytes(bytes))
+    }
+
+    pub(crate) fn number<D: Disk>(&mut self, disk: &mut D, ledger: &Name) -> Result<u64, LedgerRefused>
+        ensures gives { Gives number (D.state disk.old) (D.state disk.new) ledger.now self.old self.new result }
+        ensures rests { Rests (D.state disk.old) (D.state disk.new) }
+        ensures reason { HasReason (D.faults disk.old) (D.faults disk.new) result }
+    {
+        let mut bytes = [0; 8];
+        self.take(disk, ledger, &mut bytes)?;
+        Ok(u64::from_le_bytes(bytes))
     }
 }
