@@ -1,63 +1,62 @@
--- What a disk in memory may leave, from the list of its calls.
-use Rattle.std.specs.Prelude.{◌≡◌, ◌≢◌, ℕ, ◌+◌, ◌≤◌, List, [], ◌∷◌, length, take}
-use Rattle.std.specs.Bool.{⊤}
-use Rattle.lp_model.specs.Outside.{bytes_in}
-use Rattle.disk_model.specs.Disk.{Files, DiskState, At, Torn, Shortened}
-use Rattle.lp_outside.specs.MemoryLogs.{folder_of}
-use Rattle.lp_outside.specs.declared.memory_logs.MemoryFile.{MemoryFile}
-use Rattle.lp_outside.specs.declared.memory_disk.Call.{Call}
-use Rattle.lp_outside.specs.declared.memory_disk.Call.TheVariants.{Write, Cut, Sync}
-use Rattle.lp_outside.specs.declared.memory_disk.MemoryDisk.{MemoryDisk}
+-- What a disk in memory holds and has done.
+use Rattle.std.specs.Prelude.{◌≡◌, ◌||◌, ℕ, Bool, true, false, List, [], Option, Some, None, nat_le}
+use Rattle.lp_model.specs.Outside.{Folder}
+use Rattle.disk_model.specs.Disk.{Files, DiskState}
+use Rattle.memory_outside.specs.Files.{folder_of, files_in}
+use Rattle.memory_outside.specs.Schedule.{is_due, IsFresh}
+use Rattle.memory_outside.specs.Store.{store_state, store_files}
+use Rattle.memory_outside.specs.Crash.{crashed}
+use Rattle.memory_outside.specs.declared.replaying.Torn.{Torn}
+use Rattle.memory_outside.specs.declared.schedule.Schedule.{Schedule}
+use Rattle.memory_outside.specs.declared.memory_disk.MemoryDisk.{MemoryDisk}
 
--- whether the files' bytes are as before, but for one file's
-abbrev pub Same : Files → Files → Type 0
-Same before now = (name : List ℕ) → now name ≡ before name
+-- what it holds and what a crash may leave
+abbrev pub disk_state : MemoryDisk → DiskState
+disk_state disk = store_state disk.store
 
--- what a crash may leave of each file after one call more
-abbrev pub Stepped : (List ℕ → List ℕ → Type 0) → Call → List ℕ → List ℕ → Type 0
-Stepped leaves (Write name from at bytes) other c = (d : List ℕ) × leaves other d × At name (Torn from (at + length bytes)) other d c
-Stepped leaves (Cut name to) other c = (d : List ℕ) × leaves other d × At name (Shortened to) other d c
-Stepped leaves (Sync name bytes) other c = leaves other c × (other ≡ name → c ≡ bytes)
+-- the bytes of each file
+abbrev pub disk_files : MemoryDisk → Files
+disk_files disk = store_files disk.store
 
-abbrev pub LeavesFrom : (List ℕ → List ℕ → Type 0) → List Call → List ℕ → List ℕ → Type 0
-LeavesFrom leaves [] = leaves
-LeavesFrom leaves (call ∷ calls) = LeavesFrom (Stepped leaves call) calls
+-- the files that are there
+abbrev pub disk_folder : MemoryDisk → Folder
+disk_folder disk = folder_of disk.store.files.items
 
--- after these calls on an empty disk
-abbrev pub MayLeave : List Call → List ℕ → List ℕ → Type 0
-MayLeave calls = LeavesFrom (λ name c. c ≡ []) calls
+-- which calls fail
+abbrev pub disk_schedule : MemoryDisk → Schedule
+disk_schedule disk = disk.schedule
 
-abbrev pub files_of : MemoryDisk → Files
-files_of disk name = bytes_in (folder_of disk.files.items) name
+-- the number of the call at which it stops
+abbrev pub disk_stop : MemoryDisk → Option ℕ
+disk_stop disk = disk.stop
 
--- at some call from one on
-abbrev pub HadLeft : List Call → ℕ → Files → Type 0
-HadLeft calls t image = (k : ℕ) × (t ≤ k) × (k ≤ length calls) × ((name : List ℕ) → MayLeave (take k calls) name (image name))
+-- how often it has failed
+abbrev pub disk_faults : MemoryDisk → ℕ
+disk_faults disk = disk.faults
 
--- a disk with these files after these calls
-abbrev pub state_from : Files → List Call → DiskState
-state_from files calls = record {
-  tells = ⊤;
-  honest = (name : List ℕ) → MayLeave calls name (files name);
-  seen = files;
-  may_leave = MayLeave calls;
-  moment = length calls;
-  left_since = HadLeft calls;
-}
+-- what a crash leaves by this list
+abbrev pub disk_crashed : MemoryDisk → List Torn → Files
+disk_crashed disk torn = crashed torn disk.store.calls.items (files_in disk.store.first.items)
 
-abbrev pub state_of : MemoryDisk → DiskState
-state_of disk = state_from (files_of disk) disk.calls.items
+-- a stop has come by this call
+abbrev pub is_stopped : Option ℕ → ℕ → Bool
+is_stopped None call = false
+is_stopped (Some stop) call = nat_le stop call
 
--- a call done again on other files, whole, in part or not at all; after a sync the file is what it was then
-abbrev pub Replays : Call → Files → Files → Type 0
-Replays (Write name from at bytes) before now = (other : List ℕ) → At name (Torn from (at + length bytes)) other (before other) (now other)
-Replays (Cut name to) before now = (other : List ℕ) → At name (Shortened to) other (before other) (now other)
-Replays (Sync name bytes) before now = (now name ≡ bytes) × ((other : List ℕ) → other ≢ name → now other ≡ before other)
+-- the next call is named to fail, or a stop has come
+abbrev pub is_to_fail : MemoryDisk → Bool
+is_to_fail disk = is_stopped disk.stop disk.schedule.calls || is_due disk.schedule
 
--- the files of a list
-abbrev pub files_in : List MemoryFile → Files
-files_in files name = bytes_in (folder_of files) name
+-- no files, no fault, no stop, and no call named to fail
+pub record IsNewDisk (disk : MemoryDisk) : Type 0 where
+  pub none : (name : List ℕ) → disk_folder disk name ≡ None
+  pub honest : (disk_state disk).honest
+  pub schedule : IsFresh disk.schedule
+  pub stop : disk.stop ≡ None
+  pub faults : disk.faults ≡ 0
 
--- files that a crash may leave after these calls, where some are
-abbrev pub AreImage : List Call → List MemoryFile → Type 0
-AreImage calls files = ((name : List ℕ) → (c : List ℕ) × MayLeave calls name c) → (name : List ℕ) → MayLeave calls name (files_in files name)
+-- nothing failed, no call was made or named, and no stop came or went
+pub record KeepsRest (before now : MemoryDisk) : Type 0 where
+  pub schedule : now.schedule ≡ before.schedule
+  pub stop : now.stop ≡ before.stop
+  pub faults : now.faults ≡ before.faults

@@ -1,43 +1,23 @@
-// A disk in memory. It keeps a list of all calls.
-ghost use Rattle.std.specs.Prelude.{◌≡◌, ◌⊎◌, ◌++◌, [], ◌∷◌, ◌<◌, ◌+◌, ◌-◌, ◌^◌, IfOk, OnOk, OnErr, length, take, drop, replicate};
-ghost use Rattle.lp_model.specs.Outside.{bytes_in};
-ghost use Rattle.disk_model.specs.Disk.{overwritten, start_of};
-ghost use Rattle.lp_outside.specs.Disk.{Changes};
-ghost use Rattle.lp_outside.specs.MemoryLogs.{folder_of};
-ghost use Rattle.lp_outside.specs.MemoryDisk.{files_of, state_of};
-ghost use Rattle.lp_outside.specs.declared.memory_disk.Call.TheVariants.{Write, Cut, Sync};
+// A disk in memory.
+ghost use Rattle.std.specs.Prelude.{◌≡◌, ◌≢◌, ◌⊎◌, ◌++◌, ◌<◌, ◌≤◌, ◌+◌, ◌^◌, ℕ, List, IfOk, OnOk, OnErr, IsTrue, IsErr, Some, None, length, min, take, drop};
+ghost use Rattle.lp_model.specs.Outside.{bytes_in, HasCause};
+ghost use Rattle.disk_model.specs.Disk.{IsImage, IsSynced, Works, Torn, At};
+ghost use Rattle.memory_outside.specs.Files.{Changes};
 
-use crate::memory_logs::{MemoryFile, copy_from, find, find_place};
-use crate::{Disk, DiskFailed, Name};
-use lp_values::Bytes;
+use crate::files::copy_from;
+use crate::replaying::{TornList, copied_files, image_of};
+use crate::schedule::Schedule;
+use crate::store::Store;
+use lp_outside::{Disk, DiskFailed, Name};
 use std::alloc::{AllocError, Global};
 
-/// A call that changed a file, or what a crash may leave of it.
-#[derive(Drop)]
-pub enum Call {
-    /// A write that changes the places from `from` on.
-    Write {
-        name: Name,
-        from: u64,
-        at: u64,
-        bytes: Bytes,
-    },
-    Cut {
-        name: Name,
-        to: u64,
-    },
-    /// A sync, with the bytes that it made lasting.
-    Sync {
-        name: Name,
-        bytes: Bytes,
-    },
-}
-
+/// A disk that tells all that it holds, keeps the calls that changed it, and may be stopped and crash.
 #[derive(Drop)]
 pub struct MemoryDisk {
     alloc: Global,
-    files: Vec<MemoryFile>,
-    calls: Vec<Call>,
+    store: Store,
+    schedule: Schedule,
+    stop: Option<u64>,
     faults: u64,
 }
 
@@ -45,186 +25,116 @@ pub struct MemoryDisk {
 const LONGEST_FILE: u64 = 1 << 62;
 
 impl MemoryDisk {
+    ghost use Rattle.memory_outside.specs.MemoryDisk.{disk_state, disk_files, disk_folder, disk_schedule, disk_stop, disk_faults, disk_crashed, is_to_fail, IsNewDisk, KeepsRest};
+    ghost use Rattle.memory_outside.specs.Schedule.{Adds, Passes};
+
+    /// No files, no fault, no stop, and no call named to fail.
     pub fn new(alloc: Global) -> Self
-        ensures { (state_of result).honest }
+        ensures { IsNewDisk result }
     {
         MemoryDisk {
             alloc,
-            files: Vec::new(alloc),
-            calls: Vec::new(alloc),
+            store: Store::new(alloc, Vec::new(alloc), Vec::new(alloc)),
+            schedule: Schedule::new(alloc),
+            stop: None,
             faults: 0,
         }
     }
-}
 
-// Puts bytes in the place of a file's, which is made where it is absent.
-pub fn store(files: &mut Vec<MemoryFile>, name: &Name, bytes: Bytes) -> Result<(), AllocError>
-    ensures ok { OnOk result (Changes (folder_of files.old.items) (folder_of files.new.items) name.now bytes) }
-    ensures err { OnErr result (files.new.items ≡ files.old.items) }
-{
-    match find_place(files, name) {
-        Some(index) => {
-            files[index].bytes = bytes;
-            Ok(())
+    /// Appends to a file, which is made where it is absent, and makes it lasting. An `Err` changes nothing.
+    pub fn put(&mut self, name: &Name, bytes: &[u8]) -> Result<(), AllocError>
+        ensures ok { OnOk result (Changes (disk_folder self.old) (disk_folder self.new) name.now (disk_files self.old name.now ++ bytes.now)) }
+        ensures lasts { OnOk result ((disk_state self.old).honest → Works (At name.now (Torn (length (disk_files self.old name.now)) (length (disk_files self.old name.now) + length bytes.now))) (disk_state self.old) (disk_state self.new) × IsSynced (disk_state self.new) name.now) }
+        ensures err { OnErr result ((disk_folder self.new ≡ disk_folder self.old) × (disk_state self.new ≡ disk_state self.old)) }
+        ensures rest { KeepsRest self.old self.new }
+    {
+        self.store.put(name, bytes)
+    }
+
+    /// The bytes of a file; an absent one has none.
+    pub fn bytes(&self, name: &Name) -> &[u8]
+        ensures { result.now ≡ disk_files self.now name.now }
+    {
+        self.store.bytes(name)
+    }
+
+    /// How many calls of the disk were made so far.
+    pub fn calls(&self) -> u64
+        ensures { result ≡ (disk_schedule self.now).calls }
+    {
+        self.schedule.calls
+    }
+
+    /// That call from now, counted from 0, fails.
+    pub fn fail(&mut self, call: u64) -> Result<(), AllocError>
+        ensures ok { OnOk result (Adds (disk_schedule self.old) (disk_schedule self.new) call) }
+        ensures err { OnErr result (disk_schedule self.new ≡ disk_schedule self.old) }
+        ensures files { (disk_folder self.new ≡ disk_folder self.old) × (disk_state self.new ≡ disk_state self.old) }
+    {
+        self.schedule.fail(call)
+    }
+
+    /// Lets so many calls pass. The next one is taken as an unsynced one and fails, and each one behind it fails.
+    pub fn stop_after(&mut self, calls: u64)
+        ensures stop { disk_stop self.new ≡ Some (min ((disk_schedule self.old).calls + calls) (2 ^ 64 - 1)) }
+        ensures schedule { disk_schedule self.new ≡ disk_schedule self.old }
+        ensures files { (disk_folder self.new ≡ disk_folder self.old) × (disk_state self.new ≡ disk_state self.old) }
+    {
+        self.stop = Some(self.schedule.calls.saturating_add(calls));
+    }
+
+    /// Leaves of the files what a crash leaves: each unsynced write or cut as the list says, one item for each in their
+    /// order, and those without an item lost. Then all is lasting, and a stop has ended. An `Err` changes nothing.
+    pub fn crash(&mut self, torn: &TornList) -> Result<(), AllocError>
+        ensures exact { OnOk result (disk_files self.new ≡ disk_crashed self.old torn.now) }
+        ensures image { OnOk result ((disk_state self.old).honest → IsImage (disk_state self.old) (disk_files self.new)) }
+        ensures honest { OnOk result (disk_state self.new).honest }
+        ensures lasting { OnOk result ((name : List ℕ) → IsSynced (disk_state self.new) name) }
+        ensures stop { OnOk result (disk_stop self.new ≡ None) }
+        ensures err { OnErr result ((disk_folder self.new ≡ disk_folder self.old) × (disk_state self.new ≡ disk_state self.old) × (disk_stop self.new ≡ disk_stop self.old)) }
+        ensures schedule { disk_schedule self.new ≡ disk_schedule self.old }
+    {
+        let image = image_of(
+            self.alloc,
+            &self.store.first,
+            &self.store.calls,
+            torn.as_slice(),
+        )?;
+        let first = copied_files(self.alloc, &image)?;
+        self.store = Store::new(self.alloc, first, image);
+        self.stop = None;
+        Ok(())
+    }
+
+    // Whether the next call is the one that a stop takes.
+    fn stops_here(&self) -> bool {
+        self.stop == Some(self.schedule.calls)
+    }
+
+    // Whether the next call is to fail, named or stopped. It is then past.
+    fn fails(&mut self) -> bool
+        ensures answer { result ≡ is_to_fail self.old }
+        ensures passes { Passes (disk_schedule self.old) (disk_schedule self.new) }
+        ensures same { (disk_folder self.new ≡ disk_folder self.old) × (disk_state self.new ≡ disk_state self.old) × (disk_faults self.new ≡ disk_faults self.old) }
+    {
+        let call = self.schedule.calls;
+        let due = self.schedule.pass();
+        match self.stop {
+            Some(stop) if stop <= call => true,
+            _ => due,
         }
-        None => {
-            files.push(MemoryFile {
-                name: name.copy(),
-                bytes,
-            })?;
-            Ok(())
-        }
     }
-}
-
-// The bytes of a file.
-pub fn bytes_of<'a>(files: &'a [MemoryFile], name: &Name) -> &'a [u8]
-    ensures { result.now ≡ bytes_in (folder_of files.now) name.now }
-{
-    match find(files, name) {
-        Some(bytes) => bytes.as_slice(),
-        None => &[],
-    }
-}
-
-// Old bytes with others written over them from a place on; zero bytes fill a gap.
-pub fn written(alloc: Global, old: &[u8], at: usize, bytes: &[u8]) -> Result<Bytes, AllocError>
-    requires { at + length bytes.now < 2 ^ 63 }
-    ensures { IfOk result (λ new. new ≡ overwritten old.now at bytes.now) }
-{
-    let mut new = Bytes::new(alloc);
-    add_front(&mut new, old, at)?;
-    new.add(bytes)?;
-    add_back(&mut new, old, at + bytes.len())?;
-    Ok(new)
-}
-
-// Adds the bytes before a place, with zero bytes for a gap.
-fn add_front(to: &mut Bytes, old: &[u8], at: usize) -> Result<(), AllocError>
-    ensures { OnOk result (to.new ≡ to.old ++ take at (old.now ++ replicate (at - length old.now) 0)) }
-{
-    if at <= old.len() {
-        to.add(&old[..at])?;
-        return Ok(());
-    }
-    to.add(old)?;
-    add_zeros(to, at - old.len())?;
-    Ok(())
-}
-
-// Adds the bytes from a place on.
-fn add_back(to: &mut Bytes, old: &[u8], from: usize) -> Result<(), AllocError>
-    ensures { OnOk result (to.new ≡ to.old ++ drop from old.now) }
-{
-    if from < old.len() {
-        to.add(&old[from..])?;
-    }
-    Ok(())
-}
-
-fn add_zeros(to: &mut Bytes, count: usize) -> Result<(), AllocError>
-    ensures { OnOk result (to.new ≡ to.old ++ replicate count 0) }
-{
-    for _ in 0..count {
-        to.push(0)?;
-    }
-    Ok(())
-}
-
-// Writes into a file, and notes the call. After an `Err` the file may be as before.
-fn write_file(
-    alloc: Global,
-    files: &mut Vec<MemoryFile>,
-    calls: &mut Vec<Call>,
-    name: &Name,
-    at: usize,
-    bytes: &[u8],
-) -> Result<(), AllocError>
-    requires { at + length bytes.now < 2 ^ 63 }
-    ensures ok { OnOk result (Changes (folder_of files.old.items) (folder_of files.new.items) name.now (overwritten (bytes_in (folder_of files.old.items) name.now) at bytes.now)) }
-    ensures noted { OnOk result (calls.new.items ≡ calls.old.items ++ Write name.now (start_of (bytes_in (folder_of files.old.items) name.now) at) at bytes.now ∷ []) }
-    ensures err { OnErr result ((files.new.items ≡ files.old.items) × ((calls.new.items ≡ calls.old.items) ⊎ (calls.new.items ≡ calls.old.items ++ Write name.now (start_of (bytes_in (folder_of files.old.items) name.now) at) at bytes.now ∷ []))) }
-{
-    let old = bytes_of(files, name);
-    let from = old.len().min(at);
-    let new = written(alloc, old, at, bytes)?;
-    let copy = copied(alloc, bytes)?;
-    calls.push(Call::Write {
-        name: name.copy(),
-        from: from as u64,
-        at: at as u64,
-        bytes: copy,
-    })?;
-    store(files, name, new)?;
-    Ok(())
-}
-
-// A copy of bytes.
-pub fn copied(alloc: Global, bytes: &[u8]) -> Result<Bytes, AllocError>
-    ensures { IfOk result (λ copy. copy ≡ bytes.now) }
-{
-    let mut copy = Bytes::new(alloc);
-    copy.add(bytes)?;
-    Ok(copy)
-}
-
-// Cuts a file, and notes the call. After an `Err` the file may be as before.
-fn cut_file(
-    alloc: Global,
-    files: &mut Vec<MemoryFile>,
-    calls: &mut Vec<Call>,
-    name: &Name,
-    to: u64,
-) -> Result<(), AllocError>
-    ensures ok { OnOk result (Changes (folder_of files.old.items) (folder_of files.new.items) name.now (take to (bytes_in (folder_of files.old.items) name.now))) }
-    ensures noted { OnOk result (calls.new.items ≡ calls.old.items ++ Cut name.now to ∷ []) }
-    ensures err { OnErr result ((files.new.items ≡ files.old.items) × ((calls.new.items ≡ calls.old.items) ⊎ (calls.new.items ≡ calls.old.items ++ Cut name.now to ∷ []))) }
-{
-    let old = bytes_of(files, name);
-    let new = copied(alloc, first_of(old, to))?;
-    calls.push(Call::Cut {
-        name: name.copy(),
-        to,
-    })?;
-    store(files, name, new)?;
-    Ok(())
-}
-
-pub fn first_of(bytes: &[u8], count: u64) -> &[u8]
-    ensures { result.now ≡ take count bytes.now }
-{
-    if count < bytes.len() as u64 {
-        &bytes[..count as usize]
-    } else {
-        bytes
-    }
-}
-
-// Notes a sync.
-fn sync_file(
-    alloc: Global,
-    files: &[MemoryFile],
-    calls: &mut Vec<Call>,
-    name: &Name,
-) -> Result<(), AllocError>
-    ensures ok { OnOk result (calls.new.items ≡ calls.old.items ++ Sync name.now (bytes_in (folder_of files.now) name.now) ∷ []) }
-    ensures err { OnErr result (calls.new.items ≡ calls.old.items) }
-{
-    let bytes = copied(alloc, bytes_of(files, name))?;
-    calls.push(Call::Sync {
-        name: name.copy(),
-        bytes,
-    })?;
-    Ok(())
 }
 
 impl Disk for MemoryDisk {
-    ghost use Rattle.lp_outside.specs.MemoryDisk.{state_of};
-    ghost use Rattle.lp_outside.specs.MemoryLaws.{left_now, only_now};
+    ghost use Rattle.disk_model.specs.Disk.{Shows, Nothing, Shortened, overwritten, start_of};
+    ghost use Rattle.memory_outside.specs.MemoryDisk.{disk_state, disk_files, disk_schedule, disk_faults, is_to_fail};
+    ghost use Rattle.memory_outside.specs.Schedule.{Passes};
+    ghost use Rattle.memory_outside.specs.MemoryLaws.{left_now, only_now};
 
-    ghost state = { state_of };
+    ghost state = { disk_state };
 
-    ghost faults = { λ disk. disk.faults };
+    ghost faults = { disk_faults };
 
     ghost honest_tells = { λ disk honest. tt };
 
@@ -234,8 +144,22 @@ impl Disk for MemoryDisk {
 
     ghost only_now = { λ disk image honest had. only_now disk image had };
 
-    fn length(&mut self, name: &Name) -> Result<u64, DiskFailed> {
-        let length = bytes_of(&self.files, name).len() as u64;
+    /// Fails exactly where the call was named to, the disk is stopped, or the file is over 2^62 bytes.
+    fn length(&mut self, name: &Name) -> Result<u64, DiskFailed>
+        ensures crash { (disk_state self.old).honest → Works Nothing (disk_state self.old) (disk_state self.new) }
+        ensures shows { (disk_state self.old).tells → Shows Nothing (disk_state self.old) (disk_state self.new) }
+        ensures found { IfOk result (λ found. (disk_state self.old).tells → found ≡ length (disk_files self.old name.now)) }
+        ensures bound { IfOk result (λ found. found ≤ 2 ^ 62) }
+        ensures cause { HasCause (disk_faults self.old) (disk_faults self.new) result }
+        ensures named { IsTrue (is_to_fail self.old) → IsErr result }
+        ensures only_named { IsErr result → (IsTrue (is_to_fail self.old)) ⊎ (2 ^ 62 < length (disk_files self.old name.now)) }
+        ensures passes { Passes (disk_schedule self.old) (disk_schedule self.new) }
+    {
+        if self.fails() {
+            self.faults = self.faults.saturating_add(1);
+            return Err(DiskFailed);
+        }
+        let length = self.store.bytes(name).len() as u64;
         if length > LONGEST_FILE {
             self.faults = self.faults.saturating_add(1);
             return Err(DiskFailed);
@@ -243,44 +167,98 @@ impl Disk for MemoryDisk {
         Ok(length)
     }
 
-    fn read_at(&mut self, name: &Name, at: u64, into: &mut [u8]) -> Result<usize, DiskFailed> {
-        Ok(copy_from(bytes_of(&self.files, name), at, into))
-    }
-
-    fn write_at(&mut self, name: &Name, at: u64, bytes: &[u8]) -> Result<(), DiskFailed> {
-        let size = bytes.len() as u64;
-        if size > LONGEST_FILE || at > LONGEST_FILE - size {
+    /// Fails exactly where the call was named to, the disk is stopped, or the file is over 2^62 bytes.
+    fn read_at(&mut self, name: &Name, at: u64, into: &mut [u8]) -> Result<usize, DiskFailed>
+        ensures crash { (disk_state self.old).honest → Works Nothing (disk_state self.old) (disk_state self.new) }
+        ensures shows { (disk_state self.old).tells → Shows Nothing (disk_state self.old) (disk_state self.new) }
+        ensures count { IfOk result (λ count. count ≤ length into.new) }
+        ensures some { IfOk result (λ count. (0 < count) ⊎ (length into.new ≡ 0) ⊎ ((disk_state self.old).tells × (length (disk_files self.old name.now) ≤ at))) }
+        ensures bytes { IfOk result (λ count. (disk_state self.old).tells → take count into.new ≡ take count (drop at (disk_files self.old name.now))) }
+        ensures fits { IfOk result (λ count. (disk_state self.old).tells → 0 < count → at + count ≤ length (disk_files self.old name.now)) }
+        ensures bound { IfOk result (λ count. 0 < count → at + count ≤ 2 ^ 62) }
+        ensures cause { HasCause (disk_faults self.old) (disk_faults self.new) result }
+        ensures named { IsTrue (is_to_fail self.old) → IsErr result }
+        ensures only_named { IsErr result → (IsTrue (is_to_fail self.old)) ⊎ (2 ^ 62 < length (disk_files self.old name.now)) }
+        ensures passes { Passes (disk_schedule self.old) (disk_schedule self.new) }
+    {
+        if self.fails() {
             self.faults = self.faults.saturating_add(1);
             return Err(DiskFailed);
         }
-        match write_file(
-            self.alloc,
-            &mut self.files,
-            &mut self.calls,
-            name,
-            at as usize,
-            bytes,
-        ) {
-            Ok(()) => Ok(()),
-            Err(_) => {
+        let bytes = self.store.bytes(name);
+        if bytes.len() as u64 > LONGEST_FILE {
+            self.faults = self.faults.saturating_add(1);
+            return Err(DiskFailed);
+        }
+        Ok(copy_from(bytes, at, into))
+    }
+
+    /// Fails where the call was named to, the disk is stopped, it goes past 2^62 bytes, and for want of memory. The call
+    /// at which the disk stops is done, and fails.
+    fn write_at(&mut self, name: &Name, at: u64, bytes: &[u8]) -> Result<(), DiskFailed>
+        ensures crash { (disk_state self.old).honest → Works (At name.now (Torn (start_of (disk_files self.old name.now) at) (at + length bytes.now))) (disk_state self.old) (disk_state self.new) }
+        ensures shows { (disk_state self.old).tells → Shows (At name.now (Torn (start_of (disk_files self.old name.now) at) (at + length bytes.now))) (disk_state self.old) (disk_state self.new) }
+        ensures written { OnOk result ((disk_state self.old).tells → disk_files self.new name.now ≡ overwritten (disk_files self.old name.now) at bytes.now) }
+        ensures bound { OnOk result (at + length bytes.now ≤ 2 ^ 62) }
+        ensures cause { HasCause (disk_faults self.old) (disk_faults self.new) result }
+        ensures named { IsTrue (is_to_fail self.old) → IsErr result }
+        ensures passes { Passes (disk_schedule self.old) (disk_schedule self.new) }
+    {
+        let stops = self.stops_here();
+        let fails = self.fails();
+        let size = bytes.len() as u64;
+        if (fails && !stops) || size > LONGEST_FILE || at > LONGEST_FILE - size {
+            self.faults = self.faults.saturating_add(1);
+            return Err(DiskFailed);
+        }
+        match self.store.write(name, at, bytes) {
+            Ok(()) if !fails => Ok(()),
+            _ => {
                 self.faults = self.faults.saturating_add(1);
                 Err(DiskFailed)
             }
         }
     }
 
-    fn cut(&mut self, name: &Name, to: u64) -> Result<(), DiskFailed> {
-        match cut_file(self.alloc, &mut self.files, &mut self.calls, name, to) {
-            Ok(()) => Ok(()),
-            Err(_) => {
+    /// Fails where the call was named to, the disk is stopped, and for want of memory. The call at which the disk stops is
+    /// done, and fails.
+    fn cut(&mut self, name: &Name, to: u64) -> Result<(), DiskFailed>
+        ensures crash { (disk_state self.old).honest → Works (At name.now (Shortened to)) (disk_state self.old) (disk_state self.new) }
+        ensures shows { (disk_state self.old).tells → Shows (At name.now (Shortened to)) (disk_state self.old) (disk_state self.new) }
+        ensures cut { OnOk result ((disk_state self.old).tells → disk_files self.new name.now ≡ take to (disk_files self.old name.now)) }
+        ensures cause { HasCause (disk_faults self.old) (disk_faults self.new) result }
+        ensures named { IsTrue (is_to_fail self.old) → IsErr result }
+        ensures passes { Passes (disk_schedule self.old) (disk_schedule self.new) }
+    {
+        let stops = self.stops_here();
+        let fails = self.fails();
+        if fails && !stops {
+            self.faults = self.faults.saturating_add(1);
+            return Err(DiskFailed);
+        }
+        match self.store.cut(name, to) {
+            Ok(()) if !fails => Ok(()),
+            _ => {
                 self.faults = self.faults.saturating_add(1);
                 Err(DiskFailed)
             }
         }
     }
 
-    fn sync(&mut self, name: &Name) -> Result<(), DiskFailed> {
-        match sync_file(self.alloc, &self.files, &mut self.calls, name) {
+    /// Fails where the call was named to, the disk is stopped, and for want of memory.
+    fn sync(&mut self, name: &Name) -> Result<(), DiskFailed>
+        ensures crash { (disk_state self.old).honest → Works Nothing (disk_state self.old) (disk_state self.new) }
+        ensures shows { (disk_state self.old).tells → Shows Nothing (disk_state self.old) (disk_state self.new) }
+        ensures durable { OnOk result ((disk_state self.old).honest → IsSynced (disk_state self.new) name.now) }
+        ensures cause { HasCause (disk_faults self.old) (disk_faults self.new) result }
+        ensures named { IsTrue (is_to_fail self.old) → IsErr result }
+        ensures passes { Passes (disk_schedule self.old) (disk_schedule self.new) }
+    {
+        if self.fails() {
+            self.faults = self.faults.saturating_add(1);
+            return Err(DiskFailed);
+        }
+        match self.store.sync(name) {
             Ok(()) => Ok(()),
             Err(_) => {
                 self.faults = self.faults.saturating_add(1);

@@ -1,0 +1,4 @@
+pub mod OneFile
+pub mod Listings
+pub mod MemorySteps
+pub mod Replayed

@@ -1,0 +1,9 @@
+pub mod Schedule
+pub mod Files
+pub mod MemoryLogs
+pub mod MemorySource
+pub mod MemorySink
+pub mod Store
+pub mod Crash
+pub mod MemoryDisk
+pub mod MemoryLaws
