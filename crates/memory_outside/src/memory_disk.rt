@@ -226,6 +226,8 @@ impl Disk for MemoryDisk {
 
     ghost faults = { λ disk. disk.faults };
 
+    ghost honest_tells = { λ disk honest. tt };
+
     ghost seen_left = { λ disk honest. honest };
 
     ghost counts_now = { λ disk t image honest le is. left_now disk t image le is };
