@@ -10,7 +10,8 @@ use Rattle.ledger_model.proofs.Laws.{IsLawful}
 use Rattle.ledger_model.proofs.Fields.{u16_length, u32_length, u64_length, u32_one}
 use Rattle.ledger.specs.declared.refused.LedgerRefused.{LedgerRefused}
 use Rattle.ledger.specs.declared.refused.LedgerRefused.TheVariants.{DiskFault, LedgerFault}
-use Rattle.ledger.specs.Reader.{Stood, IsRead, SomeRead, IsBroken, RefusedAt, RefusedShort, left_of, any_byte}
+use Rattle.ledger.specs.declared.refused.Part2.TheVariants.{Ledger}
+use Rattle.ledger.specs.Reader.{Stood, IsRead, SomeRead, IsBroken, RefusedAt, RefusedShort, left_of, any_byte, any_word, moved_to}
 
 -- an error that a `?` hands on
 pub handed : {U E : Type 0} (r : Result U E) (e : E) (P : U → Type 0) (Q : E → Type 0) → IsErrAnd r (λ y. y ≡ e) → Q e → MatchResult r P Q
@@ -89,3 +90,46 @@ one_byte (b ∷ d ∷ bytes) e = absurd (omega (arith, e))
 
 pub read_u8 : (file : List ℕ) (to from at : ℕ) (bytes : List ℕ) (n : ℕ) → length bytes ≡ 1 → n ≡ get_or bytes 0 0 → get_or bytes 0 0 < 256 → Stood file to from at bytes → IsRead any_byte file to from at n
 read_u8 file to from at bytes n size is low stood = record { fits = omega (arith, is, low); stood = subst (λ (t : List ℕ). Stood file to from at t) (one_byte bytes size ∙ ap (λ (k : ℕ). k ∷ []) (sym is)) stood }
+
+-- a text of such a length doesn't stand behind its length
+pub text_refused : (Is : List ℕ → Type 0) (file : List ℕ) (to from mid n : ℕ) → IsRead any_word file to from mid n → ((text more : List ℕ) → length text ≡ n → Is text → left_of file to mid ≡ text ++ more → ⊥) → IsBroken (text_of Is) file to from from
+text_refused Is file to from mid n read none = record {
+  later = 0;
+  breaks = (refl, λ text more fits e.
+      let apart = sym read.stood.split ∙ e ∙ append_assoc (u32_bytes (length text)) text more in
+      let front = u32_one n (length text) (left_of file to mid) (text ++ more) read.fits fits.0 apart in
+      none text more (sym front.0) fits.1 front.1);
+  at_is = omega arith;
+}
+
+-- a text that stands there
+pub text_read : (Is : List ℕ → Type 0) (file : List ℕ) (to from mid at n : ℕ) (text : List ℕ) → IsRead any_word file to from mid n → Stood file to mid at text → length text ≡ n → Is text → IsRead (text_of Is) file to from at text
+text_read Is file to from mid at n text read stood size is = record {
+  fits = (omega (arith, size, read.fits), is);
+  stood = record {
+    split = read.stood.split ∙ ap (λ (k : ℕ). u32_bytes k ++ left_of file to mid) (sym size) ∙ ap (λ (t : List ℕ). u32_bytes (length text) ++ t) stood.split ∙ sym (append_assoc (u32_bytes (length text)) text (left_of file to at));
+    moved = omega (arith, read.stood.moved, stood.moved, length-append (u32_bytes (length text)) text, u32_length n, u32_length (length text));
+  };
+}
+
+-- a text whose length isn't there
+pub text_unsized : (Is : List ℕ → Type 0) (file : List ℕ) (to from : ℕ) (refused : LedgerRefused) → RefusedAt any_word file to from refused → RefusedAt (text_of Is) file to from refused
+text_unsized Is file to from DiskFault broken = tt
+text_unsized Is file to from (LedgerFault part at) broken = (broken.0, record {
+  later = broken.1.later;
+  breaks = (broken.1.breaks.0, λ text more fits e. broken.1.breaks.1 (length text) (text ++ more) fits.0 (e ∙ append_assoc (u32_bytes (length text)) text more));
+  at_is = broken.1.at_is;
+})
+
+-- a text whose bytes aren't all there
+pub text_short : (Is : List ℕ → Type 0) (file : List ℕ) (to from mid n : ℕ) (refused : LedgerRefused) → IsRead any_word file to from mid n → RefusedShort file to mid n refused → RefusedAt (text_of Is) file to from (moved_to refused from)
+text_short Is file to from mid n DiskFault read short = tt
+text_short Is file to from mid n (LedgerFault part at) read short = (refl, text_refused Is file to from mid n read (λ text more size is e. omega (arith, short.2, ap length e, length-append text more, size)))
+
+-- a refusal at the place where a field begins
+pub refused_here : {A : Type 0} (layout : Layout A) (file : List ℕ) (to from place : ℕ) (refused : LedgerRefused) → refused ≡ LedgerFault Ledger place → place ≡ from → IsBroken layout file to from from → RefusedAt layout file to from refused
+refused_here layout file to from place refused is here broken = subst (λ (r : LedgerRefused). RefusedAt layout file to from r) (sym is) (refl, subst (λ (n : ℕ). IsBroken layout file to from n) (sym here) broken)
+
+-- and one that is moved there
+pub refused_moved : {A : Type 0} (layout : Layout A) (file : List ℕ) (to from place : ℕ) (inner refused : LedgerRefused) → refused ≡ moved_to inner place → place ≡ from → RefusedAt layout file to from (moved_to inner from) → RefusedAt layout file to from refused
+refused_moved layout file to from place inner refused is here broken = subst (λ (r : LedgerRefused). RefusedAt layout file to from r) (sym (is ∙ ap (moved_to inner) here)) broken

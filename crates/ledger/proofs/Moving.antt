@@ -35,3 +35,12 @@ stood_then file to a b c xs ys f s = record {
 
 pub stood_as : (file : List ℕ) (to a b : ℕ) (xs ys : List ℕ) → xs ≡ ys → Stood file to a b xs → Stood file to a b ys
 stood_as file to a b xs ys e stood = subst (λ (t : List ℕ). Stood file to a b t) e stood
+
+-- a reader that has read nothing ahead
+pub rewound : (disk : DiskState) (name file : List ℕ) (to : ℕ) (r s : Position) → CanRead disk name file to r → s.to ≡ r.to → s.ahead ≡ [] → CanRead disk name file to s
+rewound disk name file to r s can end none = record {
+  holds = can.holds;
+  end = end ∙ can.end;
+  ahead = none ∙ sym (ap (λ (n : ℕ). take n (drop s.at file)) (ap length none));
+  within = omega (arith, ap length none);
+}

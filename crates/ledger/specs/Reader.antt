@@ -5,7 +5,7 @@ use Rattle.std.specs.Prelude.{Result, MatchResult, IfErr}
 use Rattle.lp_model.specs.Outside.{Rose}
 use Rattle.disk_model.specs.Disk.{DiskState, Works, Shows, Nothing}
 use Rattle.ledger_model.specs.Layouts.{Layout, field}
-use Rattle.ledger_model.specs.Numbers.{u8_bytes, u16_bytes, u32_bytes}
+use Rattle.ledger_model.specs.Numbers.{u8_bytes, u16_bytes, u32_bytes, text_of}
 use Rattle.ledger.specs.declared.refused.LedgerRefused.{LedgerRefused}
 use Rattle.ledger.specs.declared.refused.LedgerRefused.TheVariants.{DiskFault, LedgerFault}
 use Rattle.ledger.specs.declared.refused.Part2.{Part2}
@@ -109,3 +109,12 @@ any_short = field (λ n. n < 2 ^ 16) u16_bytes
 
 abbrev pub any_word : Layout ℕ
 any_word = field (λ n. n < 2 ^ 32) u32_bytes
+
+-- a text of at most so many bytes
+abbrev pub text_within : ℕ → Layout (List ℕ)
+text_within most = text_of (λ text. length text ≤ most)
+
+-- a refusal for bytes, at the place where its field begins
+abbrev pub moved_to : LedgerRefused → ℕ → LedgerRefused
+moved_to DiskFault place = DiskFault
+moved_to (LedgerFault part at) place = LedgerFault Ledger place

@@ -1,12 +1,15 @@
 // Reads a part of a ledger from its front.
-ghost use Rattle.std.specs.Prelude.{◌≡◌, ◌⊎◌, ℕ, ◌+◌, ◌-◌, ◌<◌, ◌≤◌, ◌^◌, List, [], ◌++◌, length, take, drop, min, max, IfOk, OnOk, OnErr, MatchBool, MatchResult, slice_index};
+ghost use Rattle.std.specs.Prelude.{◌≡◌, ◌⊎◌, ℕ, ◌+◌, ◌-◌, ◌<◌, ◌≤◌, ◌^◌, List, [], ◌++◌, length, take, drop, min, max, IfOk, OnOk, OnErr, MatchBool, MatchOption, MatchResult, slice_index};
+ghost use Rattle.ledger_model.specs.Grammar.{IsName, name_field};
 ghost use Rattle.lp_model.specs.Outside.{HasCause};
-ghost use Rattle.ledger.specs.Reader.{Position, Holds, CanRead, IsFilled, Stood, Rests, Gives, RefusedShort, HasReason, left_of, any_byte, any_short, any_word};
+ghost use Rattle.ledger.specs.Reader.{Position, Holds, CanRead, IsFilled, Stood, Rests, Gives, RefusedShort, HasReason, left_of, any_byte, any_short, any_word, IsRead, RefusedAt, text_within};
 ghost use Rattle.ledger_model.specs.Numbers.{number};
 
-use crate::{LedgerRefused, Part2};
+use crate::LedgerRefused;
+use crate::refused::{damaged, moved};
 use lp_outside::{Disk, DiskFailed, Name};
 use std::marker::Model;
+use std::str;
 
 const ROOM: u64 = 1024;
 
@@ -46,6 +49,19 @@ fn fill<D: Disk>(disk: &mut D, name: &Name, at: u64, room: &mut [u8], want: usiz
         done += count;
     }
     Ok(done)
+}
+
+/// The name that some bytes are, if they are one.
+fn read_name(bytes: &[u8]) -> Option<Name>
+    ensures { MatchOption result (IsName bytes.now → ⊥) (λ name. (name ≡ bytes.now) × IsName bytes.now) }
+{
+    match str::from_utf8(bytes) {
+        Ok(text) => match Name::read(text) {
+            Ok(name) => Some(name),
+            Err(_) => None,
+        },
+        Err(_) => None,
+    }
 }
 
 impl EntryReader {
@@ -154,7 +170,7 @@ impl EntryReader {
                 Ok(true) => done = end,
                 Ok(false) => {
                     self.rewind(place);
-                    return Err(LedgerRefused::LedgerFault { part: Part2::Ledger, at: place });
+                    return Err(damaged(place));
                 }
                 Err(_) => {
                     self.rewind(place);
@@ -203,5 +219,56 @@ impl EntryReader {
         let mut bytes = [0; 8];
         self.take(disk, ledger, &mut bytes)?;
         Ok(u64::from_le_bytes(bytes))
+    }
+
+    /// Takes a text into the front of a buffer, and gives its length; a text that is longer is damaged.
+    pub(crate) fn short_text<D: Disk>(&mut self, disk: &mut D, ledger: &Name, room: &mut [u8]) -> Result<usize, LedgerRefused>
+        requires { length room.old < 2 ^ 32 }
+        ensures reads { (file : List ℕ) (to : ℕ) → CanRead (D.state disk.old) ledger.now file to self.old → CanRead (D.state disk.new) ledger.now file to self.new
+            × MatchResult result (λ size. IsRead (text_within (length room.old)) file to self.old.at self.new.at (take size room.new)) (RefusedAt (text_within (length room.old)) file to self.old.at) }
+        ensures within { IfOk result (λ size. size ≤ length room.new) }
+        ensures rests { Rests (D.state disk.old) (D.state disk.new) }
+        ensures reason { HasReason (D.faults disk.old) (D.faults disk.new) result }
+    {
+        let place = self.place();
+        let size = self.word(disk, ledger)? as usize;
+        if size > room.len() {
+            return Err(damaged(place));
+        }
+        match self.take(disk, ledger, &mut room[..size]) {
+            Ok(()) => Ok(size),
+            Err(refused) => Err(moved(refused, place)),
+        }
+    }
+
+    fn find_name<D: Disk>(&mut self, disk: &mut D, ledger: &Name) -> Result<Name, LedgerRefused>
+        ensures gives { Gives name_field (D.state disk.old) (D.state disk.new) ledger.now self.old self.new result }
+        ensures rests { Rests (D.state disk.old) (D.state disk.new) }
+        ensures reason { HasReason (D.faults disk.old) (D.faults disk.new) result }
+    {
+        let place = self.place();
+        let mut room = [0; 512];
+        let size = self.short_text(disk, ledger, &mut room)?;
+        match read_name(&room[..size]) {
+            Some(name) => Ok(name),
+            None => Err(damaged(place)),
+        }
+    }
+
+    /// Takes a text that is a name. Where none stands there the ledger is damaged at the text's length, and none is taken.
+    pub fn take_name<D: Disk>(&mut self, disk: &mut D, ledger: &Name) -> Result<Name, LedgerRefused>
+        ensures gives { Gives name_field (D.state disk.old) (D.state disk.new) ledger.now self.old self.new result }
+        ensures err { OnErr result (self.new.at ≡ self.old.at) }
+        ensures rests { Rests (D.state disk.old) (D.state disk.new) }
+        ensures reason { HasReason (D.faults disk.old) (D.faults disk.new) result }
+    {
+        let place = self.place();
+        match self.find_name(disk, ledger) {
+            Ok(name) => Ok(name),
+            Err(refused) => {
+                self.rewind(place);
+                Err(refused)
+            }
+        }
     }
 }

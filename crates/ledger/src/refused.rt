@@ -1,4 +1,7 @@
 // Why a ledger can't be read.
+ghost use Rattle.std.specs.Prelude.{◌≡◌};
+ghost use Rattle.ledger.specs.Reader.{moved_to};
+
 use thiserror::Error;
 
 /// Which file is damaged.
@@ -37,5 +40,25 @@ impl From<lp_outside::DiskFailed> for LedgerRefused {
 
     fn from(_failed: lp_outside::DiskFailed) -> LedgerRefused {
         LedgerRefused::DiskFault
+    }
+}
+
+/// The refusal at a place of the ledger.
+pub(crate) fn damaged(place: u64) -> LedgerRefused
+    ensures { result ≡ LedgerRefused.LedgerFault Part2.Ledger place }
+{
+    LedgerRefused::LedgerFault {
+        part: Part2::Ledger,
+        at: place,
+    }
+}
+
+/// A refusal, where it is one of the ledger, at the place where a field begins.
+pub(crate) fn moved(refused: LedgerRefused, place: u64) -> LedgerRefused
+    ensures { result ≡ moved_to refused place }
+{
+    match refused {
+        LedgerRefused::DiskFault => LedgerRefused::DiskFault,
+        LedgerRefused::LedgerFault { .. } => damaged(place),
     }
 }

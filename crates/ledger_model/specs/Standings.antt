@@ -1,23 +1,26 @@
 -- The bytes of a standing: lines so far, and the columns in force.
-use Rattle.std.specs.Prelude.{◌≡◌, ℕ, ◌<◌, ◌≤◌, ◌^◌, List, [], ◌∷◌, ◌++◌, length, flat_map, Option, Some, None}
+use Rattle.std.specs.Prelude.{◌≡◌, ℕ, ◌<◌, ◌≤◌, ◌^◌, List, [], ◌∷◌, ◌++◌, length, Option, Some, None}
 use Rattle.std.specs.Bool.{⊤}
-use Rattle.std.specs.List.{AllByRecursion}
 use Rattle.std.specs.Str.{IsUtf8}
 use Rattle.lp_model.specs.Reading.{Columns, Standing}
-use Rattle.ledger_model.specs.Numbers.{u16_bytes, u64_bytes, text_bytes}
+use Rattle.ledger_model.specs.Layouts.{Layout, counted}
+use Rattle.ledger_model.specs.Numbers.{u16_bytes, u64_bytes, text_of}
 
 -- a text in UTF-8 whose length has 32 bits
 abbrev pub IsShortText : List ℕ → Type 0
 IsShortText text = (length text < 2 ^ 32) × IsUtf8 text
 
 -- at most 1,024 names
+abbrev pub names_layout : Layout Columns
+names_layout = counted u16_bytes 1025 (λ before. text_of IsUtf8)
+
 abbrev pub AreColumns : Option Columns → Type 0
 AreColumns None = ⊤
-AreColumns (Some names) = (length names < 1025) × AllByRecursion IsShortText names
+AreColumns (Some names) = names_layout.Fits names
 
 abbrev pub columns_bytes : Option Columns → List ℕ
 columns_bytes None = 0 ∷ []
-columns_bytes (Some names) = 1 ∷ (u16_bytes (length names) ++ flat_map text_bytes names)
+columns_bytes (Some names) = 1 ∷ names_layout.spell names
 
 abbrev pub standing_bytes : Standing → List ℕ
 standing_bytes standing = u64_bytes standing.lines ++ columns_bytes standing.columns
