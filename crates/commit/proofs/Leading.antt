@@ -2,7 +2,8 @@
 use Rattle.std.proofs.Common.{◌≡◌, ◌≢◌, ℕ, ◌+◌, ◌≤◌, ◌<◌, min, List, [], ◌∷◌, ◌++◌, length, take, refl, sym, ◌∙◌, ap, subst, arith}
 use Rattle.std.proofs.lemmas.List.{take_min}
 use Rattle.ledger_model.specs.Entries.{Output}
-use Rattle.commit.specs.Stage.{Frame, IsFrame, IsChain, text_of, IsStaged, Leads}
+use Rattle.commit.specs.Stage.{Frame, IsFrame, HasNoFrame, IsChain, text_of, IsStaged, Leads, BreaksStage}
+use Rattle.commit.proofs.Frames.{one_frame}
 
 -- one frame more
 pub leads_more : (stage : List ℕ) (index : ℕ) (fs : List Frame) (last size place end : ℕ) (f : Frame) → Leads stage index fs last size place end → place ≡ f.place → end ≡ f.offset + length f.bytes → IsFrame stage index f
@@ -24,3 +25,16 @@ take_least n total s is = ap (λ (k : ℕ). take k s) least ∙ take_min n s
   where
     least : total ≡ min n (length s)
     least = omega (arith, is)
+
+-- where a text is staged no frame is missing
+pub chain_apart : (stage : List ℕ) (index : ℕ) (gs fs : List Frame) (last size place end : ℕ) → Leads stage index gs last size place end → 0 < end → HasNoFrame stage index place end → IsChain stage index fs last size → ⊥
+chain_apart stage index [] [] last size place end leads some none chain = omega (arith, leads.1, chain, some)
+chain_apart stage index [] (f ∷ fs) last size place end leads some none chain = none f chain.2 (sym chain.0 ∙ leads.0) (sym leads.1 ∙ chain.1)
+chain_apart stage index (g ∷ gs) [] last size place end leads some none chain = omega (arith, leads.1, chain, leads.2.some)
+chain_apart stage index (g ∷ gs) (f ∷ fs) last size place end leads some none chain =
+    let same = one_frame stage index f g chain.2 leads.2 (sym chain.0 ∙ leads.0) in
+    let rest : IsChain stage index fs g.prev g.offset = subst (λ (p : ℕ). IsChain stage index fs p g.offset) same.0 (subst (λ (o : ℕ). IsChain stage index fs f.prev o) same.1 chain.3) in
+    chain_apart stage index gs fs g.prev g.offset place end leads.3 some none rest
+
+pub staged_apart : (stage : List ℕ) (index : ℕ) (output : Output) (text : List ℕ) (place : ℕ) → IsStaged stage index output text → BreaksStage stage index output place → ⊥
+staged_apart stage index output text place staged breaks = chain_apart stage index breaks.frames staged.0 output.last output.size place breaks.end breaks.leads breaks.wanted breaks.none staged.1

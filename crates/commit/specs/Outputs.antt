@@ -1,0 +1,50 @@
+-- Reading the outputs of an entry from the ledger, one after another.
+use Rattle.std.specs.Prelude.{◌≡◌, ℕ, ◌-◌, ◌<◌, List, ◌++◌, take, drop, Some, slice_get}
+use Rattle.disk_model.specs.Disk.{DiskState}
+use Rattle.ledger_model.specs.Entries.{Entry, Output}
+use Rattle.ledger_model.specs.Layouts.{spelled}
+use Rattle.ledger_model.specs.Grammar.{IsEntry, payload_of, output_layout}
+use Rattle.ledger.specs.Reader.{Position, CanRead, left_of}
+use Rattle.commit.specs.Stage.{IsStaged, BreaksStage}
+use Rattle.commit.specs.Redo.{frames_in}
+
+-- the disk tells that the ledger holds an entry's payload from one place up to another
+pub record HoldsEntry (disk : DiskState) (ledger : List ℕ) (from to : ℕ) (entry : Entry) : Type 0 where
+  pub tells : disk.tells
+  pub is_entry : IsEntry entry
+  pub stands : left_of (disk.seen ledger) to from ≡ payload_of entry
+
+-- how far a reader has come, the stage's length and the number of outputs
+pub record Cursor : Type 0 where
+  pub position : Position
+  pub staged : ℕ
+  pub count : ℕ
+
+-- it stands before the outputs of an entry from one of them on
+pub record StandsBefore (disk : DiskState) (ledger : List ℕ) (entry : Entry) (k : ℕ) (cursor : Cursor) : Type 0 where
+  pub is_entry : IsEntry entry
+  pub file : List ℕ
+  pub to : ℕ
+  pub can : CanRead disk ledger file to cursor.position
+  pub more : List ℕ
+  pub left : left_of file to cursor.position.at ≡ spelled output_layout (take k entry.outputs) (drop k entry.outputs) ++ more
+
+-- so many outputs of an entry are written again: the ledger and the stage are as they were, and the texts of those outputs are staged
+pub record HasRedone (start now : DiskState) (ledger stage : List ℕ) (entry : Entry) (count : ℕ) (cursor : Cursor) : Type 0 where
+  pub tells : now.tells
+  pub ledger_same : now.seen ledger ≡ start.seen ledger
+  pub stage_same : now.seen stage ≡ start.seen stage
+  pub before : StandsBefore now ledger entry count cursor
+  pub staged : (k : ℕ) (output : Output) → k < count → slice_get entry.outputs k ≡ Some output → (text : List ℕ) × IsStaged (frames_in start stage entry.staged) k output text
+
+-- the texts of an entry's outputs are staged
+abbrev pub AllStaged : DiskState → List ℕ → Entry → Type 0
+AllStaged disk stage entry = (k : ℕ) (output : Output) → slice_get entry.outputs k ≡ Some output → (text : List ℕ) × IsStaged (frames_in disk stage entry.staged) k output text
+
+-- the first output whose text isn't staged has no frame at a place
+pub record BreaksOutputs (disk : DiskState) (stage : List ℕ) (entry : Entry) (place : ℕ) : Type 0 where
+  pub index : ℕ
+  pub output : Output
+  pub is : slice_get entry.outputs index ≡ Some output
+  pub earlier : (k : ℕ) (other : Output) → k < index → slice_get entry.outputs k ≡ Some other → (text : List ℕ) × IsStaged (frames_in disk stage entry.staged) k other text
+  pub breaks : BreaksStage (frames_in disk stage entry.staged) index output place
