@@ -5,7 +5,7 @@ use Rattle.disk_model.specs.Disk.{Files, DiskState, IsImage, IsSynced, LeavesOnl
 use Rattle.ledger_model.specs.Entries.{Entry, Output}
 use Rattle.ledger_model.specs.Grammar.{IsEntry, payload_of}
 use Rattle.ledger_model.specs.Ledgers.{Pair, IsPair, body_of, spelled_pair, front_of, IsClosed, IsLedger}
-use Rattle.commit.specs.Recovered.{unfinished, IsFile, AreApart, Recovers}
+use Rattle.commit.specs.Recovered.{unfinished, IsFile, AreApart, Recovers, RecoversEither}
 use Rattle.commit.specs.Redo.{frames_in}
 
 -- whatever a crash now leaves, and what a read gives, stands for this
@@ -18,6 +18,12 @@ pub record Keeps (disk : DiskState) (ledger stage : List ℕ) (entries : List En
 pub record Preserves (old new : DiskState) (ledger stage : List ℕ) (entries : List Entry) (files : Files) : Type 0 where
   pub each_moment : LeavesOnly old new (Recovers ledger stage entries files)
   pub now : Keeps new ledger stage entries files
+
+-- whatever a crash now leaves, and what a read gives, stands for the state before an entry or for the one after it
+pub record KeepsEither (disk : DiskState) (ledger stage : List ℕ) (entries : List Entry) (entry : Entry) (before after : Files) : Type 0 where
+  pub honest : disk.honest
+  pub images : (image : Files) → IsImage disk image → RecoversEither ledger stage entries entry before after image
+  pub seen : RecoversEither ledger stage entries entry before after disk.seen
 
 -- an entry that may be written: it has its form, its length has 64 bits, and no output is the ledger or the stage
 pub record IsGood (ledger stage : List ℕ) (entry : Entry) : Type 0 where
