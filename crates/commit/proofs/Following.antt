@@ -89,11 +89,11 @@ redone_more start now mid new ledger stage entry i cursor next output apart h re
     below_or_at : (k : ℕ) → k < i + 1 → (k < i) ⊎ (k ≡ i)
     below_or_at k less = grind arith
 
-pub redone_all : (start now : DiskState) (ledger stage : List ℕ) (entry : Entry) (count : ℕ) (cursor : Cursor) → HasRedone start now ledger stage entry count cursor → ((k : ℕ) (o : Output) → slice_get entry.outputs k ≡ Some o → k < count) → AllStaged start stage entry
+pub redone_all : (start now : DiskState) (ledger stage : List ℕ) (entry : Entry) (count : ℕ) (cursor : Cursor) → HasRedone start now ledger stage entry count cursor → ((k : ℕ) (o : Output) → slice_get entry.outputs k ≡ Some o → k < count) → AllStaged (frames_in start stage entry.staged) entry.outputs
 redone_all start now ledger stage entry count cursor h all = λ k o at. h.staged k o (all k o at) at
 
 pub redone_breaks : (start now mid : DiskState) (ledger stage : List ℕ) (entry : Entry) (i place : ℕ) (cursor : Cursor) (output : Output) → HasRedone start now ledger stage entry i cursor → Rests now mid → slice_get entry.outputs i ≡ Some output
-    → BreaksStage (frames_in mid stage entry.staged) i output place → BreaksOutputs start stage entry place
+    → BreaksStage (frames_in mid stage entry.staged) i output place → BreaksOutputs (frames_in start stage entry.staged) entry.outputs place
 redone_breaks start now mid ledger stage entry i place cursor output h rests at breaks = record {
   index = i;
   output = output;
@@ -110,7 +110,7 @@ known_rests start now mid ledger stage ledger_bytes stage_bytes entry files coun
     (λ name d c known same. subst (Known ledger stage ledger_bytes stage_bytes entry files count name) (sym same) known) means
 
 -- from the state that a gate leaves nothing is missing
-pub open_breaks : (disk : DiskState) (ledger stage : List ℕ) (place at : ℕ) (entry : Entry) (entries : List Entry) (files : Files) → IsImage disk disk.seen → IsOpen disk ledger stage place entry entries files → BreaksOutputs disk stage entry at → ⊥
+pub open_breaks : (disk : DiskState) (ledger stage : List ℕ) (place at : ℕ) (entry : Entry) (entries : List Entry) (files : Files) → IsImage disk disk.seen → IsOpen disk ledger stage place entry entries files → BreaksOutputs (frames_in disk stage entry.staged) entry.outputs at → ⊥
 open_breaks disk ledger stage place at entry entries files seen_left is breaks =
     let apart = is.good.apart in
     let name = breaks.output.name in

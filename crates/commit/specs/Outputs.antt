@@ -37,14 +37,14 @@ pub record HasRedone (start now : DiskState) (ledger stage : List ℕ) (entry : 
   pub before : StandsBefore now ledger entry count cursor
   pub staged : (k : ℕ) (output : Output) → k < count → slice_get entry.outputs k ≡ Some output → (text : List ℕ) × IsStaged (frames_in start stage entry.staged) k output text
 
--- the texts of an entry's outputs are staged
-abbrev pub AllStaged : DiskState → List ℕ → Entry → Type 0
-AllStaged disk stage entry = (k : ℕ) (output : Output) → slice_get entry.outputs k ≡ Some output → (text : List ℕ) × IsStaged (frames_in disk stage entry.staged) k output text
+-- the texts of these outputs are staged
+abbrev pub AllStaged : List ℕ → List Output → Type 0
+AllStaged stage outputs = (k : ℕ) (output : Output) → slice_get outputs k ≡ Some output → (text : List ℕ) × IsStaged stage k output text
 
 -- the first output whose text isn't staged has no frame at a place
-pub record BreaksOutputs (disk : DiskState) (stage : List ℕ) (entry : Entry) (place : ℕ) : Type 0 where
+pub record BreaksOutputs (stage : List ℕ) (outputs : List Output) (place : ℕ) : Type 0 where
   pub index : ℕ
   pub output : Output
-  pub is : slice_get entry.outputs index ≡ Some output
-  pub earlier : (k : ℕ) (other : Output) → k < index → slice_get entry.outputs k ≡ Some other → (text : List ℕ) × IsStaged (frames_in disk stage entry.staged) k other text
-  pub breaks : BreaksStage (frames_in disk stage entry.staged) index output place
+  pub is : slice_get outputs index ≡ Some output
+  pub earlier : (k : ℕ) (other : Output) → k < index → slice_get outputs k ≡ Some other → (text : List ℕ) × IsStaged stage k other text
+  pub breaks : BreaksStage stage index output place
