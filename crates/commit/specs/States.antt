@@ -46,6 +46,14 @@ pub record IsSettled (disk : DiskState) (ledger stage : List ℕ) (place : ℕ) 
   pub entries_are : entries ≡ map (λ pair. pair.entry) pairs
   pub files_are : (name file : List ℕ) → name ≢ ledger → name ≢ stage → disk.may_leave name file → file ≡ files name
 
+-- the ledger has no entries, and all is on the disk but the stage
+pub record HasNone (disk : DiskState) (ledger stage : List ℕ) (files : Files) : Type 0 where
+  pub honest : disk.honest
+  pub differ : ledger ≢ stage
+  pub is_ledger : IsLedger (disk.seen ledger) []
+  pub ledger_synced : IsSynced disk ledger
+  pub files_are : (name file : List ℕ) → name ≢ ledger → name ≢ stage → disk.may_leave name file → file ≡ files name
+
 -- the texts of an entry's outputs are staged, and with them the disk would stand for these files
 pub record HasStaged (disk : DiskState) (ledger stage : List ℕ) (entry : Entry) (before after : Files) : Type 0 where
   pub good : IsGood ledger stage entry
@@ -96,6 +104,11 @@ pub record IsOpen (disk : DiskState) (ledger stage : List ℕ) (place : ℕ) (en
 -- an entry is written behind a closed gate: the ledger up to the gate and the files stay
 pub record Resting (ledger stage : List ℕ) (pairs : List Pair) (gate : ℕ) (files : Files) (name file : List ℕ) : Type 0 where
   pub ledger_is : name ≡ ledger → (next : ℕ) × (more : List ℕ) × (file ≡ front_of pairs ++ gate ∷ next ∷ more)
+  pub file_is : name ≢ ledger → name ≢ stage → file ≡ files name
+
+-- a ledger with no entries is begun
+pub record Beginning (ledger stage : List ℕ) (files : Files) (name file : List ℕ) : Type 0 where
+  pub ledger_is : name ≡ ledger → IsLedger file []
   pub file_is : name ≢ ledger → name ≢ stage → file ≡ files name
 
 -- a gate is opened
