@@ -2,7 +2,8 @@
 ghost use Rattle.std.specs.Prelude.{◌≤◌, length, IfOk};
 
 use crate::Name;
-use std::io::{ErrorKind, Read, Seek, SeekFrom};
+use std::fs::OpenFile;
+use std::io::{ErrorKind, Read, Seek, SeekFrom, Write};
 use std::rt::Files;
 use std::{fs, io};
 
@@ -36,8 +37,8 @@ impl<F: Drop> Kept<F> {
 }
 
 impl<F: Read + Seek + Drop> Kept<F> {
-    /// Goes to a place.
-    pub fn go_to(&mut self, at: u64) -> io::Result<()> {
+    // Goes to a place.
+    fn go_to(&mut self, at: u64) -> io::Result<()> {
         if self.at != at {
             self.file.seek(SeekFrom::Start(at))?;
             self.at = at;
@@ -45,8 +46,8 @@ impl<F: Read + Seek + Drop> Kept<F> {
         Ok(())
     }
 
-    /// The place is behind so many bytes more.
-    pub fn pass(&mut self, count: usize) {
+    // The place is behind so many bytes more.
+    fn pass(&mut self, count: usize) {
         self.at = self.at.saturating_add(count as u64);
     }
 
@@ -58,6 +59,27 @@ impl<F: Read + Seek + Drop> Kept<F> {
         let count = self.file.read(into)?;
         self.pass(count);
         Ok(count)
+    }
+}
+
+impl<F: Read + Write + Seek + OpenFile + Drop> Kept<F> {
+    /// Writes bytes from a place on; the system fills a gap before it with zero bytes.
+    pub fn write_at(&mut self, at: u64, bytes: &[u8]) -> io::Result<()> {
+        if bytes.is_empty() {
+            return self.reach(at);
+        }
+        self.go_to(at)?;
+        self.file.write_all(bytes)?;
+        self.pass(bytes.len());
+        Ok(())
+    }
+
+    // Makes the file as long as this, where it is shorter.
+    fn reach(&mut self, at: u64) -> io::Result<()> {
+        if self.file.metadata()?.len() < at {
+            self.file.set_len(at)?;
+        }
+        Ok(())
     }
 }
 

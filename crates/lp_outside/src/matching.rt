@@ -29,7 +29,11 @@ fn find(pattern: &[u8], text: &[u8]) -> Found
     ensures { IsFound pattern.now text.now result }
 {
     let [byte, rest @ ..] = pattern else {
-        return if text.is_empty() { Found::Here } else { Found::NotHere };
+        return if text.is_empty() {
+            Found::Here
+        } else {
+            Found::NotHere
+        };
     };
     if *byte == b'*' {
         for skipped in 0..text.len() + 1 {

@@ -2,3 +2,4 @@ pub mod OneFile
 pub mod Listings
 pub mod MemorySteps
 pub mod Replayed
+pub mod DiskCalls

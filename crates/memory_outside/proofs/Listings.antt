@@ -1,5 +1,5 @@
 -- The names of the files that a pattern matches, one file after the other.
-use Rattle.std.proofs.Common.{◌≡◌, ◌≢◌, ◌⊎◌, inl, inr, ⊎_elim, ◌↔◌, ℕ, Bool, true, false, cond, List, [], ◌∷◌, ◌++◌, Option, Some, None, IsSome, IsTrue, Contains, bytes_eq, refl, sym, ◌∙◌, ap, subst}
+use Rattle.std.proofs.Common.{◌≡◌, ◌≢◌, ◌⊎◌, inl, inr, ⊎_elim, ◌↔◌, ℕ, Bool, true, false, cond, List, [], ◌∷◌, ◌++◌, Option, Some, IsSome, IsTrue, Contains, bytes_eq, refl, sym, ◌∙◌, ap, subst}
 use Rattle.std.proofs.lemmas.Bool.{cases_Bool, true≢false}
 use Rattle.std.proofs.lemmas.Slice.Eq.{bytes_eq-Decides}
 use Rattle.std.proofs.lemmas.Map.Text.{is_eq-slice_cmp}
@@ -53,13 +53,13 @@ pub match_added : (found new : BTreeSet (List ℕ)) (files : List MemoryFile) (f
     → ((q : List ℕ) → contains (slice_cmp nat_cmp) new q ≡ cond (is_eq (slice_cmp nat_cmp key q)) true (contains (slice_cmp nat_cmp) found q)) → Matches pattern file.name → HasMatches found files pattern → HasMatches new (files ++ file ∷ []) pattern
 match_added found new files file key pattern named updates matches has name = ⊎_elim
     (λ is.
-        let here : contains (slice_cmp nat_cmp) new name ≡ true = updates name ∙ ap (λ b. cond b true (contains (slice_cmp nat_cmp) found name)) (is_eq-slice_cmp key name ∙ (bytes_eq-Decides key name).1 (named ∙ is)) in
-        (λ h. (came files file name is, subst (Matches pattern) is matches), λ m. here))
+    let here : contains (slice_cmp nat_cmp) new name ≡ true = updates name ∙ ap (λ b. cond b true (contains (slice_cmp nat_cmp) found name)) (is_eq-slice_cmp key name ∙ (bytes_eq-Decides key name).1 (named ∙ is)) in
+    (λ h. (came files file name is, subst (Matches pattern) is matches), λ m. here))
     (λ isnt.
-        let apart : bytes_eq key name ≡ false = not_same key name (λ e. isnt (sym named ∙ e)) in
-        let there : contains (slice_cmp nat_cmp) new name ≡ contains (slice_cmp nat_cmp) found name = updates name ∙ ap (λ b. cond b true (contains (slice_cmp nat_cmp) found name)) (is_eq-slice_cmp key name ∙ apart) in
-        subst (λ (b : Bool). IsTrue b ↔ (IsSome (folder_of (files ++ file ∷ []) name) × Matches pattern name)) (sym there)
-        (subst (λ (o : Option (List ℕ)). IsTrue (contains (slice_cmp nat_cmp) found name) ↔ (IsSome o × Matches pattern name)) (sym (other files file name isnt)) (has name)))
+    let apart : bytes_eq key name ≡ false = not_same key name (λ e. isnt (sym named ∙ e)) in
+    let there : contains (slice_cmp nat_cmp) new name ≡ contains (slice_cmp nat_cmp) found name = updates name ∙ ap (λ b. cond b true (contains (slice_cmp nat_cmp) found name)) (is_eq-slice_cmp key name ∙ apart) in
+    subst (λ (b : Bool). IsTrue b ↔ (IsSome (folder_of (files ++ file ∷ []) name) × Matches pattern name)) (sym there)
+    (subst (λ (o : Option (List ℕ)). IsTrue (contains (slice_cmp nat_cmp) found name) ↔ (IsSome o × Matches pattern name)) (sym (other files file name isnt)) (has name)))
     (same_or_not file.name name)
   where
     not_same : (a b : List ℕ) → a ≢ b → bytes_eq a b ≡ false

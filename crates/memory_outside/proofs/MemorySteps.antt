@@ -1,10 +1,10 @@
 -- What each call of a disk in memory does to what a crash may leave.
-use Rattle.std.proofs.Common.{◌≡◌, ◌≢◌, ◌⊎◌, inl, inr, ⊎_elim, ℕ, zero, suc, ◌+◌, ◌-◌, ◌≤◌, ◌<◌, min, max, List, [], ◌∷◌, ◌++◌, length, take, drop, replicate, Option, unwrap_or, bytes_eq, Result, Ok, Err, OnErr, append-nil, refl, sym, ◌∙◌, ap, subst, arith, append_assoc, length-append}
+use Rattle.std.proofs.Common.{◌≡◌, ◌≢◌, ◌⊎◌, inl, inr, ⊎_elim, ℕ, ◌+◌, ◌-◌, ◌≤◌, min, List, [], ◌∷◌, ◌++◌, length, take, drop, replicate, unwrap_or, bytes_eq, Result, Ok, Err, OnErr, append-nil, refl, sym, ◌∙◌, ap, subst, arith, append_assoc, length-append}
 use Rattle.std.proofs.lemmas.List.{take_all, drop_all, take_at, drop_at, take-take, take-append-le, length-take-le, length-take, length-drop, length-replicate, take_min}
 use Rattle.std.proofs.lemmas.Bool.{cases_Bool}
 use Rattle.std.proofs.lemmas.Slice.Eq.{bytes_eq-Decides}
 use Rattle.lp_model.specs.Outside.{Folder, bytes_in}
-use Rattle.disk_model.specs.Disk.{Files, DiskState, IsImage, At, Nothing, Works, Shows, IsSynced, Torn, Shortened, overwritten, start_of}
+use Rattle.disk_model.specs.Disk.{Files, At, Nothing, Works, IsSynced, Torn, Shortened, overwritten, start_of}
 use Rattle.disk_model.proofs.DiskSteps.{same_or_not, Works-none, Works-rests, At-none}
 use Rattle.memory_outside.specs.Files.{put_in, Changes}
 use Rattle.memory_outside.specs.Store.{Stepped, LeavesFrom, LeavesFirst, MayLeave, HadLeft, state_from}
@@ -198,7 +198,7 @@ put_lasts first f g calls one two name bytes whole put is noted synced honest =
     let sync : Works Nothing (state_from first one g) (state_from first two g) = sync_done first g one two name whole here synced write.honest in
     let start : start_of (f name) size ≡ size = omega arith in (
       subst (λ (k : ℕ). Works (At name (Torn k (size + length bytes))) (state_from first calls f) (state_from first two g)) start
-      (Works-rests (Writes f name size bytes) (state_from first calls f) (state_from first one g) (state_from first two g) write sync),
+          (Works-rests (Writes f name size bytes) (state_from first calls f) (state_from first one g) (state_from first two g) write sync),
       sync_synced first g one two name whole here synced,
     )
 

@@ -1,9 +1,8 @@
 -- Calls that are done again give an image.
-use Rattle.std.proofs.Common.{◌≡◌, ◌≢◌, ◌⊎◌, inl, inr, ⊎_elim, ℕ, ◌+◌, ◌-◌, ◌≤◌, ◌<◌, min, max, Bool, true, false, List, [], ◌∷◌, ◌++◌, length, get_or, take, drop, replicate, refl, sym, ◌∙◌, ap, subst, arith, append_assoc, append-nil, length-append}
+use Rattle.std.proofs.Common.{◌≡◌, ◌≢◌, ⊎_elim, ℕ, ◌+◌, ◌-◌, ◌≤◌, ◌<◌, min, true, false, List, [], ◌∷◌, ◌++◌, length, get_or, take, drop, replicate, refl, sym, ◌∙◌, ap, subst, arith, append_assoc, append-nil, length-append}
 use Rattle.std.proofs.lemmas.List.{take_all, drop_at, take-take, take-append-le, length-take-le, length-drop, length-replicate, take_min}
-use Rattle.disk_model.specs.Disk.{Files, At, Torn, Shortened, overwritten, start_of}
-use Rattle.disk_model.proofs.DiskSteps.{same_or_not, At-none, At-weaker}
-use Rattle.memory_outside.specs.Files.{put_in}
+use Rattle.disk_model.specs.Disk.{Files, Torn, Shortened, overwritten, start_of}
+use Rattle.disk_model.proofs.DiskSteps.{same_or_not, At-none}
 use Rattle.memory_outside.specs.Store.{Stepped, LeavesFrom, LeavesFirst, MayLeave}
 use Rattle.memory_outside.specs.Crash.{crashed, replayed, filled, is_unsynced, next_of, Replays, AreImage}
 use Rattle.memory_outside.specs.declared.store.Call.{Call}

@@ -1,5 +1,5 @@
 -- What a crash leaves of a disk in memory.
-use Rattle.std.specs.Prelude.{◌≡◌, ℕ, ◌+◌, ◌-◌, min, Bool, true, false, not, List, [], ◌∷◌, length, take, drop, replicate, bytes_eq, if◌then◌else◌}
+use Rattle.std.specs.Prelude.{◌≡◌, ℕ, ◌+◌, ◌-◌, min, Bool, false, not, List, [], ◌∷◌, length, take, drop, replicate, bytes_eq, if◌then◌else◌}
 use Rattle.std.specs.List.{list_any}
 use Rattle.disk_model.specs.Disk.{Files, At, Shortened, overwritten}
 use Rattle.disk_model.specs.Disk.{Torn as TornBy}

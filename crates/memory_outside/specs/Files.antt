@@ -1,5 +1,5 @@
 -- The files of a list, by name, and how they change.
-use Rattle.std.specs.Prelude.{◌≡◌, ◌≢◌, ℕ, Bool, List, [], ◌∷◌, Option, Some, None, bytes_eq, if◌then◌else◌}
+use Rattle.std.specs.Prelude.{◌≡◌, ◌≢◌, ℕ, Bool, List, [], ◌∷◌, Some, None, bytes_eq, if◌then◌else◌}
 use Rattle.lp_model.specs.Outside.{Folder, bytes_in}
 use Rattle.disk_model.specs.Disk.{Files}
 use Rattle.memory_outside.specs.declared.files.MemoryFile.{MemoryFile}

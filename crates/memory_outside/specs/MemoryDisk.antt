@@ -1,10 +1,10 @@
 -- What a disk in memory holds and has done.
-use Rattle.std.specs.Prelude.{◌≡◌, ◌||◌, ℕ, Bool, true, false, List, [], Option, Some, None, nat_le}
+use Rattle.std.specs.Prelude.{◌≡◌, ◌||◌, ℕ, Bool, false, List, Option, Some, None, nat_le}
 use Rattle.lp_model.specs.Outside.{Folder}
 use Rattle.disk_model.specs.Disk.{Files, DiskState}
 use Rattle.memory_outside.specs.Files.{folder_of, files_in}
 use Rattle.memory_outside.specs.Schedule.{is_due, IsFresh}
-use Rattle.memory_outside.specs.Store.{store_state, store_files}
+use Rattle.memory_outside.specs.Store.{Stays, store_state, store_files}
 use Rattle.memory_outside.specs.Crash.{crashed}
 use Rattle.memory_outside.specs.declared.replaying.Torn.{Torn}
 use Rattle.memory_outside.specs.declared.schedule.Schedule.{Schedule}
@@ -54,6 +54,10 @@ pub record IsNewDisk (disk : MemoryDisk) : Type 0 where
   pub schedule : IsFresh disk.schedule
   pub stop : disk.stop ≡ None
   pub faults : disk.faults ≡ 0
+
+-- the files, and what a crash may leave of them, are as before
+abbrev pub KeepsFiles : MemoryDisk → MemoryDisk → Type 0
+KeepsFiles before now = Stays before.store now.store
 
 -- nothing failed, no call was made or named, and no stop came or went
 pub record KeepsRest (before now : MemoryDisk) : Type 0 where

@@ -1,6 +1,6 @@
 -- The laws of a disk in memory.
-use Rattle.std.specs.Prelude.{◌≡◌, ℕ, ◌≤◌, List, [], ◌∷◌, length, take}
-use Rattle.std.proofs.Common.{arith, subst, refl, sym, ap, ◌∙◌}
+use Rattle.std.specs.Prelude.{ℕ, ◌≤◌, List, length}
+use Rattle.std.proofs.Common.{arith, subst, sym}
 use Rattle.std.proofs.lemmas.List.{take_all}
 use Rattle.disk_model.specs.Disk.{Files, IsImage}
 use Rattle.memory_outside.specs.Files.{files_in}

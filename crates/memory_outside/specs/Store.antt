@@ -47,11 +47,11 @@ store_files store = files_in store.files.items
 abbrev pub store_state : Store → DiskState
 store_state store = state_from (files_in store.first.items) store.calls.items (store_files store)
 
--- no call was made since these files were there
-pub record IsFirst (first : List MemoryFile) (store : Store) : Type 0 where
+-- no call was made since the first of these lists of files was there; the second is what is there
+pub record IsFirst (first files : List MemoryFile) (store : Store) : Type 0 where
   pub first_is : store.first.items ≡ first
   pub calls : store.calls.items ≡ []
-  pub files : files_in store.files.items ≡ files_in first
+  pub files_is : store.files.items ≡ files
 
 -- the files and the calls are as before
 pub record Stays (before now : Store) : Type 0 where

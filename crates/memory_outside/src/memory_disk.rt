@@ -1,5 +1,5 @@
 // A disk in memory.
-ghost use Rattle.std.specs.Prelude.{◌≡◌, ◌≢◌, ◌⊎◌, ◌++◌, ◌<◌, ◌≤◌, ◌+◌, ◌^◌, ℕ, List, IfOk, OnOk, OnErr, IsTrue, IsErr, Some, None, length, min, take, drop};
+ghost use Rattle.std.specs.Prelude.{◌≡◌, ◌≢◌, ◌⊎◌, ◌++◌, ◌<◌, ◌≤◌, ◌+◌, ◌^◌, ℕ, List, IfOk, OnOk, OnErr, IsTrue, IsErr, Some, None, length, min, take, drop, ◌-◌};
 ghost use Rattle.lp_model.specs.Outside.{bytes_in, HasCause};
 ghost use Rattle.disk_model.specs.Disk.{IsImage, IsSynced, Works, Torn, At};
 ghost use Rattle.memory_outside.specs.Files.{Changes};
@@ -25,8 +25,8 @@ pub struct MemoryDisk {
 const LONGEST_FILE: u64 = 1 << 62;
 
 impl MemoryDisk {
-    ghost use Rattle.memory_outside.specs.MemoryDisk.{disk_state, disk_files, disk_folder, disk_schedule, disk_stop, disk_faults, disk_crashed, is_to_fail, IsNewDisk, KeepsRest};
-    ghost use Rattle.memory_outside.specs.Schedule.{Adds, Passes};
+    ghost use Rattle.memory_outside.specs.MemoryDisk.{disk_state, disk_files, disk_folder, disk_schedule, disk_stop, disk_faults, disk_crashed, is_to_fail, IsNewDisk, KeepsFiles, KeepsRest};
+    ghost use Rattle.memory_outside.specs.Schedule.{Adds, IsSame, Passes};
 
     /// No files, no fault, no stop, and no call named to fail.
     pub fn new(alloc: Global) -> Self
@@ -45,7 +45,7 @@ impl MemoryDisk {
     pub fn put(&mut self, name: &Name, bytes: &[u8]) -> Result<(), AllocError>
         ensures ok { OnOk result (Changes (disk_folder self.old) (disk_folder self.new) name.now (disk_files self.old name.now ++ bytes.now)) }
         ensures lasts { OnOk result ((disk_state self.old).honest → Works (At name.now (Torn (length (disk_files self.old name.now)) (length (disk_files self.old name.now) + length bytes.now))) (disk_state self.old) (disk_state self.new) × IsSynced (disk_state self.new) name.now) }
-        ensures err { OnErr result ((disk_folder self.new ≡ disk_folder self.old) × (disk_state self.new ≡ disk_state self.old)) }
+        ensures err { OnErr result (KeepsFiles self.old self.new) }
         ensures rest { KeepsRest self.old self.new }
     {
         self.store.put(name, bytes)
@@ -68,8 +68,8 @@ impl MemoryDisk {
     /// That call from now, counted from 0, fails.
     pub fn fail(&mut self, call: u64) -> Result<(), AllocError>
         ensures ok { OnOk result (Adds (disk_schedule self.old) (disk_schedule self.new) call) }
-        ensures err { OnErr result (disk_schedule self.new ≡ disk_schedule self.old) }
-        ensures files { (disk_folder self.new ≡ disk_folder self.old) × (disk_state self.new ≡ disk_state self.old) }
+        ensures err { OnErr result (IsSame (disk_schedule self.old) (disk_schedule self.new)) }
+        ensures files { KeepsFiles self.old self.new }
     {
         self.schedule.fail(call)
     }
@@ -78,7 +78,7 @@ impl MemoryDisk {
     pub fn stop_after(&mut self, calls: u64)
         ensures stop { disk_stop self.new ≡ Some (min ((disk_schedule self.old).calls + calls) (2 ^ 64 - 1)) }
         ensures schedule { disk_schedule self.new ≡ disk_schedule self.old }
-        ensures files { (disk_folder self.new ≡ disk_folder self.old) × (disk_state self.new ≡ disk_state self.old) }
+        ensures files { KeepsFiles self.old self.new }
     {
         self.stop = Some(self.schedule.calls.saturating_add(calls));
     }
@@ -91,7 +91,7 @@ impl MemoryDisk {
         ensures honest { OnOk result (disk_state self.new).honest }
         ensures lasting { OnOk result ((name : List ℕ) → IsSynced (disk_state self.new) name) }
         ensures stop { OnOk result (disk_stop self.new ≡ None) }
-        ensures err { OnErr result ((disk_folder self.new ≡ disk_folder self.old) × (disk_state self.new ≡ disk_state self.old) × (disk_stop self.new ≡ disk_stop self.old)) }
+        ensures err { OnErr result (KeepsFiles self.old self.new × (disk_stop self.new ≡ disk_stop self.old)) }
         ensures schedule { disk_schedule self.new ≡ disk_schedule self.old }
     {
         let image = image_of(
@@ -115,7 +115,7 @@ impl MemoryDisk {
     fn fails(&mut self) -> bool
         ensures answer { result ≡ is_to_fail self.old }
         ensures passes { Passes (disk_schedule self.old) (disk_schedule self.new) }
-        ensures same { (disk_folder self.new ≡ disk_folder self.old) × (disk_state self.new ≡ disk_state self.old) × (disk_faults self.new ≡ disk_faults self.old) }
+        ensures same { (self.new.store ≡ self.old.store) × (self.new.stop ≡ self.old.stop) × (self.new.faults ≡ self.old.faults) }
     {
         let call = self.schedule.calls;
         let due = self.schedule.pass();

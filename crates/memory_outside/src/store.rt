@@ -141,7 +141,7 @@ fn shorten(
 impl Store {
     pub fn new(alloc: Global, first: Vec<MemoryFile>, files: Vec<MemoryFile>) -> Self
         requires { files_in files.items ≡ files_in first.items }
-        ensures { IsFirst first.items result }
+        ensures { IsFirst first.items files.items result }
     {
         Store {
             alloc,

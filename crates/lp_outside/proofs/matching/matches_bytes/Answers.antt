@@ -15,6 +15,7 @@ returns-then-ne c =
 pub returns : goal.returns
 returns c =
     let s = c.part_start-start.result in
-    let same : take s c.args.name.now ≡ take s c.args.pattern.now = alike (take s c.args.name.now) (take s c.args.pattern.now) c.if-ne.ensures in
-    (λ h. by_parts c.args.pattern.now c.args.name.now s c.part_start.result c.part_start-start.ensures c.part_start.ensures c.if-part_start-start.false same (c.matches_part.ensures.0 h),
-     λ m. c.matches_part.ensures.1 (has_part c.args.pattern.now c.args.name.now s c.part_start-start.ensures m))
+    let same : take s c.args.name.now ≡ take s c.args.pattern.now = alike (take s c.args.name.now) (take s c.args.pattern.now) c.if-ne.ensures in (
+      λ h. by_parts c.args.pattern.now c.args.name.now s c.part_start.result c.part_start-start.ensures c.part_start.ensures c.if-part_start-start.false same (c.matches_part.ensures.0 h),
+      λ m. c.matches_part.ensures.1 (has_part c.args.pattern.now c.args.name.now s c.part_start-start.ensures m),
+    )

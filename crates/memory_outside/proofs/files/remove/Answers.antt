@@ -1,4 +1,4 @@
-use Rattle.std.proofs.Common.{◌≡◌, ◌∙◌, ap, Some, None}
+use Rattle.std.proofs.Common.{◌≡◌, ◌∙◌, ap, Some}
 use Rattle.std.specs.List.{position}
 use Rattle.memory_outside.specs.Files.{folder_of, is_named}
 use Rattle.memory_outside.proofs.OneFile.{file_taken, file_missing}

@@ -1,5 +1,4 @@
-use Rattle.std.proofs.Common.{◌≡◌, ◌++◌, rules, arith, sym, ap, subst, List, map, set, ◌∙◌, []}
-use Rattle.std.proofs.lemmas.List.{take_all, drop_all}
+use Rattle.std.proofs.Common.{sym, ap, subst, List, set, ◌∙◌}
 use Rattle.std.proofs.lemmas.List.Edits.{map_over_more}
 use Rattle.memory_outside.specs.declared.files.MemoryFile.{MemoryFile}
 use Rattle.memory_outside.specs.Files.{folder_of, renamed, Renames}

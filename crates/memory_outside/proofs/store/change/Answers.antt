@@ -1,10 +1,8 @@
-use Rattle.std.proofs.Common.{◌≡◌, ◌++◌, ◌∷◌, [], ◌-◌, ◌+◌, ℕ, List, length, take, drop, refl, sym, ap, subst, ◌∙◌, inl, inr, arith}
-use Rattle.std.proofs.lemmas.List.{take_all}
+use Rattle.std.proofs.Common.{◌≡◌, ◌++◌, ℕ, List, length, sym, ap, ◌∙◌}
 use Rattle.lp_model.specs.Outside.{Folder, bytes_in}
-use Rattle.disk_model.specs.Disk.{Files, Nothing, At, Shortened, overwritten}
+use Rattle.disk_model.specs.Disk.{Files, overwritten}
 use Rattle.memory_outside.specs.Files.{folder_of, files_in, put_in}
-use Rattle.memory_outside.specs.Store.{store_files}
-use Rattle.memory_outside.proofs.MemorySteps.{put_from, put_here, put_same, appended, put_lasts, on_err, works_same, Writes, write_seen, write_still, write_done, cut_seen, cut_still, cut_noted, sync_done, sync_synced}
+use Rattle.memory_outside.proofs.MemorySteps.{put_from, appended, on_err}
 use Rattle.memory_outside.proofs.store.change.Goals as goal
 
 pub returns-in_err-append-clause-err : goal.returns-in_err-append-clause-err

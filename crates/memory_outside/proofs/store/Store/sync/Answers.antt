@@ -1,11 +1,8 @@
-use Rattle.std.proofs.Common.{◌≡◌, ◌++◌, ◌∷◌, [], ◌-◌, ◌+◌, ℕ, List, length, take, drop, refl, sym, ap, subst, ◌∙◌, inl, inr, arith}
-use Rattle.std.proofs.lemmas.List.{take_all}
-use Rattle.lp_model.specs.Outside.{Folder, bytes_in}
-use Rattle.disk_model.specs.Disk.{Files, Nothing, At, Shortened, overwritten}
-use Rattle.memory_outside.specs.Files.{folder_of, files_in, put_in}
-use Rattle.memory_outside.specs.Store.{store_files}
-use Rattle.memory_outside.specs.declared.store.Call.TheVariants.{Write, Cut, Sync}
-use Rattle.memory_outside.proofs.MemorySteps.{put_from, put_here, put_same, appended, put_lasts, on_err, works_same, Writes, write_seen, write_still, write_done, cut_seen, cut_still, cut_noted, sync_done, sync_synced}
+use Rattle.std.proofs.Common.{◌++◌, ◌∷◌, [], ℕ, List, refl, ap, ◌∙◌}
+use Rattle.disk_model.specs.Disk.{Nothing}
+use Rattle.memory_outside.specs.Files.{files_in}
+use Rattle.memory_outside.specs.declared.store.Call.TheVariants.{Sync}
+use Rattle.memory_outside.proofs.MemorySteps.{works_same, sync_done, sync_synced}
 use Rattle.memory_outside.proofs.store.Store.sync.Goals as goal
 
 pub returns-in_err-push-clause-crash : goal.returns-in_err-push-clause-crash

@@ -1,0 +1,224 @@
+// Files as a disk. They tell nothing of what they hold.
+ghost use Rattle.std.specs.Prelude.{◌≡◌, ◌≤◌, length, IfOk};
+ghost use Rattle.lp_model.specs.Outside.{HasCause};
+
+use crate::folders::{make_folders, sync_folder};
+use crate::kept::{Kept, is_absence};
+use crate::{Disk, DiskFailed, Name};
+use std::fs::{OpenFile, OpenOptions};
+use std::io;
+use std::io::ErrorKind;
+use std::rt::Files;
+
+// The longest file, 2^62 bytes.
+const LONGEST_FILE: u64 = 1 << 62;
+
+/// The files of a system as a disk. The one that was used last is kept open, so that most reads and writes take one call
+/// or two. A write makes the file and its folders where they are missing; no other call makes a file.
+#[derive(Drop)]
+pub struct FileDisk<'a, R: Files> {
+    rt: &'a R,
+    open: Option<Kept<R::File>>,
+    faults: u64,
+}
+
+// Opens a file for reading, or for both, where it is there.
+fn open_there<R: Files>(rt: &R, name: &Name, writes: bool) -> io::Result<Option<Kept<R::File>>> {
+    match OpenOptions::new()
+        .read(true)
+        .write(writes)
+        .open(rt, name.as_str())
+    {
+        Ok(file) => Ok(Some(Kept::new(name, file, writes))),
+        Err(e) if is_absence(&e) => Ok(None),
+        Err(e) => Err(e),
+    }
+}
+
+// Opens a file for both, and makes it where it is missing.
+fn open_made<R: Files>(rt: &R, name: &Name) -> io::Result<R::File> {
+    OpenOptions::new()
+        .read(true)
+        .write(true)
+        .create(true)
+        .open(rt, name.as_str())
+}
+
+// The same, with the folders of its name.
+fn open_in_folders<R: Files>(rt: &R, name: &Name) -> io::Result<R::File> {
+    match open_made(rt, name) {
+        Err(e) if e.kind() == ErrorKind::NotFound => {
+            make_folders(rt, name)?;
+            open_made(rt, name)
+        }
+        opened => opened,
+    }
+}
+
+impl<'a, R: Files> FileDisk<'a, R> {
+    pub fn new(rt: &'a R) -> Self
+        ensures { result.faults ≡ 0 }
+    {
+        FileDisk {
+            rt,
+            open: None,
+            faults: 0,
+        }
+    }
+
+    // Takes the open file, where it is this one and serves.
+    fn take(&mut self, name: &Name, writes: bool) -> Option<Kept<R::File>>
+        ensures { self.new.faults ≡ self.old.faults }
+    {
+        match self.open.take() {
+            Some(file) if file.is(name) && (file.writes || !writes) => Some(file),
+            _ => None,
+        }
+    }
+
+    // Takes the open file, or opens it where it is there.
+    fn take_there(&mut self, name: &Name, writes: bool) -> io::Result<Option<Kept<R::File>>>
+        ensures { self.new.faults ≡ self.old.faults }
+    {
+        match self.take(name, writes) {
+            Some(file) => Ok(Some(file)),
+            None => open_there(self.rt, name, writes),
+        }
+    }
+
+    fn length_of(&mut self, name: &Name) -> io::Result<u64>
+        ensures { self.new.faults ≡ self.old.faults }
+    {
+        match std::fs::metadata(self.rt, name.as_str()) {
+            Ok(found) if found.is_dir() => Err(io::Error::from(ErrorKind::IsADirectory)),
+            Ok(found) => Ok(found.len()),
+            Err(e) if is_absence(&e) => Ok(0),
+            Err(e) => Err(e),
+        }
+    }
+
+    fn read_file(&mut self, name: &Name, at: u64, into: &mut [u8]) -> io::Result<usize>
+        ensures count { IfOk result (λ count. count ≤ length into.new) }
+        ensures faults { self.new.faults ≡ self.old.faults }
+    {
+        let Some(mut file) = self.take_there(name, false)? else {
+            return Ok(0);
+        };
+        let count = file.read_at(at, into)?;
+        self.open = Some(file);
+        Ok(count)
+    }
+
+    fn write_file(&mut self, name: &Name, at: u64, bytes: &[u8]) -> io::Result<()>
+        ensures { self.new.faults ≡ self.old.faults }
+    {
+        let mut file = match self.take(name, true) {
+            Some(file) => file,
+            None => Kept::new(name, open_in_folders(self.rt, name)?, true),
+        };
+        file.write_at(at, bytes)?;
+        self.open = Some(file);
+        Ok(())
+    }
+
+    fn cut_file(&mut self, name: &Name, to: u64) -> io::Result<()>
+        ensures { self.new.faults ≡ self.old.faults }
+    {
+        let Some(file) = self.take_there(name, true)? else {
+            return Ok(());
+        };
+        if file.file.metadata()?.len() > to {
+            file.file.set_len(to)?;
+        }
+        self.open = Some(file);
+        Ok(())
+    }
+
+    fn sync_file(&mut self, name: &Name) -> io::Result<()>
+        ensures { self.new.faults ≡ self.old.faults }
+    {
+        let Some(mut file) = self.take_there(name, false)? else {
+            return Ok(());
+        };
+        file.file.sync_all()?;
+        if !file.is_named {
+            sync_folder(self.rt, name.as_str())?;
+            file.is_named = true;
+        }
+        self.open = Some(file);
+        Ok(())
+    }
+}
+
+// An answer, with an error counted.
+fn counted<T: Drop>(faults: &mut u64, answer: io::Result<T>) -> Result<T, DiskFailed>
+    ensures cause { HasCause faults.old faults.new result }
+    ensures value { IfOk result (λ value. answer ≡ Rattle.std.specs.Prelude.Ok value) }
+{
+    match answer {
+        Ok(value) => Ok(value),
+        Err(_) => {
+            *faults = faults.saturating_add(1);
+            Err(DiskFailed)
+        }
+    }
+}
+
+impl<'a, R: Files> Disk for FileDisk<'a, R> {
+    ghost use Rattle.lp_outside.specs.Untold.{untold};
+
+    ghost state = { λ disk. untold };
+
+    ghost faults = { λ disk. disk.faults };
+
+    ghost honest_tells = { λ disk honest. honest };
+
+    ghost seen_left = { λ disk honest. absurd honest };
+
+    ghost counts_now = { λ disk t image honest. absurd honest };
+
+    ghost only_now = { λ disk image honest. absurd honest };
+
+    fn length(&mut self, name: &Name) -> Result<u64, DiskFailed> {
+        match self.length_of(name) {
+            Ok(length) if length <= LONGEST_FILE => Ok(length),
+            _ => {
+                self.faults = self.faults.saturating_add(1);
+                Err(DiskFailed)
+            }
+        }
+    }
+
+    fn read_at(&mut self, name: &Name, at: u64, into: &mut [u8]) -> Result<usize, DiskFailed> {
+        match self.read_file(name, at, into) {
+            Ok(0) if into.is_empty() => Ok(0),
+            Ok(count) if count > 0 && at <= LONGEST_FILE && count as u64 <= LONGEST_FILE - at => {
+                Ok(count)
+            }
+            _ => {
+                self.faults = self.faults.saturating_add(1);
+                Err(DiskFailed)
+            }
+        }
+    }
+
+    fn write_at(&mut self, name: &Name, at: u64, bytes: &[u8]) -> Result<(), DiskFailed> {
+        let size = bytes.len() as u64;
+        if size > LONGEST_FILE || at > LONGEST_FILE - size {
+            self.faults = self.faults.saturating_add(1);
+            return Err(DiskFailed);
+        }
+        let answer = self.write_file(name, at, bytes);
+        counted(&mut self.faults, answer)
+    }
+
+    fn cut(&mut self, name: &Name, to: u64) -> Result<(), DiskFailed> {
+        let answer = self.cut_file(name, to);
+        counted(&mut self.faults, answer)
+    }
+
+    fn sync(&mut self, name: &Name) -> Result<(), DiskFailed> {
+        let answer = self.sync_file(name);
+        counted(&mut self.faults, answer)
+    }
+}
