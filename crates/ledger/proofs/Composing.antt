@@ -11,7 +11,7 @@ use Rattle.ledger_model.proofs.Fields.{u16_length, u32_length, u64_length, u32_o
 use Rattle.ledger.specs.declared.refused.LedgerRefused.{LedgerRefused}
 use Rattle.ledger.specs.declared.refused.LedgerRefused.TheVariants.{DiskFault, LedgerFault}
 use Rattle.ledger.specs.declared.refused.Part2.TheVariants.{Ledger}
-use Rattle.ledger.specs.Reader.{Stood, IsRead, SomeRead, IsBroken, RefusedAt, RefusedShort, left_of, any_byte, any_word, moved_to}
+use Rattle.ledger.specs.Reader.{Stood, IsRead, SomeRead, IsBroken, RefusedAt, RefusedShort, Checks, left_of, any_byte, any_word, moved_to}
 
 -- an error that a `?` hands on
 pub handed : {U E : Type 0} (r : Result U E) (e : E) (P : U → Type 0) (Q : E → Type 0) → IsErrAnd r (λ y. y ≡ e) → Q e → MatchResult r P Q
@@ -133,3 +133,11 @@ refused_here layout file to from place refused is here broken = subst (λ (r : L
 -- and one that is moved there
 pub refused_moved : {A : Type 0} (layout : Layout A) (file : List ℕ) (to from place : ℕ) (inner refused : LedgerRefused) → refused ≡ moved_to inner place → place ≡ from → RefusedAt layout file to from (moved_to inner from) → RefusedAt layout file to from refused
 refused_moved layout file to from place inner refused is here broken = subst (λ (r : LedgerRefused). RefusedAt layout file to from r) (sym (is ∙ ap (moved_to inner) here)) broken
+
+pub some_read : {A : Type 0} (layout : Layout A) (file : List ℕ) (to from at : ℕ) (value : A) → IsRead layout file to from at value → SomeRead layout file to from at
+some_read layout file to from at value read = record { value = value; read = read }
+
+-- the first part is read, and the second one is looked at last
+pub checks_behind : {A B R : Type 0} (first : Layout A) (second : A → Layout B) (file : List ℕ) (to from mid at : ℕ) (value : A) → IsRead first file to from mid value → (r : Result R LedgerRefused) → Checks (second value) file to mid at r → Checks (behind first second) file to from at r
+checks_behind first second file to from mid at value read (Ok x) some = some_read (behind first second) file to from at (value, some.value) (read_both first second file to from mid at value some.value read some.read)
+checks_behind first second file to from mid at value read (Err e) broken = refused_second first second file to from mid value e read broken

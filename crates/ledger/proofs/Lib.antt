@@ -4,3 +4,4 @@ pub mod Moving
 pub mod Composing
 pub mod Utf8s
 pub mod Fronts
+pub mod Counting

@@ -1,3 +1,4 @@
 pub mod Written
 pub mod Reader
 pub mod Passing
+pub mod Counted

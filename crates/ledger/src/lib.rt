@@ -1,6 +1,7 @@
 //! The ledger: what each run keeps, written behind gates and read back. A ledger's bytes hold entries in their form, or break at the first field that doesn't fit, and each call says which.
 #![tactic(auto)]
 
+mod checking;
 mod entry;
 mod input_text;
 mod mark;
