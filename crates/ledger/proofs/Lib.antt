@@ -5,3 +5,5 @@ pub mod Composing
 pub mod Utf8s
 pub mod Fronts
 pub mod Counting
+pub mod Tagged
+pub mod Overwriting

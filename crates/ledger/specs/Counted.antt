@@ -1,12 +1,10 @@
 -- Items that were read one after another, and the layouts that are looked at whole.
-use Rattle.std.specs.Prelude.{◌≡◌, ℕ, ◌<◌, ◌≤◌, ◌^◌, List, [], length, FitsSigned, ℤ}
+use Rattle.std.specs.Prelude.{◌≡◌, ℕ, ◌<◌, ◌≤◌, ◌^◌, List, [], ◌∷◌, length, FitsSigned, ℤ}
 use Rattle.std.specs.Int.{w64}
-use Rattle.lp_model.specs.Reading.{Standing}
-use Rattle.ledger_model.specs.Layouts.{Layout, AllFit, spelled, field, behind, viewed}
+use Rattle.ledger_model.specs.Layouts.{Layout, AllFit, spelled, field}
 use Rattle.ledger_model.specs.Numbers.{u64_bytes, i64_bytes}
-use Rattle.ledger_model.specs.Standings.{AreColumns, columns_bytes}
 use Rattle.ledger_model.specs.Entries.{Kept}
-use Rattle.ledger_model.specs.Grammar.{IsKept, kept_bytes}
+use Rattle.ledger_model.specs.Grammar.{IsKept, IsStamp, kept_bytes}
 use Rattle.ledger.specs.Reader.{Stood}
 
 pub record SomeItems {A : Type 0} (item : List A → Layout A) (file : List ℕ) (to from at count : ℕ) : Type 0 where
@@ -26,6 +24,10 @@ kept_field = field IsKept kept_bytes
 abbrev pub from_on : ℕ → Layout ℕ
 from_on least = field (λ n. (n < 2 ^ 64) × (least ≤ n)) u64_bytes
 
--- the parts of a standing with at most so many lines
-abbrev pub standing_layout : ℕ → Layout Standing
-standing_layout most = viewed (λ standing. (standing.lines, standing.columns)) (behind (field (λ n. (n < 2 ^ 64) × (n ≤ most)) u64_bytes) (λ lines. field AreColumns columns_bytes))
+
+-- the part and the seconds of a stamp
+abbrev pub stamp_bytes : ℕ × ℤ → List ℕ
+stamp_bytes stamp = stamp.0 ∷ i64_bytes stamp.1
+
+abbrev pub any_stamp : Layout (ℕ × ℤ)
+any_stamp = field (λ stamp. IsStamp stamp.0 stamp.1) stamp_bytes

@@ -2,3 +2,4 @@ pub mod Written
 pub mod Reader
 pub mod Passing
 pub mod Counted
+pub mod Writer

@@ -8,9 +8,11 @@ mod mark;
 mod passing;
 mod reader;
 mod refused;
+mod writing;
 
 pub use entry::{Entry, EntrySpan, EntrySpanList, ListValues, Output, OutputList};
 pub use input_text::InputText;
 pub use mark::Mark;
 pub use reader::EntryReader;
 pub use refused::{LedgerRefused, Part2, TextRefused};
+pub use writing::{EntryWriter, create};
