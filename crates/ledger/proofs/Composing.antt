@@ -1,17 +1,20 @@
 -- What is read one after another, and what is refused.
-use Rattle.std.proofs.Common.{◌≡◌, ◌⊎◌, inl, inr, ℕ, ◌+◌, ◌<◌, ◌≤◌, ◌^◌, get_or, List, [], ◌∷◌, ◌++◌, length, refl, sym, ◌∙◌, ap, subst, append_assoc, arith, Result, Ok, Err}
+use Rattle.std.proofs.Common.{◌≡◌, ◌⊎◌, inl, inr, ℕ, ◌+◌, ◌<◌, ◌≤◌, ◌^◌, get_or, List, [], ◌∷◌, ◌++◌, length, refl, sym, ◌∙◌, ap, subst, append_assoc, arith, Result, Ok, Err, ℤ}
 use Rattle.std.specs.Result.{IsErrAnd, MatchResult}
 use Rattle.std.proofs.lemmas.List.{length-append}
 use Rattle.ledger_model.specs.Layouts.{Layout, field, behind, Behind}
-use Rattle.std.specs.Int.{from_le_bytes, w16, w32, w64}
+use Rattle.std.specs.Int.{from_le_bytes, to_le_bytes, cast_signed, cast_unsigned, w16, w32, w64}
+use Rattle.std.specs.Prelude.{FitsSigned}
+use Rattle.std.proofs.lemmas.Int.{ints, of_z-to_z}
+use Rattle.ledger.specs.Counted.{any_signed}
 use Rattle.std.proofs.lemmas.Nat.{le_bytes_2, le_bytes_4, le_bytes_8}
-use Rattle.ledger_model.specs.Numbers.{number, u16_bytes, u32_bytes, u64_bytes, text_bytes, text_of}
+use Rattle.ledger_model.specs.Numbers.{number, u16_bytes, u32_bytes, u64_bytes, i64_bytes, text_bytes, text_of}
 use Rattle.ledger_model.proofs.Laws.{IsLawful}
 use Rattle.ledger_model.proofs.Fields.{u16_length, u32_length, u64_length, u32_one}
 use Rattle.ledger.specs.declared.refused.LedgerRefused.{LedgerRefused}
 use Rattle.ledger.specs.declared.refused.LedgerRefused.TheVariants.{DiskFault, LedgerFault}
 use Rattle.ledger.specs.declared.refused.Part2.TheVariants.{Ledger}
-use Rattle.ledger.specs.Reader.{Stood, IsRead, SomeRead, IsBroken, RefusedAt, RefusedShort, left_of, any_byte, any_word, moved_to}
+use Rattle.ledger.specs.Reader.{Stood, IsRead, SomeRead, IsBroken, RefusedAt, RefusedShort, Checks, left_of, any_byte, any_word, moved_to}
 
 -- an error that a `?` hands on
 pub handed : {U E : Type 0} (r : Result U E) (e : E) (P : U → Type 0) (Q : E → Type 0) → IsErrAnd r (λ y. y ≡ e) → Q e → MatchResult r P Q
@@ -133,3 +136,36 @@ refused_here layout file to from place refused is here broken = subst (λ (r : L
 -- and one that is moved there
 pub refused_moved : {A : Type 0} (layout : Layout A) (file : List ℕ) (to from place : ℕ) (inner refused : LedgerRefused) → refused ≡ moved_to inner place → place ≡ from → RefusedAt layout file to from (moved_to inner from) → RefusedAt layout file to from refused
 refused_moved layout file to from place inner refused is here broken = subst (λ (r : LedgerRefused). RefusedAt layout file to from r) (sym (is ∙ ap (moved_to inner) here)) broken
+
+pub some_read : {A : Type 0} (layout : Layout A) (file : List ℕ) (to from at : ℕ) (value : A) → IsRead layout file to from at value → SomeRead layout file to from at
+some_read layout file to from at value read = record { value = value; read = read }
+
+-- the first part is read, and the second one is looked at last
+pub checks_behind : {A B R : Type 0} (first : Layout A) (second : A → Layout B) (file : List ℕ) (to from mid at : ℕ) (value : A) → IsRead first file to from mid value → (r : Result R LedgerRefused) → Checks (second value) file to mid at r → Checks (behind first second) file to from at r
+checks_behind first second file to from mid at value read (Ok x) some = some_read (behind first second) file to from at (value, some.value) (read_both first second file to from mid at value some.value read some.read)
+checks_behind first second file to from mid at value read (Err e) broken = refused_second first second file to from mid value e read broken
+
+signed_fits : (n : ℕ) → n < 2 ^ 64 → FitsSigned w64 (cast_signed w64 n)
+signed_fits n fits = omega (arith, ints)
+
+-- a number with a sign, by its bits
+pub signed_read : (file : List ℕ) (to from at n : ℕ) (z : ℤ) → z ≡ cast_signed w64 n → IsRead number file to from at n → IsRead any_signed file to from at z
+unfolding i64_bytes u64_bytes
+signed_read file to from at n z is read =
+    let back : cast_unsigned w64 z ≡ n = ap (cast_unsigned w64) is ∙ of_z-to_z w64 n read.fits in
+    record {
+      fits = subst (λ (x : ℤ). FitsSigned w64 x) (sym is) (signed_fits n read.fits);
+      stood = subst (λ (k : ℕ). Stood file to from at (to_le_bytes w64 k)) (sym back) read.stood;
+    }
+
+bits_fit : (z : ℤ) → FitsSigned w64 z → cast_unsigned w64 z < 2 ^ 64
+bits_fit z fits = omega (arith, ints)
+
+pub signed_refused : (file : List ℕ) (to from : ℕ) (refused : LedgerRefused) → RefusedAt number file to from refused → RefusedAt any_signed file to from refused
+unfolding i64_bytes u64_bytes
+signed_refused file to from DiskFault broken = tt
+signed_refused file to from (LedgerFault part at) broken = (broken.0, record {
+  later = broken.1.later;
+  breaks = (broken.1.breaks.0, λ z more fits e. broken.1.breaks.1 (cast_unsigned w64 z) more (bits_fit z fits) e);
+  at_is = broken.1.at_is;
+})

@@ -4,3 +4,6 @@ pub mod Moving
 pub mod Composing
 pub mod Utf8s
 pub mod Fronts
+pub mod Counting
+pub mod Tagged
+pub mod Overwriting

@@ -1,3 +1,5 @@
 pub mod Written
 pub mod Reader
 pub mod Passing
+pub mod Counted
+pub mod Writer

@@ -3,6 +3,7 @@ ghost use Rattle.std.specs.Prelude.{◌≡◌, ◌⊎◌, ℕ, ◌+◌, ◌-◌,
 ghost use Rattle.ledger_model.specs.Grammar.{IsName, name_field};
 ghost use Rattle.lp_model.specs.Outside.{HasCause};
 ghost use Rattle.ledger.specs.Reader.{Position, Holds, CanRead, IsFilled, Stood, Rests, Gives, RefusedShort, HasReason, left_of, any_byte, any_short, any_word, IsRead, RefusedAt, text_within};
+ghost use Rattle.ledger.specs.Counted.{any_signed};
 ghost use Rattle.ledger_model.specs.Numbers.{number};
 
 use crate::LedgerRefused;
@@ -219,6 +220,15 @@ impl EntryReader {
         let mut bytes = [0; 8];
         self.take(disk, ledger, &mut bytes)?;
         Ok(u64::from_le_bytes(bytes))
+    }
+
+    pub(crate) fn signed<D: Disk>(&mut self, disk: &mut D, ledger: &Name) -> Result<i64, LedgerRefused>
+        ensures gives { Gives any_signed (D.state disk.old) (D.state disk.new) ledger.now self.old self.new result }
+        ensures rests { Rests (D.state disk.old) (D.state disk.new) }
+        ensures reason { HasReason (D.faults disk.old) (D.faults disk.new) result }
+    {
+        let bits = self.number(disk, ledger)?;
+        Ok(bits.cast_signed())
     }
 
     /// Takes a text into the front of a buffer, and gives its length; a text that is longer is damaged.

@@ -3,7 +3,7 @@ use Rattle.std.specs.Prelude.{◌≡◌, ℕ, ◌<◌, ◌≤◌, ◌^◌, List,
 use Rattle.std.specs.Bool.{⊤}
 use Rattle.std.specs.Str.{IsUtf8}
 use Rattle.lp_model.specs.Reading.{Columns, Standing}
-use Rattle.ledger_model.specs.Layouts.{Layout, counted}
+use Rattle.ledger_model.specs.Layouts.{Layout, field, behind, counted, viewed}
 use Rattle.ledger_model.specs.Numbers.{u16_bytes, u64_bytes, text_of}
 
 -- a text in UTF-8 whose length has 32 bits
@@ -22,13 +22,15 @@ abbrev pub columns_bytes : Option Columns → List ℕ
 columns_bytes None = 0 ∷ []
 columns_bytes (Some names) = 1 ∷ names_layout.spell names
 
-abbrev pub standing_bytes : Standing → List ℕ
-standing_bytes standing = u64_bytes standing.lines ++ columns_bytes standing.columns
+abbrev pub columns_field : Layout (Option Columns)
+columns_field = field AreColumns columns_bytes
+
+-- lines, at most so many, and columns
+abbrev pub standing_layout : ℕ → Layout Standing
+standing_layout most = viewed (λ standing. (standing.lines, standing.columns)) (behind (field (λ n. (n < 2 ^ 64) × (n ≤ most)) u64_bytes) (λ lines. columns_field))
 
 -- these bytes are those of a standing with at most so many lines
 pub record IsStanding (most : ℕ) (bytes : List ℕ) : Type 0 where
   pub standing : Standing
-  pub lines : standing.lines < 2 ^ 64
-  pub few : standing.lines ≤ most
-  pub columns : AreColumns standing.columns
-  pub spells : bytes ≡ standing_bytes standing
+  pub fits : (standing_layout most).Fits standing
+  pub spells : bytes ≡ (standing_layout most).spell standing
