@@ -12,7 +12,8 @@ use Rattle.ledger_model.proofs.Fields.{u64_length}
 use Rattle.ledger.specs.Reader.{Rests, Holds, CanRead, left_of}
 use Rattle.commit.specs.Stage.{IsStaged, BreaksStage}
 use Rattle.commit.specs.Recovered.{AreApart, Recovers}
-use Rattle.commit.specs.Redo.{Anything, frames_in}
+use Rattle.disk_model.specs.Changes.{Anything}
+use Rattle.commit.specs.Redo.{frames_in}
 use Rattle.commit.specs.States.{Known, IsOpen}
 use Rattle.commit.specs.Outputs.{HoldsEntry, Cursor, StandsBefore, HasRedone, AllStaged, BreaksOutputs}
 use Rattle.commit.proofs.Restoring.{one_output}

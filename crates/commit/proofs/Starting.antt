@@ -5,7 +5,7 @@ use Rattle.disk_model.proofs.DiskSteps.{same_or_not, Stands-start, Stands-works}
 use Rattle.ledger_model.specs.Entries.{Entry}
 use Rattle.ledger_model.specs.Ledgers.{front_of, HasPairs, IsLedger, mark}
 use Rattle.commit.specs.Recovered.{Recovers}
-use Rattle.commit.specs.Redo.{StaysShort}
+use Rattle.disk_model.specs.Changes.{StaysShort}
 use Rattle.commit.specs.States.{HasNone, Beginning, IsSettled}
 use Rattle.commit.proofs.GateOpening.{recovers_plain}
 

@@ -8,7 +8,7 @@ ghost use Rattle.ledger.specs.declared.refused.LedgerRefused.TheVariants.{DiskFa
 ghost use Rattle.ledger.specs.declared.refused.Part2.{Part2};
 ghost use Rattle.ledger.specs.declared.refused.Part2.TheVariants.{Ledger};
 ghost use Rattle.commit.specs.Walking.{last_seen};
-ghost use Rattle.commit.specs.Redo.{StaysShort, Anything};
+ghost use Rattle.disk_model.specs.Changes.{StaysShort, Anything};
 
 use ledger::LedgerRefused;
 use lp_outside::{Disk, DiskFailed, Name};

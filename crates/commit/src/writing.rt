@@ -5,7 +5,7 @@ ghost use Rattle.disk_model.specs.Disk.{Works, Shows, At, overwritten};
 ghost use Rattle.ledger_model.specs.Grammar.{IsEntry};
 ghost use Rattle.ledger_model.specs.Ledgers.{body_of};
 ghost use Rattle.ledger.specs.Written.{entry_of};
-ghost use Rattle.commit.specs.Redo.{KeepsFront, Anything};
+ghost use Rattle.disk_model.specs.Changes.{KeepsFront, Anything};
 
 use ledger::Entry;
 use lp_outside::{Disk, DiskFailed, Name};

@@ -17,7 +17,7 @@ use crate::{EntryReader, LedgerRefused};
 use lp_outside::{Disk, Name};
 use lp_values::{Part, Stamp};
 
-fn text<D: Disk>(disk: &mut D, ledger: &Name, reader: &mut EntryReader, kind: TextKind) -> Result<(), LedgerRefused>
+pub(crate) fn text<D: Disk>(disk: &mut D, ledger: &Name, reader: &mut EntryReader, kind: TextKind) -> Result<(), LedgerRefused>
     ensures looks { Looks (text_of (IsText kind)) (D.state disk.old) (D.state disk.new) ledger.now reader.old reader.new result }
     ensures rests { Rests (D.state disk.old) (D.state disk.new) }
     ensures reason { HasReason (D.faults disk.old) (D.faults disk.new) result }

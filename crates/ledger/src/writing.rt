@@ -3,7 +3,8 @@
 
 ghost use Rattle.std.specs.Prelude.{◌≡◌, ℕ, ◌+◌, ◌<◌, ◌≤◌, ◌^◌, List, [], ◌∷◌, ◌++◌, length, take, drop, OnOk, OnErr};
 ghost use Rattle.lp_model.specs.Outside.{HasCause};
-ghost use Rattle.disk_model.specs.Disk.{Works, At, Torn, IsSynced, overwritten};
+ghost use Rattle.disk_model.specs.Disk.{Works, Shows, At, Torn, IsSynced, overwritten};
+ghost use Rattle.disk_model.specs.Changes.{KeepsFront, StaysShort, Anything};
 ghost use Rattle.ledger.specs.Writer.{Written, WritesBody};
 ghost use Rattle.ledger_model.specs.Numbers.{u64_bytes};
 ghost use Rattle.ledger_model.specs.Ledgers.{mark};
@@ -17,6 +18,8 @@ const FRONT: [u8; 18] = *b"LPCHECKPOINT0001\0\0";
 /// Writes the front of a new ledger, and makes it lasting.
 pub fn create<D: Disk>(disk: &mut D, ledger: &Name) -> Result<(), DiskFailed>
     ensures made { OnOk result ((D.state disk.old).tells → length ((D.state disk.old).seen ledger.now) ≤ 18 → (D.state disk.new).seen ledger.now ≡ mark ++ (0 ∷ (0 ∷ []))) }
+    ensures crash { (D.state disk.old).honest → Works (At ledger.now (StaysShort 18)) (D.state disk.old) (D.state disk.new) }
+    ensures shows { (D.state disk.old).tells → Shows (At ledger.now Anything) (D.state disk.old) (D.state disk.new) }
     ensures lasting { OnOk result ((D.state disk.old).honest → IsSynced (D.state disk.new) ledger.now) }
     ensures cause { HasCause (D.faults disk.old) (D.faults disk.new) result }
 {
@@ -55,6 +58,8 @@ impl EntryWriter {
         ensures count { OnOk result (self.new.count ≡ self.old.count + length bytes.now) }
         ensures err { OnErr result (self.new.count ≡ self.old.count) }
         ensures written { OnOk result ((D.state disk.old).tells → (D.state disk.new).seen ledger.now ≡ overwritten ((D.state disk.old).seen ledger.now) (self.old.at + 8 + self.old.count) bytes.now) }
+        ensures crash { (D.state disk.old).honest → self.old.at ≤ length ((D.state disk.old).seen ledger.now) → Works (At ledger.now (KeepsFront self.old.at)) (D.state disk.old) (D.state disk.new) }
+        ensures shows { (D.state disk.old).tells → Shows (At ledger.now Anything) (D.state disk.old) (D.state disk.new) }
         ensures cause { HasCause (D.faults disk.old) (D.faults disk.new) result }
     {
         let place = self.at + 8 + self.count;
@@ -67,6 +72,8 @@ impl EntryWriter {
     pub fn finish<D: Disk>(self, disk: &mut D, ledger: &Name) -> Result<(), DiskFailed>
         ensures written { OnOk result ((D.state disk.old).tells → (D.state disk.new).seen ledger.now
             ≡ overwritten (overwritten ((D.state disk.old).seen ledger.now) (self.at + 8 + self.count) (0 ∷ (0 ∷ []))) self.at (u64_bytes self.count)) }
+        ensures crash { (D.state disk.old).honest → self.at ≤ length ((D.state disk.old).seen ledger.now) → Works (At ledger.now (KeepsFront self.at)) (D.state disk.old) (D.state disk.new) }
+        ensures shows { (D.state disk.old).tells → Shows (At ledger.now Anything) (D.state disk.old) (D.state disk.new) }
         ensures body { OnOk result ((D.state disk.old).tells → WritesBody self ((D.state disk.old).seen ledger.now) ((D.state disk.new).seen ledger.now)) }
         ensures cause { HasCause (D.faults disk.old) (D.faults disk.new) result }
     {

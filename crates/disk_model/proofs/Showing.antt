@@ -1,7 +1,7 @@
 -- What a read gives while one file is worked on.
 use Rattle.std.proofs.Common.{◌≡◌, ◌≢◌, List, ℕ, refl, ◌∙◌}
 use Rattle.disk_model.specs.Disk.{DiskState, At, Shows, Nothing}
-use Rattle.commit.specs.Redo.{Anything}
+use Rattle.disk_model.specs.Changes.{Anything}
 
 pub shows_any : (name : List ℕ) (step : List ℕ → List ℕ → Type 0) (a b : DiskState) → Shows (At name step) a b → Shows (At name Anything) a b
 shows_any name step a b s = record { tells = s.tells; seen = λ other. record { here = λ e. tt; elsewhere = (s.seen other).elsewhere } }
