@@ -7,3 +7,4 @@ pub mod Fronts
 pub mod Counting
 pub mod Tagged
 pub mod Overwriting
+pub mod Comparing

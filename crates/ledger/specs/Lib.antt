@@ -3,3 +3,4 @@ pub mod Reader
 pub mod Passing
 pub mod Counted
 pub mod Writer
+pub mod Placing

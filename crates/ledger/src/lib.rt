@@ -6,6 +6,7 @@ mod entry;
 mod input_text;
 mod mark;
 mod passing;
+mod placing;
 mod reader;
 mod refused;
 mod writing;
