@@ -8,3 +8,4 @@ pub mod Counting
 pub mod Tagged
 pub mod Overwriting
 pub mod Finding
+pub mod Comparing

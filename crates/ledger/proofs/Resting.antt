@@ -2,7 +2,7 @@
 use Rattle.std.proofs.Common.{◌≡◌, ℕ, List, refl, sym, ◌∙◌}
 use Rattle.disk_model.specs.Disk.{DiskState, Nothing, Works, Shows}
 use Rattle.disk_model.proofs.DiskSteps.{Works-none, Works-then}
-use Rattle.ledger.specs.Reader.{Rests, Holds}
+use Rattle.ledger.specs.Reader.{Rests, Holds, CanRead, Position}
 
 pub rests_none : (d : DiskState) → Rests d d
 rests_none d = record {
@@ -23,3 +23,7 @@ rests_holds a b name file rests holds = let one = rests.shows holds.tells in rec
 -- one call
 pub rests_made : (a b : DiskState) → (a.tells → Shows Nothing a b) → (a.honest → Works Nothing a b) → Rests a b
 rests_made a b shows crash = record { shows = shows; crash = crash }
+
+-- and a reader reads on
+pub can_rests : (a b : DiskState) (name file : List ℕ) (to : ℕ) (r : Position) → Rests a b → CanRead a name file to r → CanRead b name file to r
+can_rests a b name file to r rests can = record { holds = rests_holds a b name file rests can.holds; end = can.end; ahead = can.ahead; within = can.within }

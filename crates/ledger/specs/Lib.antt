@@ -4,3 +4,6 @@ pub mod Passing
 pub mod Counted
 pub mod Writer
 pub mod Outputs
+pub mod Placing
+pub mod Walking
+pub mod Cutting

@@ -88,6 +88,13 @@ impl EntryReader {
         self.at
     }
 
+    /// The place where reading ends.
+    pub(crate) fn end(&self) -> u64
+        ensures { result ≡ self.now.to }
+    {
+        self.to
+    }
+
     pub(crate) fn ahead(&self) -> &[u8]
         ensures { result.now ≡ self.now.ahead }
     {

@@ -1,6 +1,7 @@
-use Rattle.std.proofs.Common.{◌≡◌, ℕ, ◌+◌, List, [], ◌∷◌, sym, ◌∙◌, ap, Result, Ok, Err, OnOk}
+use Rattle.std.proofs.Common.{rules, ◌≡◌, ℕ, ◌+◌, List, [], ◌∷◌, sym, ◌∙◌, ap, Result, Ok, Err, OnOk}
 use Rattle.disk_model.specs.Disk.{overwritten}
 use Rattle.ledger_model.specs.Numbers.{u64_bytes}
+use Rattle.ledger.specs.Writer.{Written}
 use Rattle.ledger.proofs.Overwriting.{body_written}
 use Rattle.std.proofs.Common.{refl, arith, ◌≤◌}
 use Rattle.ledger.specs.Writer.{Written}
@@ -12,18 +13,18 @@ on_ok : {T E : Type 0} (r : Result T E) (P Q : Type 0) → OnOk r P → (P → Q
 on_ok (Ok x) P Q p f = f p
 on_ok (Err e) P Q p f = tt
 
+-- two writes one after another
+two_writes : (a b d two : List ℕ) (at count at' count' : ℕ) → at' ≡ at → count' ≡ count → b ≡ overwritten a (at' + 8 + count') (0 ∷ (0 ∷ [])) → two ≡ u64_bytes count' → d ≡ overwritten b at' two → d ≡ overwritten (overwritten a (at + 8 + count) (0 ∷ (0 ∷ []))) at (u64_bytes count)
+two_writes a b d two at count at' count' same same' one bits last =
+    last ∙ ap (λ (t : List ℕ). overwritten t at' two) one ∙ ap (overwritten (overwritten a (at' + 8 + count') (0 ∷ (0 ∷ []))) at') bits
+    ∙ ap (λ (n : ℕ). overwritten (overwritten a (n + 8 + count') (0 ∷ (0 ∷ []))) n (u64_bytes count')) same
+    ∙ ap (λ (n : ℕ). overwritten (overwritten a (at + 8 + n) (0 ∷ (0 ∷ []))) at (u64_bytes n)) same'
+
 pub returns-clause-written : goal.returns-clause-written
 unfolding u64_bytes
 returns-clause-written g c = on_ok c.write_at-2.result _ _ c.write_at-2.ensures.written (λ second tells.
-    let one = c.in_ok-write_at.ensures.written tells in
-    let here = c.self.inside in
-    let at : c.self.inside.at ≡ c.args.self.at = omega (arith, ap (λ (w : Written). w.at) c.self.view_is) in
-    let count : c.self.inside.count ≡ c.args.self.count = omega (arith, ap (λ (w : Written). w.count) c.self.view_is) in
-    let before = (g.D.Disk.state c.args.disk.now).seen c.args.ledger.now in
-    second (c.write_at.ensures.shows tells).tells
-    ∙ ap (λ (t : List ℕ). overwritten t c.self.inside.at c.to_le_bytes.result) one
-    ∙ ap (overwritten (overwritten before (c.self.inside.at + 8 + c.self.inside.count) (0 ∷ (0 ∷ []))) c.self.inside.at) c.to_le_bytes.ensures
-    ∙ (λ i. overwritten (overwritten before (at i + 8 + count i) (0 ∷ (0 ∷ []))) (at i) (u64_bytes (count i))))
+    two_writes ((g.D.Disk.state c.args.disk.now).seen c.args.ledger.now) ((g.D.Disk.state c.write_at.new.self).seen c.args.ledger.now) ((g.D.Disk.state c.write_at-2.new.self).seen c.args.ledger.now) c.to_le_bytes.result
+        c.args.self.at c.args.self.count c.self.inside.at c.self.inside.count (search rules) (search rules) (c.in_ok-write_at.ensures.written tells) c.to_le_bytes.ensures (second (c.write_at.ensures.shows tells).tells))
 
 pub returns-clause-body : goal.returns-clause-body
 returns-clause-body g c = on_ok c.write_at-2.result _ _ (returns-clause-written g c) (λ written tells. body_written c.args.self _ _ (written tells))
