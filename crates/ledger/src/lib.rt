@@ -3,14 +3,12 @@
 
 mod checking;
 mod entry;
-mod heading;
 mod input_text;
 mod mark;
 mod passing;
 mod placing;
 mod reader;
 mod refused;
-mod walking;
 mod writing;
 
 pub use entry::{Entry, EntrySpan, EntrySpanList, ListValues, Output, OutputList};
@@ -18,5 +16,4 @@ pub use input_text::InputText;
 pub use mark::Mark;
 pub use reader::EntryReader;
 pub use refused::{LedgerRefused, Part2, TextRefused};
-pub use walking::{End, LastEntry, walk};
 pub use writing::{EntryWriter, create};
