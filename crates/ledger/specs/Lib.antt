@@ -5,5 +5,3 @@ pub mod Counted
 pub mod Writer
 pub mod Outputs
 pub mod Placing
-pub mod Walking
-pub mod Cutting

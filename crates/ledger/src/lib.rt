@@ -3,7 +3,6 @@
 
 mod checking;
 mod entry;
-mod heading;
 mod input_text;
 mod mark;
 mod outputs;
@@ -11,7 +10,6 @@ mod passing;
 mod placing;
 mod reader;
 mod refused;
-mod walking;
 mod writing;
 
 pub use entry::{Entry, EntrySpan, EntrySpanList, ListValues, Output, OutputList};
@@ -20,5 +18,4 @@ pub use mark::Mark;
 pub use outputs::OutputReader;
 pub use reader::EntryReader;
 pub use refused::{LedgerRefused, Part2, TextRefused};
-pub use walking::{End, LastEntry, walk};
 pub use writing::{EntryWriter, create};
