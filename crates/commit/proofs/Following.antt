@@ -15,7 +15,8 @@ use Rattle.commit.specs.Recovered.{AreApart, Recovers}
 use Rattle.disk_model.specs.Changes.{Anything}
 use Rattle.commit.specs.Redo.{frames_in}
 use Rattle.commit.specs.States.{Known, IsOpen}
-use Rattle.commit.specs.Outputs.{HoldsEntry, Cursor, StandsBefore, HasRedone, AllStaged, BreaksOutputs}
+use Rattle.ledger.specs.Outputs.{HoldsEntry, Cursor, StandsBefore}
+use Rattle.commit.specs.Outputs.{HasRedone, AllStaged, BreaksOutputs}
 use Rattle.commit.proofs.Restoring.{one_output}
 use Rattle.commit.proofs.Leading.{staged_apart}
 

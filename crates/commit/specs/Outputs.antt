@@ -1,33 +1,10 @@
--- Reading the outputs of an entry from the ledger, one after another.
+-- The outputs of an entry, written again one after another.
 use Rattle.std.specs.Prelude.{◌≡◌, ℕ, ◌-◌, ◌<◌, List, ◌++◌, take, drop, Some, slice_get}
 use Rattle.disk_model.specs.Disk.{DiskState}
 use Rattle.ledger_model.specs.Entries.{Entry, Output}
-use Rattle.ledger_model.specs.Layouts.{spelled}
-use Rattle.ledger_model.specs.Grammar.{IsEntry, payload_of, output_layout}
-use Rattle.ledger.specs.Reader.{Position, CanRead, left_of}
+use Rattle.ledger.specs.Outputs.{Cursor, StandsBefore}
 use Rattle.commit.specs.Stage.{IsStaged, BreaksStage}
 use Rattle.commit.specs.Redo.{frames_in}
-
--- the disk tells that the ledger holds an entry's payload from one place up to another
-pub record HoldsEntry (disk : DiskState) (ledger : List ℕ) (from to : ℕ) (entry : Entry) : Type 0 where
-  pub tells : disk.tells
-  pub is_entry : IsEntry entry
-  pub stands : left_of (disk.seen ledger) to from ≡ payload_of entry
-
--- how far a reader has come, the stage's length and the number of outputs
-pub record Cursor : Type 0 where
-  pub position : Position
-  pub staged : ℕ
-  pub count : ℕ
-
--- it stands before the outputs of an entry from one of them on
-pub record StandsBefore (disk : DiskState) (ledger : List ℕ) (entry : Entry) (k : ℕ) (cursor : Cursor) : Type 0 where
-  pub is_entry : IsEntry entry
-  pub file : List ℕ
-  pub to : ℕ
-  pub can : CanRead disk ledger file to cursor.position
-  pub more : List ℕ
-  pub left : left_of file to cursor.position.at ≡ spelled output_layout (take k entry.outputs) (drop k entry.outputs) ++ more
 
 -- so many outputs of an entry are written again: the ledger and the stage are as they were, and the texts of those outputs are staged
 pub record HasRedone (start now : DiskState) (ledger stage : List ℕ) (entry : Entry) (count : ℕ) (cursor : Cursor) : Type 0 where

@@ -11,10 +11,11 @@ ghost use Rattle.ledger.specs.declared.refused.Part2.TheVariants.{Ledger, Stage}
 ghost use Rattle.commit.specs.Recovered.{Recovers, AreApart, unfinished, staged_part};
 ghost use Rattle.commit.specs.States.{HasNone, IsSettled, Keeps, Preserves, ShowsFiles};
 ghost use Rattle.commit.specs.Outputs.{AllStaged, BreaksOutputs};
-ghost use Rattle.commit.specs.Walking.{EndsWith};
+ghost use Rattle.commit.specs.Walking.{EndsWith, IsEndOf};
 ghost use Rattle.commit.specs.Resume.{CanSettle, Settles};
 
-use crate::{CommitFault, LastEntry, create, finish, walk};
+use crate::{CommitFault, End, LastEntry, finish};
+use ledger::create;
 use lp_outside::{Disk, DiskFailed, Name};
 
 /// Begins a ledger that has no entries, where it has at most 18 bytes.
@@ -52,25 +53,22 @@ fn settle_end<D: Disk>(disk: &mut D, ledger: &Name, stage: &Name, last: Option<L
     }
 }
 
-/// Syncs the ledger and the stage, and finishes the last entry where it is open and isn't done. It may be stopped and called
-/// again any number of times. At Ok the place of the ledger's closed gate is answered.
-pub fn settle_disk<D: Disk>(disk: &mut D, ledger: &Name, stage: &Name) -> Result<u64, CommitFault>
-    ensures any_moment { CanSettle (D.state disk.old) ledger.now stage.now → Settles (D.state disk.old) (D.state disk.new) ledger.now stage.now }
+/// Syncs the ledger and the stage, and finishes the last entry where it is open and isn't done: the ledger ends there. It may
+/// be stopped and called again any number of times.
+pub fn settle_at<D: Disk>(disk: &mut D, ledger: &Name, stage: &Name, end: &End) -> Result<(), CommitFault>
+    requires { IfSome end.now.last (λ last. last.pair + last.length < 2 ^ 63) }
+    ensures any_moment { CanSettle (D.state disk.old) ledger.now stage.now → IsEndOf ((D.state disk.old).seen ledger.now) end.now → Settles (D.state disk.old) (D.state disk.new) ledger.now stage.now }
     // At Ok the last entry is done, each image stands for what a read gave, and each file read is that.
-    ensures settled { IfOk result (λ place. CanSettle (D.state disk.old) ledger.now stage.now → (entries : List Entry) (files : Files) → Recovers ledger.now stage.now entries files ((D.state disk.old).seen)
-        → IsSettled (D.state disk.new) ledger.now stage.now place entries files × Keeps (D.state disk.new) ledger.now stage.now entries files × ShowsFiles (D.state disk.new) ledger.now stage.now files) }
-    ensures no_fault { (part : Part2) (p : ℕ) → IsErrOf result (LedgerFault part p) → CanSettle (D.state disk.old) ledger.now stage.now → ⊥ }
-    ensures bound { IfOk result (λ place. place ≤ 2 ^ 62) }
+    ensures settled { OnOk result (CanSettle (D.state disk.old) ledger.now stage.now → IsEndOf ((D.state disk.old).seen ledger.now) end.now
+        → (entries : List Entry) (files : Files) → Recovers ledger.now stage.now entries files ((D.state disk.old).seen)
+        → IsSettled (D.state disk.new) ledger.now stage.now end.now.pair entries files × Keeps (D.state disk.new) ledger.now stage.now entries files × ShowsFiles (D.state disk.new) ledger.now stage.now files) }
+    ensures no_fault { (part : Part2) (p : ℕ) → IsErrOf result (LedgerFault part p) → CanSettle (D.state disk.old) ledger.now stage.now → IsEndOf ((D.state disk.old).seen ledger.now) end.now → ⊥ }
     ensures reason { HasReason (D.faults disk.old) (D.faults disk.new) result }
 {
     disk.sync(ledger)?;
     disk.sync(stage)?;
-    let end = match walk(disk, ledger) {
-        Ok(end) => end,
-        Err(fault) => return Err(fault),
-    };
     match settle_end(disk, ledger, stage, end.last) {
-        Ok(()) => Ok(end.pair),
+        Ok(()) => Ok(()),
         Err(fault) => Err(fault),
     }
 }

@@ -1,5 +1,5 @@
 use Rattle.std.proofs.Common.{◌≡◌, ◌≤◌, ◌<◌, ℕ, List, [], length, ap, arith}
-use Rattle.commit.proofs.Ending.{preserves_from}
+use Rattle.commit.proofs.DoneBytes.{preserves_from}
 use Rattle.commit.proofs.Starting.{begin_means, begin_start, begin_rests, begin_made, begun_new, begun_before}
 use Rattle.commit.proofs.settling.begin.Goals as goal
 
@@ -39,7 +39,7 @@ returns-in_ok-create-clause-settled g c = λ stage files is.
     let short : length (old.seen ledger) ≤ 18 = omega (arith, c.if-branch-le18.true, c.in_ok-length.ensures.found (g.met.D.Disk.honest_tells disk is.honest)) in
     let read = c.length.ensures.crash is.honest in
     let made = begin_made old ledger stage files is _ _ (λ image left. g.met.D.Disk.only_now disk image is.honest left) (g.met.D.Disk.seen_left disk is.honest) read short (c.create.ensures.crash read.honest) in
-    begun_new old ledger stage files is _ made (c.in_ok-create.ensures.created (g.met.D.Disk.honest_tells c.length.new.self read.honest) (omega (arith, short, ap length (read.seen ledger)))) (c.in_ok-create.ensures.durable read.honest)
+    begun_new old ledger stage files is _ made (c.in_ok-create.ensures.made (g.met.D.Disk.honest_tells c.length.new.self read.honest) (omega (arith, short, ap length (read.seen ledger)))) (c.in_ok-create.ensures.lasting read.honest)
 
 pub returns-else-branch-le18-clause-any_moment : goal.returns-else-branch-le18-clause-any_moment
 returns-else-branch-le18-clause-any_moment g c = λ stage files is.

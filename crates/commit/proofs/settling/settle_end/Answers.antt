@@ -4,7 +4,7 @@ use Rattle.disk_model.specs.Disk.{Files, DiskState}
 use Rattle.ledger_model.specs.Entries.{Entry}
 use Rattle.commit.specs.States.{Preserves, IsSettled}
 use Rattle.commit.specs.Walking.{OpenAt, EndsWith}
-use Rattle.commit.specs.declared.walking.LastEntry.{LastEntry}
+use Rattle.commit.specs.declared.ending.LastEntry.{LastEntry}
 use Rattle.commit.proofs.Errors.{on_ok}
 use Rattle.commit.proofs.Resuming.{settled_shows, preserves_none}
 use Rattle.commit.proofs.settling.settle_end.Goals as goal
