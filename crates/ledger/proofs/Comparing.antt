@@ -1,0 +1,107 @@
+-- Outputs that stand in a payload are read again, for their names.
+use Rattle.std.proofs.Common.{◌≡◌, ◌≢◌, ◌⊎◌, inl, inr, ⊎_elim, ℕ, ◌+◌, ◌<◌, ◌≤◌, ◌^◌, List, [], ◌∷◌, ◌++◌, length, refl, sym, ◌∙◌, ap, subst, append_assoc, arith, Result, Ok, Err, Bool, true, false}
+use Rattle.std.specs.Bool.{MatchBool}
+use Rattle.std.specs.Result.{MatchResult}
+use Rattle.std.specs.Str.{bytes_eq}
+use Rattle.std.proofs.lemmas.List.{length-append, append-nil}
+use Rattle.std.proofs.lemmas.Slice.Eq.{bytes_eq-Decides}
+use Rattle.std.proofs.lemmas.Bool.Decides.{not_from_Decides}
+use Rattle.ledger_model.specs.Layouts.{Layout, AllFit, spelled}
+use Rattle.ledger_model.specs.Numbers.{u64_bytes, text_bytes}
+use Rattle.ledger_model.specs.Entries.{Output}
+use Rattle.ledger_model.specs.Grammar.{IsName, IsNew, output_layout}
+use Rattle.ledger_model.proofs.Laws.{IsLawful}
+use Rattle.ledger.specs.declared.refused.LedgerRefused.{LedgerRefused}
+use Rattle.ledger.specs.declared.refused.LedgerRefused.TheVariants.{DiskFault, LedgerFault}
+use Rattle.ledger.specs.Reader.{Stood, IsRead, RefusedAt, Reads, left_of}
+use Rattle.ledger.specs.Counted.{SomeItems}
+use Rattle.ledger.specs.Placing.{IsOfDisk, Compares}
+
+-- a value that stands in front is the one that is read
+pub gives_front : {A : Type 0} (layout : Layout A) → IsLawful layout → (file : List ℕ) (to a b : ℕ) (value : A) (more : List ℕ) → left_of file to a ≡ layout.spell value ++ more → layout.Fits value → (r : Result A LedgerRefused) → Reads layout file to a b r → MatchResult r (λ u. (u ≡ value) × (left_of file to b ≡ more)) IsOfDisk
+gives_front layout law file to a b value more e fits (Ok u) read = law.one u value (left_of file to b) more read.fits fits (sym read.stood.split ∙ e)
+gives_front layout law file to a b value more e fits (Err DiskFault) broken = tt
+gives_front layout law file to a b value more e fits (Err (LedgerFault part at)) broken = law.apart value more broken.1.later fits (subst (λ (t : List ℕ). layout.Breaks t broken.1.later) e broken.1.breaks)
+
+-- so many of the outputs were read, none of this name
+pub record Past (file : List ℕ) (to end : ℕ) (items : List Output) (count : ℕ) (name : List ℕ) (a : ℕ) : Type 0 where
+  pub past : List Output
+  pub next : List Output
+  pub parts : items ≡ past ++ next
+  pub count_is : length past ≡ count
+  pub fit : AllFit output_layout past next
+  pub stands : left_of file to a ≡ spelled output_layout past next ++ left_of file to end
+  pub new : IsNew past name
+
+pub past_none : (file : List ℕ) (to from end count : ℕ) (name : List ℕ) (some : SomeItems output_layout file to from end count) → Past file to end some.items 0 name from
+past_none file to from end count name some = record { past = []; next = some.items; parts = refl; count_is = refl; fit = some.fit; stands = some.stood.split; new = tt }
+
+-- the next output, and how it goes on
+pub record Ahead (file : List ℕ) (to end : ℕ) (items : List Output) (count : ℕ) (name : List ℕ) (a : ℕ) : Type 0 where
+  pub output : Output
+  pub more : List ℕ
+  pub name_fits : (length output.name < 2 ^ 32) × IsName output.name
+  pub base_fits : output.base < 2 ^ 64
+  pub size_fits : output.size < 2 ^ 64
+  pub last_fits : output.last < 2 ^ 64
+  pub front : left_of file to a ≡ text_bytes output.name ++ (u64_bytes output.base ++ (u64_bytes output.size ++ (u64_bytes output.last ++ more)))
+  pub goes : (e : ℕ) → left_of file to e ≡ more → output.name ≢ name → Past file to end items (count + 1) name e
+  pub clash : output.name ≡ name → IsNew items name → ⊥
+
+new_snoc : (past : List Output) (x : Output) (name : List ℕ) → IsNew past name → x.name ≢ name → IsNew (past ++ x ∷ []) name
+new_snoc [] x name new differs = (differs, tt)
+new_snoc (y ∷ past) x name new differs = (new.0, new_snoc past x name new.1 differs)
+
+new_middle : (past rest : List Output) (x : Output) (name : List ℕ) → x.name ≡ name → IsNew (past ++ (x ∷ rest)) name → ⊥
+new_middle [] rest x name same new = new.0 same
+new_middle (y ∷ past) rest x name same new = new_middle past rest x name same new.1
+
+nested : (a b c d e f : List ℕ) → ((a ++ (b ++ (c ++ d))) ++ e) ++ f ≡ a ++ (b ++ (c ++ (d ++ (e ++ f))))
+nested a b c d e f = simp append_assoc
+
+past_split : (file : List ℕ) (to end : ℕ) (items past : List Output) (count : ℕ) (name : List ℕ) (a : ℕ) (next : List Output) → items ≡ past ++ next → length past ≡ count → count < length items → AllFit output_layout past next → left_of file to a ≡ spelled output_layout past next ++ left_of file to end → IsNew past name → Ahead file to end items count name a
+past_split file to end items past count name a [] parts is fewer fit stands new = absurd (omega (arith, ap length parts, length-append past [], is, fewer))
+past_split file to end items past count name a (x ∷ rest) parts is fewer fit stands new = record {
+  output = x;
+  more = spelled output_layout (past ++ x ∷ []) rest ++ left_of file to end;
+  name_fits = (fit.0.0.0, fit.0.0.1.0);
+  base_fits = fit.0.1.0;
+  size_fits = fit.0.1.1.0.0;
+  last_fits = fit.0.1.1.1;
+  front = stands ∙ nested (text_bytes x.name) (u64_bytes x.base) (u64_bytes x.size) (u64_bytes x.last) (spelled output_layout (past ++ x ∷ []) rest) (left_of file to end);
+  goes = λ e here differs. record {
+    past = past ++ x ∷ [];
+    next = rest;
+    parts = parts ∙ sym (append_assoc past (x ∷ []) rest);
+    count_is = omega (arith, length-append past (x ∷ []), is);
+    fit = fit.1;
+    stands = here;
+    new = new_snoc past x name new differs;
+  };
+  clash = λ same all. new_middle past rest x name same (subst (λ (l : List Output). IsNew l name) parts all);
+}
+
+pub past_ahead : (file : List ℕ) (to end : ℕ) (items : List Output) (count : ℕ) (name : List ℕ) (a : ℕ) → Past file to end items count name a → count < length items → Ahead file to end items count name a
+past_ahead file to end items count name a p fewer = past_split file to end items p.past count name a p.next p.parts p.count_is fewer p.fit p.stands p.new
+
+-- all were read
+all_new : (items past next : List Output) (name : List ℕ) → items ≡ past ++ next → length past ≡ length items → IsNew past name → IsNew items name
+all_new items past [] name parts is new = subst (λ (l : List Output). IsNew l name) (sym (parts ∙ append-nil past)) new
+all_new items past (x ∷ rest) name parts is new = absurd (omega (arith, ap length parts, length-append past (x ∷ rest), is))
+
+pub past_all : (file : List ℕ) (to end : ℕ) (items : List Output) (count : ℕ) (name : List ℕ) (a : ℕ) → Past file to end items count name a → count ≡ length items → IsNew items name
+past_all file to end items count name a p all = all_new items p.past p.next name p.parts (p.count_is ∙ all) p.new
+
+pub same_name : (a b : List ℕ) (r : Bool) → r ≡ bytes_eq a b → r ≡ true → a ≡ b
+same_name a b r is yes' = (bytes_eq-Decides a b).0 (sym is ∙ yes')
+
+pub other_name : (a b : List ℕ) (r : Bool) → r ≡ bytes_eq a b → r ≡ false → a ≢ b
+other_name a b r is no' = not_from_Decides _ (bytes_eq-Decides a b) (sym is ∙ no')
+
+-- what comes from the disk fits any layout
+pub of_disk : {A : Type 0} (layout : Layout A) (file : List ℕ) (to from : ℕ) (refused : LedgerRefused) → IsOfDisk refused → RefusedAt layout file to from refused
+of_disk layout file to from DiskFault is = tt
+of_disk layout file to from (LedgerFault part at) is = absurd is
+
+pub compares_at : (file : List ℕ) (to other first count : ℕ) (name : List ℕ) (r : Result Bool LedgerRefused) → other ≡ to → Compares file other first count name r → Compares file to first count name r
+compares_at file to other first count name r same c = subst (λ (n : ℕ). Compares file n first count name r) same c

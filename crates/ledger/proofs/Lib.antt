@@ -1,0 +1,11 @@
+pub mod Resting
+pub mod Filling
+pub mod Moving
+pub mod Composing
+pub mod Utf8s
+pub mod Fronts
+pub mod Counting
+pub mod Tagged
+pub mod Overwriting
+pub mod Finding
+pub mod Comparing

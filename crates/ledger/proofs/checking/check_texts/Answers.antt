@@ -1,0 +1,31 @@
+use Rattle.std.proofs.Common.{rules, ◌≡◌, ◌≤◌, ◌<◌, ◌+◌, ◌-◌, ◌^◌, ℕ, List, [], ◌∷◌, length, inl, inr, ⊎_elim, refl, sym, ◌∙◌, ap, subst, lit≤, arith}
+use Rattle.ledger.specs.Reader.{IsRead, SomeRead, Checks, any_byte, any_short, any_word}
+use Rattle.ledger.specs.Counted.{SomeItems}
+use Rattle.ledger.proofs.Composing.{handed, short_field, narrowed, misfit, refused_narrower, refused_first, refused_second, read_both, text_refused, text_read, text_unsized, refused_here, refused_moved, checks_behind, some_read}
+use Rattle.ledger.proofs.Counting.{items_more, items_refused, items_read, counted_unsized, counted_refused, counted_read, checks_counted}
+use Rattle.ledger.proofs.Resting.{rests_then}
+use Rattle.ledger.proofs.Tagged.{checks_viewed, refused_viewed, columns_untagged, columns_none, columns_some, columns_refused, columns_unknown, standing_read, standing_long, standing_refused, stamp_untagged, stamp_read, stamp_misfit, stamp_short, kept_untagged, kept_null, kept_signed, kept_text, kept_stamp, kept_unsigned, kept_untexted, kept_unstamped, kept_unknown}
+use Rattle.ledger_model.specs.Numbers.{text_of}
+use Rattle.ledger_model.specs.Grammar.{text_field, words_layout}
+use Rattle.ledger_model.specs.Layouts.{behind}
+use Rattle.std.specs.Bool.{⊤}
+use Rattle.ledger.proofs.checking.check_texts.Goals as goal
+
+pub returns-in_err-words-clause-looks : goal.returns-in_err-words-clause-looks
+returns-in_err-words-clause-looks g c = λ file to can.
+    let k = c.in_err-words.ensures.looks file to can in
+    (k.0, handed c.from_residual.result c.in_err-words.field-0.0 _ _ c.from_residual.ensures.1 (refused_first words_layout (λ words. behind text_field (λ query. text_of (λ template. ⊤))) file to _ _ k.1))
+
+pub returns-in_err-text-clause-looks : goal.returns-in_err-text-clause-looks
+returns-in_err-text-clause-looks g c = λ file to can.
+    let k = c.in_ok-words.ensures.looks file to can in
+    let t = c.in_err-text.ensures.looks file to k.0 in
+    (t.0, handed c.from_residual-in_err-text.result c.in_err-text.field-0.0 _ _ c.from_residual-in_err-text.ensures.1 (refused_second words_layout (λ words. behind text_field (λ query. text_of (λ template. ⊤))) file to _ _ k.1.value _ k.1.read (refused_first text_field (λ query. text_of (λ template. ⊤)) file to _ _ t.1)))
+
+pub returns-clause-looks : goal.returns-clause-looks
+returns-clause-looks g c = λ file to can.
+    let k = c.in_ok-words.ensures.looks file to can in
+    let t = c.in_ok-text.ensures.looks file to k.0 in
+    let l = c.text-2.ensures.looks file to t.0 in
+    (l.0, checks_behind words_layout (λ words. behind text_field (λ query. text_of (λ template. ⊤))) file to _ _ _ k.1.value k.1.read c.text-2.result
+        (checks_behind text_field (λ query. text_of (λ template. ⊤)) file to _ _ _ t.1.value t.1.read c.text-2.result l.1))

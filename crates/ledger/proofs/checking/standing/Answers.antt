@@ -1,0 +1,34 @@
+use Rattle.std.proofs.Common.{rules, ◌≡◌, ◌≤◌, ◌<◌, ◌+◌, ◌-◌, ◌^◌, ℕ, List, [], ◌∷◌, length, inl, inr, ⊎_elim, refl, sym, ◌∙◌, ap, subst, lit≤, arith}
+use Rattle.ledger.specs.Reader.{IsRead, SomeRead, Checks, any_byte, any_short, any_word}
+use Rattle.ledger.specs.Counted.{SomeItems}
+use Rattle.ledger.proofs.Composing.{handed, short_field, narrowed, misfit, refused_narrower, refused_first, refused_second, read_both, text_refused, text_read, text_unsized, refused_here, refused_moved, checks_behind, some_read}
+use Rattle.ledger.proofs.Counting.{items_more, items_refused, items_read, counted_unsized, counted_refused, counted_read, checks_counted}
+use Rattle.ledger.proofs.Resting.{rests_then}
+use Rattle.ledger.proofs.Tagged.{checks_viewed, refused_viewed, columns_untagged, columns_none, columns_some, columns_refused, columns_unknown, standing_read, standing_long, standing_refused, stamp_untagged, stamp_read, stamp_misfit, stamp_short, kept_untagged, kept_null, kept_signed, kept_text, kept_stamp, kept_unsigned, kept_untexted, kept_unstamped, kept_unknown}
+use Rattle.ledger_model.specs.Numbers.{text_of}
+use Rattle.ledger_model.specs.Standings.{IsStanding}
+use Rattle.ledger.proofs.checking.standing.Goals as goal
+
+pub returns-in_err-size-clause-looks : goal.returns-in_err-size-clause-looks
+returns-in_err-size-clause-looks g c = λ file to can.
+    let k = c.in_err-size.ensures.gives file to can in
+    (k.0, handed c.from_residual.result c.in_err-size.field-0.0 _ _ c.from_residual.ensures.1 (text_unsized _ file to _ _ k.1))
+
+pub returns-in-Ok-clause-looks : goal.returns-in-Ok-clause-looks
+returns-in-Ok-clause-looks g c = λ file to can.
+    let k = c.in_ok-size.ensures.gives file to can in
+    let l = c.in-Ok.ensures.looks file to k.0 in
+    (l.0, standing_read c.args.most file to _ _ _ _ k.1 l.1 (omega (arith, c.place.ensures, c.place-start.ensures, c.saturating_sub.ensures, c.from.ensures, c.if-saturating_sub-from.true)))
+
+pub returns-in-Ok-2-clause-looks : goal.returns-in-Ok-2-clause-looks
+returns-in-Ok-2-clause-looks g c = λ file to can.
+    let k = c.in_ok-size.ensures.gives file to can in
+    let l = c.in-Ok.ensures.looks file to k.0 in
+    (l.0, refused_here (text_of (IsStanding c.args.most)) file to c.args.reader.now.at c.place-place.result c.damaged.result c.damaged.ensures c.place-place.ensures
+        (standing_long c.args.most file to _ _ _ _ k.1 l.1 (λ e. omega (arith, e, c.place.ensures, c.place-start.ensures, c.saturating_sub.ensures, c.from.ensures, c.if-saturating_sub-from.false))))
+
+pub returns-in-Err-clause-looks : goal.returns-in-Err-clause-looks
+returns-in-Err-clause-looks g c = λ file to can.
+    let k = c.in_ok-size.ensures.gives file to can in
+    let l = c.in-Err.ensures.looks file to k.0 in
+    (l.0, refused_moved (text_of (IsStanding c.args.most)) file to c.args.reader.now.at c.place-place.result c.in-Err.refused c.moved.result c.moved.ensures c.place-place.ensures (standing_refused c.args.most file to _ _ _ c.in-Err.refused k.1 l.1))

@@ -1,0 +1,31 @@
+use Rattle.std.proofs.Common.{rules, ◌≡◌, ◌≤◌, ◌<◌, ◌+◌, ◌-◌, ◌^◌, ℕ, List, [], ◌∷◌, length, inl, inr, ⊎_elim, refl, sym, ◌∙◌, ap, subst, Ok, Err, lit≤, arith}
+use Rattle.ledger.specs.Reader.{IsRead, SomeRead, Checks, any_byte, any_short, any_word}
+use Rattle.ledger.specs.Counted.{SomeItems}
+use Rattle.ledger.proofs.Composing.{handed, short_field, narrowed, misfit, refused_narrower, refused_first, refused_second, read_both, text_refused, text_read, text_unsized, refused_here, refused_moved, checks_behind, some_read}
+use Rattle.ledger.proofs.Counting.{items_more, items_refused, items_read, counted_unsized, counted_refused, counted_read, checks_counted}
+use Rattle.ledger.proofs.Resting.{rests_then}
+use Rattle.ledger.proofs.Tagged.{checks_viewed, refused_viewed}
+use Rattle.ledger.proofs.Resting.{can_rests}
+use Rattle.ledger.proofs.Comparing.{of_disk, compares_at}
+use Rattle.ledger_model.specs.Numbers.{number}
+use Rattle.ledger_model.specs.Layouts.{behind}
+use Rattle.ledger_model.specs.Grammar.{outputs_layout, counts_layout}
+use Rattle.ledger.proofs.placing.check_ending.Goals as goal
+
+pub returns-in_err-number-clause-looks : goal.returns-in_err-number-clause-looks
+returns-in_err-number-clause-looks g c = λ file to can.
+    let k = c.in_err-number.ensures.gives file to can in
+    (k.0, handed c.from_residual.result c.in_err-number.field-0.0 _ _ c.from_residual.ensures.1 (refused_first number (λ staged. behind outputs_layout (λ outputs. counts_layout)) file to _ _ k.1))
+
+pub returns-in_err-outputs-clause-looks : goal.returns-in_err-outputs-clause-looks
+returns-in_err-outputs-clause-looks g c = λ file to can.
+    let k = c.in_ok-number.ensures.gives file to can in
+    let o = c.in_err-outputs.ensures.looks file to k.0 in
+    (o.0, handed c.from_residual-in_err-outputs.result c.in_err-outputs.field-0.0 _ _ c.from_residual-in_err-outputs.ensures.1 (refused_second number (λ staged. behind outputs_layout (λ outputs. counts_layout)) file to _ _ _ _ k.1 (refused_first outputs_layout (λ outputs. counts_layout) file to _ _ o.1)))
+
+pub returns-clause-looks : goal.returns-clause-looks
+returns-clause-looks g c = λ file to can.
+    let k = c.in_ok-number.ensures.gives file to can in
+    let o = c.in_ok-outputs.ensures.looks file to k.0 in
+    let l = c.check_counts.ensures.looks file to o.0 in
+    (l.0, checks_behind number (λ staged. behind outputs_layout (λ outputs. counts_layout)) file to _ _ _ _ k.1 c.check_counts.result (checks_behind outputs_layout (λ outputs. counts_layout) file to _ _ _ o.1.value o.1.read c.check_counts.result l.1))

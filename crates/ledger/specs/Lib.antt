@@ -1,0 +1,7 @@
+pub mod Written
+pub mod Reader
+pub mod Passing
+pub mod Counted
+pub mod Writer
+pub mod Outputs
+pub mod Placing

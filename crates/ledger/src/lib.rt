@@ -1,0 +1,21 @@
+//! The ledger: what each run keeps, written behind gates and read back. A ledger's bytes hold entries in their form, or break at the first field that doesn't fit, and each call says which.
+#![tactic(auto)]
+
+mod checking;
+mod entry;
+mod input_text;
+mod mark;
+mod outputs;
+mod passing;
+mod placing;
+mod reader;
+mod refused;
+mod writing;
+
+pub use entry::{Entry, EntrySpan, EntrySpanList, ListValues, Output, OutputList};
+pub use input_text::InputText;
+pub use mark::Mark;
+pub use outputs::OutputReader;
+pub use reader::EntryReader;
+pub use refused::{LedgerRefused, Part2, TextRefused};
+pub use writing::{EntryWriter, create};
