@@ -8,3 +8,5 @@ pub mod Counting
 pub mod Tagged
 pub mod Overwriting
 pub mod Comparing
+pub mod Cutters
+pub mod Inputting

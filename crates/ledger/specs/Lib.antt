@@ -4,3 +4,4 @@ pub mod Passing
 pub mod Counted
 pub mod Writer
 pub mod Placing
+pub mod Cutting
