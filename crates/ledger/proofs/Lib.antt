@@ -9,3 +9,5 @@ pub mod Tagged
 pub mod Overwriting
 pub mod Finding
 pub mod Comparing
+pub mod Cutters
+pub mod Inputting

@@ -15,7 +15,8 @@ use Rattle.ledger_model.specs.Layouts.{Layout, field, behind, viewed}
 use Rattle.ledger_model.specs.Numbers.{number, u8_bytes, u64_bytes, i64_bytes, text_bytes, text_of}
 use Rattle.ledger_model.specs.Standings.{names_layout, AreColumns, columns_bytes, columns_field, standing_layout, IsStanding}
 use Rattle.ledger_model.specs.Entries.{Kept, null, int, real, text, stamp}
-use Rattle.ledger_model.specs.Grammar.{IsKept, IsStamp, kept_bytes, text_field}
+use Rattle.ledger_model.specs.Grammar.{IsKept, IsStamp, IsMoment, kept_bytes, text_field}
+use Rattle.ledger_model.proofs.Laws.{IsLawful, lawful_field}
 use Rattle.ledger_model.proofs.Fields.{names_law, standing_law, signed_law}
 use Rattle.ledger.specs.declared.refused.LedgerRefused.{LedgerRefused}
 use Rattle.ledger.specs.declared.refused.LedgerRefused.TheVariants.{DiskFault, LedgerFault}
@@ -228,3 +229,12 @@ same_stamp r part code z w tells same is =
 
 pub kept_lost : (file : List ℕ) (to from mid b place : ℕ) (refused : LedgerRefused) → refused ≡ LedgerFault Ledger place → 4 < b → IsRead any_byte file to from mid b → RefusedAt kept_field file to from (moved_to refused from)
 kept_lost file to from mid b place refused is high read = subst (λ (r : LedgerRefused). RefusedAt kept_field file to from (moved_to r from)) (sym is) (refl, kept_unknown file to from mid b high read)
+
+byte_one : (a b : ℕ) (r s : List ℕ) → u8_bytes a ++ r ≡ u8_bytes b ++ s → (a ≡ b) × (r ≡ s)
+byte_one a b r s e = (cc, cc)
+
+pub byte_law : IsLawful any_byte
+byte_law = lawful_field _ u8_bytes (λ a b r s f g e. byte_one a b r s e)
+
+pub moment_fits : (z : ℤ) → IsMoment z → FitsSigned w64 z
+moment_fits z is = omega (arith, ints, is.0, is.1)

@@ -5,3 +5,4 @@ pub mod Counted
 pub mod Writer
 pub mod Outputs
 pub mod Placing
+pub mod Cutting

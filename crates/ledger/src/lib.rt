@@ -3,6 +3,7 @@
 
 mod checking;
 mod entry;
+mod heading;
 mod input_text;
 mod mark;
 mod outputs;
