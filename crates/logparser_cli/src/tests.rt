@@ -9,6 +9,7 @@ use std::test::Fail;
 const TWO_LINES: &[u8] = b"LogFilename,Index,Text\na.log,1,a\na.log,2,b\n";
 
 // The outside of a run, with one log.
+#[derive(Drop)]
 struct Outside {
     logs: MemoryLogs,
     disk: MemoryDisk,
@@ -17,7 +18,7 @@ struct Outside {
     err: MemorySink,
 }
 
-fn outside(alloc: Global, log: &[u8]) -> Result<Outside, Fail> {
+fn with_log(alloc: Global, log: &[u8]) -> Result<Outside, Fail> {
     let mut logs = MemoryLogs::new(alloc);
     let name = Name::read("a.log").ok().ok_or("name")?;
     logs.put(&name, log)?;
@@ -124,7 +125,7 @@ const CASES: [Case; 7] = [
 #[test]
 fn runs_leave_their_text_and_their_message(rt: HostRuntime) -> Result<(), Fail> {
     for case in &CASES {
-        let mut outside = outside(rt.alloc(), case.log)?;
+        let mut outside = with_log(rt.alloc(), case.log)?;
         let status = run_query(rt.alloc(), case.query, case.moment, &mut outside)?;
         assert_eq!(rt; status.code(), case.code);
         assert_eq!(rt; outside.out.bytes(), case.out);
@@ -136,7 +137,7 @@ fn runs_leave_their_text_and_their_message(rt: HostRuntime) -> Result<(), Fail> 
 #[test]
 fn a_failing_log_is_a_read_fault(rt: HostRuntime) -> Result<(), Fail> {
     for call in 0..2 {
-        let mut outside = outside(rt.alloc(), b"a\r\nb")?;
+        let mut outside = with_log(rt.alloc(), b"a\r\nb")?;
         outside.logs.fail(call)?;
         let status = run_query(rt.alloc(), "SELECT * FROM a.log", 0, &mut outside)?;
         assert!(rt; matches!(status, Status::LogsFault));
@@ -150,7 +151,7 @@ fn a_failing_log_is_a_read_fault(rt: HostRuntime) -> Result<(), Fail> {
 
 #[test]
 fn a_failing_output_is_a_write_fault(rt: HostRuntime) -> Result<(), Fail> {
-    let mut outside = outside(rt.alloc(), b"a\r\nb")?;
+    let mut outside = with_log(rt.alloc(), b"a\r\nb")?;
     outside.out.fail(0)?;
     let status = run_query(rt.alloc(), "SELECT * FROM a.log", 0, &mut outside)?;
     assert!(rt; matches!(status, Status::SinkFault));
@@ -161,7 +162,7 @@ fn a_failing_output_is_a_write_fault(rt: HostRuntime) -> Result<(), Fail> {
 
 #[test]
 fn a_failing_message_changes_no_status(rt: HostRuntime) -> Result<(), Fail> {
-    let mut outside = outside(rt.alloc(), b"a\r\nb")?;
+    let mut outside = with_log(rt.alloc(), b"a\r\nb")?;
     outside.err.fail(1)?;
     let status = run_query(rt.alloc(), "SELECT * FROM a.log", 0, &mut outside)?;
     assert!(rt; matches!(status, Status::Done));
