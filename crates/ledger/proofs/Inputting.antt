@@ -87,8 +87,20 @@ input_short text is =
     let e : List ℕ = separator_word i.separator ++ rotation_word i.numbers in
     let d : List ℕ = switch_word i.header_row ++ (codes " -iSeparator:" ++ e) in
     let b : List ℕ = format_word i.format ++ (codes " -headerRow:" ++ d) in
-    omega (arith, ap length is.is, length-append (codes "-i:") b, length-append (format_word i.format) (codes " -headerRow:" ++ d), length-append (codes " -headerRow:") d, length-append (switch_word i.header_row) (codes " -iSeparator:" ++ e),
-        length-append (codes " -iSeparator:") e, length-append (separator_word i.separator) (rotation_word i.numbers), format_short i.format, switch_short i.header_row, separator_short i.separator, rotation_short i.numbers)
+    omega (
+      arith,
+      ap length is.is,
+      length-append (codes "-i:") b,
+      length-append (format_word i.format) (codes " -headerRow:" ++ d),
+      length-append (codes " -headerRow:") d,
+      length-append (switch_word i.header_row) (codes " -iSeparator:" ++ e),
+      length-append (codes " -iSeparator:") e,
+      length-append (separator_word i.separator) (rotation_word i.numbers),
+      format_short i.format,
+      switch_short i.header_row,
+      separator_short i.separator,
+      rotation_short i.numbers,
+    )
 
 -- what is behind each word of such a text
 pub behind_mark : (text rest : List ℕ) (i : Input) → text ≡ input_text i → text ≡ codes "-i:" ++ rest → rest ≡ format_word i.format ++ (codes " -headerRow:" ++ (switch_word i.header_row ++ (codes " -iSeparator:" ++ (separator_word i.separator ++ rotation_word i.numbers))))

@@ -9,4 +9,5 @@ pub mod Tagged
 pub mod Overwriting
 pub mod Comparing
 pub mod Cutters
+pub mod Payloads
 pub mod Inputting

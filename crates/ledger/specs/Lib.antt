@@ -4,4 +4,5 @@ pub mod Passing
 pub mod Counted
 pub mod Writer
 pub mod Placing
+pub mod Walking
 pub mod Cutting

@@ -22,7 +22,11 @@ fn is_outside(moment: i64) -> bool
     moment < 0 || LAST < moment
 }
 
-fn input<D: Disk>(disk: &mut D, ledger: &Name, reader: &mut EntryReader) -> Result<(), LedgerRefused>
+fn input<D: Disk>(
+    disk: &mut D,
+    ledger: &Name,
+    reader: &mut EntryReader,
+) -> Result<(), LedgerRefused>
     ensures looks { Looks (text_of IsInput) (D.state disk.old) (D.state disk.new) ledger.now reader.old reader.new result }
     ensures rests { Rests (D.state disk.old) (D.state disk.new) }
     ensures reason { HasReason (D.faults disk.old) (D.faults disk.new) result }
@@ -37,7 +41,11 @@ fn input<D: Disk>(disk: &mut D, ledger: &Name, reader: &mut EntryReader) -> Resu
 }
 
 /// The form, the moment and the input.
-pub fn check_head<D: Disk>(disk: &mut D, ledger: &Name, reader: &mut EntryReader) -> Result<(), LedgerRefused>
+pub fn check_head<D: Disk>(
+    disk: &mut D,
+    ledger: &Name,
+    reader: &mut EntryReader,
+) -> Result<(), LedgerRefused>
     ensures looks { Looks head_layout (D.state disk.old) (D.state disk.new) ledger.now reader.old reader.new result }
     ensures rests { Rests (D.state disk.old) (D.state disk.new) }
     ensures reason { HasReason (D.faults disk.old) (D.faults disk.new) result }

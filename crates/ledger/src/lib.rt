@@ -10,6 +10,7 @@ mod passing;
 mod placing;
 mod reader;
 mod refused;
+mod walking;
 mod writing;
 
 pub use entry::{Entry, EntrySpan, EntrySpanList, ListValues, Output, OutputList};
@@ -17,4 +18,5 @@ pub use input_text::InputText;
 pub use mark::Mark;
 pub use reader::EntryReader;
 pub use refused::{LedgerRefused, Part2, TextRefused};
+pub use walking::{End, LastEntry};
 pub use writing::{EntryWriter, create};

@@ -23,6 +23,8 @@ returns-then-is_input-clause-looks g c = λ file to can.
 
 pub returns-clause-looks : goal.returns-clause-looks
 returns-clause-looks g c = λ file to can.
-    let k = c.in_ok-size.ensures.reads file to can in
-    (k.0, refused_here (text_of IsInput) file to c.args.reader.now.at c.place-place.result c.damaged.result c.damaged.ensures c.place-place.ensures
-        (misfit (λ t. (length t < 2 ^ 32) × (length t ≤ 64)) (λ t. (length t < 2 ^ 32) × IsInput t) text_bytes (text_law _) (λ t f. (f.0, input_short t f.1)) file to _ _ _ k.1 (λ f. c.if-is_input.ensures f.1)))
+    let k = c.in_ok-size.ensures.reads file to can in (
+      k.0,
+      refused_here (text_of IsInput) file to c.args.reader.now.at c.place-place.result c.damaged.result c.damaged.ensures c.place-place.ensures
+          (misfit (λ t. (length t < 2 ^ 32) × (length t ≤ 64)) (λ t. (length t < 2 ^ 32) × IsInput t) text_bytes (text_law _) (λ t f. (f.0, input_short t f.1)) file to _ _ _ k.1 (λ f. c.if-is_input.ensures f.1)),
+    )
