@@ -10,4 +10,5 @@ pub mod Overwriting
 pub mod Finding
 pub mod Comparing
 pub mod Cutters
+pub mod Payloads
 pub mod Inputting

@@ -5,4 +5,5 @@ pub mod Counted
 pub mod Writer
 pub mod Outputs
 pub mod Placing
+pub mod Walking
 pub mod Cutting

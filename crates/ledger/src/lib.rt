@@ -11,6 +11,7 @@ mod passing;
 mod placing;
 mod reader;
 mod refused;
+mod walking;
 mod writing;
 
 pub use entry::{Entry, EntrySpan, EntrySpanList, ListValues, Output, OutputList};
@@ -19,4 +20,5 @@ pub use mark::Mark;
 pub use outputs::OutputReader;
 pub use reader::EntryReader;
 pub use refused::{LedgerRefused, Part2, TextRefused};
+pub use walking::{End, LastEntry};
 pub use writing::{EntryWriter, create};
