@@ -16,7 +16,7 @@ body_stands w at payload first second third at_is count there put made =
     let long : length front ≡ at + 8 = filled first place ∙ plus in
     let done = made payload rest front put (long ∙ ap (λ (n : ℕ). n + 8) (sym at_is)) (sym count) in
     let same : take w.at front ≡ take at first =
-        ap (λ (n : ℕ). take n front) at_is ∙ take-take at place (first ++ zeros) (omega arith) ∙ take-append-le at first zeros there in
+    ap (λ (n : ℕ). take n front) at_is ∙ take-take at place (first ++ zeros) (omega arith) ∙ take-append-le at first zeros there in
     (drop 2 rest, done ∙ ap (λ (l : List ℕ). l ++ (u64_bytes (length payload) ++ payload) ++ 0 ∷ 0 ∷ drop 2 rest) same)
   where
     plus : at + 8 + 0 ≡ at + 8

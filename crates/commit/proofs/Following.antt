@@ -24,7 +24,7 @@ use Rattle.commit.proofs.Leading.{staged_apart}
 pub payload_at : (front payload rest : List ℕ) (done place n : ℕ) (whole : List ℕ) → whole ≡ front ++ (165 ∷ (done ∷ (u64_bytes n ++ payload))) ++ rest → place ≡ length front → take (length payload) (drop (place + 10) whole) ≡ payload
 payload_at front payload rest done place n whole is place_is =
     let split : whole ≡ (front ++ 165 ∷ done ∷ u64_bytes n) ++ (payload ++ rest) =
-        is ∙ append_assoc front (165 ∷ (done ∷ (u64_bytes n ++ payload))) rest ∙ ap (λ (l : List ℕ). front ++ 165 ∷ done ∷ l) (append_assoc (u64_bytes n) payload rest) ∙ sym (append_assoc front (165 ∷ done ∷ u64_bytes n) (payload ++ rest)) in
+    is ∙ append_assoc front (165 ∷ (done ∷ (u64_bytes n ++ payload))) rest ∙ ap (λ (l : List ℕ). front ++ 165 ∷ done ∷ l) (append_assoc (u64_bytes n) payload rest) ∙ sym (append_assoc front (165 ∷ done ∷ u64_bytes n) (payload ++ rest)) in
     let size : length (front ++ 165 ∷ done ∷ u64_bytes n) ≡ place + 10 = omega (arith, length-append front (165 ∷ done ∷ u64_bytes n), u64_length n, place_is) in
     ap (λ (l : List ℕ). take (length payload) (drop (place + 10) l)) split
     ∙ ap (λ (l : List ℕ). take (length payload) l) (drop_at (front ++ 165 ∷ done ∷ u64_bytes n) (payload ++ rest) (place + 10) size)

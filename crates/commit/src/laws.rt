@@ -15,15 +15,13 @@ pub fn redo_may_be_repeated()
     ensures kept { (stage : List ℕ) (index : ℕ) (output : Output) (file other restored : List ℕ) → KeepsFront output.base file other → IsRestored stage index output file restored → IsRestored stage index output other restored }
     ensures again { (stage : List ℕ) (index : ℕ) (output : Output) (file restored : List ℕ) → IsRestored stage index output file restored → IsRestored stage index output restored restored }
     ensures one { (stage : List ℕ) (index : ℕ) (output : Output) (file restored other : List ℕ) → IsRestored stage index output file restored → IsRestored stage index output file other → restored ≡ other }
-{
-}
+{}
 
 /// An image stands for one list of entries and one choice of files.
 pub fn image_stands_for_one_state()
     ensures { (ledger stage : List ℕ) (entries others : List Entry) (files more image : Files) → Recovers ledger stage entries files image → Recovers ledger stage others more image
         → (entries ≡ others) × ((name : List ℕ) → name ≢ ledger → name ≢ stage → files name ≡ more name) }
-{
-}
+{}
 
 /// A disk that keeps one state, or the state before an entry and the one after it, can be settled.
 pub fn can_be_settled<D: Disk>(disk: &D)

@@ -31,7 +31,12 @@ fn begin<D: Disk>(disk: &mut D, ledger: &Name) -> Result<(), DiskFailed>
 }
 
 /// Finishes the last entry where it is open and isn't done, or begins a ledger that has none.
-fn settle_end<D: Disk>(disk: &mut D, ledger: &Name, stage: &Name, last: Option<LastEntry>) -> Result<(), CommitFault>
+fn settle_end<D: Disk>(
+    disk: &mut D,
+    ledger: &Name,
+    stage: &Name,
+    last: Option<LastEntry>,
+) -> Result<(), CommitFault>
     requires { IfSome last (λ last. last.pair + last.length < 2 ^ 63) }
     ensures any_moment { (place : ℕ) (entries : List Entry) (files : Files) → EndsWith (D.state disk.old) ledger.now stage.now place entries files last → Preserves (D.state disk.old) (D.state disk.new) ledger.now stage.now entries files }
     ensures settled { OnOk result ((place : ℕ) (entries : List Entry) (files : Files) → EndsWith (D.state disk.old) ledger.now stage.now place entries files last → IsSettled (D.state disk.new) ledger.now stage.now place entries files) }
@@ -55,7 +60,12 @@ fn settle_end<D: Disk>(disk: &mut D, ledger: &Name, stage: &Name, last: Option<L
 
 /// Syncs the ledger and the stage, and finishes the last entry where it is open and isn't done: the ledger ends there. It may
 /// be stopped and called again any number of times.
-pub fn settle_at<D: Disk>(disk: &mut D, ledger: &Name, stage: &Name, end: &End) -> Result<(), CommitFault>
+pub fn settle_at<D: Disk>(
+    disk: &mut D,
+    ledger: &Name,
+    stage: &Name,
+    end: &End,
+) -> Result<(), CommitFault>
     requires { IfSome end.now.last (λ last. last.pair + last.length < 2 ^ 63) }
     ensures any_moment { CanSettle (D.state disk.old) ledger.now stage.now → IsEndOf ((D.state disk.old).seen ledger.now) end.now → Settles (D.state disk.old) (D.state disk.new) ledger.now stage.now }
     // At Ok the last entry is done, each image stands for what a read gave, and each file read is that.

@@ -9,7 +9,12 @@ use ledger::EntryWriter;
 use lp_outside::{Disk, DiskFailed, Name};
 
 /// Writes a payload with its length before it and a closed pair behind it, from a place on.
-pub fn write_body<D: Disk>(disk: &mut D, ledger: &Name, at: u64, payload: &[u8]) -> Result<(), DiskFailed>
+pub fn write_body<D: Disk>(
+    disk: &mut D,
+    ledger: &Name,
+    at: u64,
+    payload: &[u8],
+) -> Result<(), DiskFailed>
     requires { at ≤ 2 ^ 62 }
     ensures crash { (D.state disk.old).honest → at ≤ length ((D.state disk.old).seen ledger.now) → Works (At ledger.now (KeepsFront at)) (D.state disk.old) (D.state disk.new) }
     ensures written { OnOk result ((D.state disk.old).tells → at ≤ length ((D.state disk.old).seen ledger.now)

@@ -40,7 +40,7 @@ returns-in-Ok-clause-any_moment g c = λ can at.
     let ledger_synced = synced_on _ _ ledger second (c.in_ok-sync.ensures.durable can.honest) in
     let stage_synced = c.in_ok-sync-2.ensures.durable first.honest in
     let ends = λ (entries : List Entry) (files : Files) (r : Recovers ledger stage entries files mid.seen).
-        ends_with old mid ledger stage can work ledger_synced stage_synced (g.met.D.Disk.seen_left c.sync-2.new.self work.honest) entries files r at.pairs c.args.end.now.pair c.args.end.now.last is at.last at.pair in
+    ends_with old mid ledger stage can work ledger_synced stage_synced (g.met.D.Disk.seen_left c.sync-2.new.self work.honest) entries files r at.pairs c.args.end.now.pair c.args.end.now.last is at.last at.pair in
     settles_then old mid _ ledger stage (λ image left. g.met.D.Disk.only_now disk image can.honest left) (g.met.D.Disk.seen_left disk can.honest) can work
     (λ entries files r. c.settle_end.ensures.any_moment c.args.end.now.pair entries files (ends entries files r))
 
@@ -58,7 +58,7 @@ returns-in-Err-clause-any_moment g c = λ can at.
     let ledger_synced = synced_on _ _ ledger second (c.in_ok-sync.ensures.durable can.honest) in
     let stage_synced = c.in_ok-sync-2.ensures.durable first.honest in
     let ends = λ (entries : List Entry) (files : Files) (r : Recovers ledger stage entries files mid.seen).
-        ends_with old mid ledger stage can work ledger_synced stage_synced (g.met.D.Disk.seen_left c.sync-2.new.self work.honest) entries files r at.pairs c.args.end.now.pair c.args.end.now.last is at.last at.pair in
+    ends_with old mid ledger stage can work ledger_synced stage_synced (g.met.D.Disk.seen_left c.sync-2.new.self work.honest) entries files r at.pairs c.args.end.now.pair c.args.end.now.last is at.last at.pair in
     settles_then old mid _ ledger stage (λ image left. g.met.D.Disk.only_now disk image can.honest left) (g.met.D.Disk.seen_left disk can.honest) can work
     (λ entries files r. c.settle_end.ensures.any_moment c.args.end.now.pair entries files (ends entries files r))
 
@@ -76,7 +76,7 @@ returns-in-Ok-clause-settled g c = λ can at entries files r.
     let ledger_synced = synced_on _ _ ledger second (c.in_ok-sync.ensures.durable can.honest) in
     let stage_synced = c.in_ok-sync-2.ensures.durable first.honest in
     let ends = λ (entries : List Entry) (files : Files) (r : Recovers ledger stage entries files mid.seen).
-        ends_with old mid ledger stage can work ledger_synced stage_synced (g.met.D.Disk.seen_left c.sync-2.new.self work.honest) entries files r at.pairs c.args.end.now.pair c.args.end.now.last is at.last at.pair in
+    ends_with old mid ledger stage can work ledger_synced stage_synced (g.met.D.Disk.seen_left c.sync-2.new.self work.honest) entries files r at.pairs c.args.end.now.pair c.args.end.now.last is at.last at.pair in
     let now = (settles_rests old mid ledger stage (λ image left. g.met.D.Disk.only_now disk image can.honest left) can work).seen entries files r in
     let settled = c.in-Ok.ensures.settled c.args.end.now.pair entries files (ends entries files now) in
     let shown = settled_shows (g.D.Disk.state c.settle_end.new.disk) ledger stage c.args.end.now.pair entries files (g.met.D.Disk.seen_left c.settle_end.new.disk settled.honest) settled in
@@ -96,7 +96,7 @@ returns-in-Err-clause-no_fault g c = λ part p fault can at.
     let ledger_synced = synced_on _ _ ledger second (c.in_ok-sync.ensures.durable can.honest) in
     let stage_synced = c.in_ok-sync-2.ensures.durable first.honest in
     let ends = λ (entries : List Entry) (files : Files) (r : Recovers ledger stage entries files mid.seen).
-        ends_with old mid ledger stage can work ledger_synced stage_synced (g.met.D.Disk.seen_left c.sync-2.new.self work.honest) entries files r at.pairs c.args.end.now.pair c.args.end.now.last is at.last at.pair in
+    ends_with old mid ledger stage can work ledger_synced stage_synced (g.met.D.Disk.seen_left c.sync-2.new.self work.honest) entries files r at.pairs c.args.end.now.pair c.args.end.now.last is at.last at.pair in
     let found = can.images.each old.seen (g.met.D.Disk.seen_left disk can.honest) in
     let now = (settles_rests old mid ledger stage (λ image left. g.met.D.Disk.only_now disk image can.honest left) can work).seen found.0 found.1 found.2 in
     c.in-Err.ensures.no_fault part p fault c.args.end.now.pair found.0 found.1 (ends found.0 found.1 now)

@@ -16,7 +16,7 @@ returns-in-Ok-clause-crash g c = λ honest there.
     let at = c.new-writer.ensures.at in
     let later : c.put.new.self.at ≡ c.args.at = c.put.ensures.at ∙ at in
     let one : Works (At ledger (KeepsFront c.args.at)) (g.D.Disk.state c.args.disk.now) (g.D.Disk.state c.put.new.disk) =
-        subst (λ (n : ℕ). Works (At ledger (KeepsFront n)) (g.D.Disk.state c.args.disk.now) (g.D.Disk.state c.put.new.disk)) at (c.put.ensures.crash honest (omega (arith, at, there))) in
+    subst (λ (n : ℕ). Works (At ledger (KeepsFront n)) (g.D.Disk.state c.args.disk.now) (g.D.Disk.state c.put.new.disk)) at (c.put.ensures.crash honest (omega (arith, at, there))) in
     let long = ((one.seen ledger).here refl there).0 in
     more_keeps _ _ _ ledger c.args.at one
     (subst (λ (n : ℕ). Works (At ledger (KeepsFront n)) (g.D.Disk.state c.put.new.disk) (g.D.Disk.state c.finish.new.disk)) later (c.finish.ensures.crash one.honest (omega (arith, later, long))))
@@ -27,7 +27,7 @@ returns-in-Err-clause-crash g c = λ honest there.
     let at = c.new-writer.ensures.at in
     let later : c.put.new.self.at ≡ c.args.at = c.put.ensures.at ∙ at in
     let one : Works (At ledger (KeepsFront c.args.at)) (g.D.Disk.state c.args.disk.now) (g.D.Disk.state c.put.new.disk) =
-        subst (λ (n : ℕ). Works (At ledger (KeepsFront n)) (g.D.Disk.state c.args.disk.now) (g.D.Disk.state c.put.new.disk)) at (c.put.ensures.crash honest (omega (arith, at, there))) in
+    subst (λ (n : ℕ). Works (At ledger (KeepsFront n)) (g.D.Disk.state c.args.disk.now) (g.D.Disk.state c.put.new.disk)) at (c.put.ensures.crash honest (omega (arith, at, there))) in
     let long = ((one.seen ledger).here refl there).0 in
     more_keeps _ _ _ ledger c.args.at one
     (subst (λ (n : ℕ). Works (At ledger (KeepsFront n)) (g.D.Disk.state c.put.new.disk) (g.D.Disk.state c.finish.new.disk)) later (c.finish.ensures.crash one.honest (omega (arith, later, long))))
