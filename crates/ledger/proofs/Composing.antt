@@ -24,11 +24,14 @@ handed {U} {E} (Err y) e P Q is q = subst (λ (z : E). Q z) (sym is) q
 -- too few bytes for any value of a field
 pub short_field : {A : Type 0} (Fits : A → Type 0) (spell : A → List ℕ) (least : ℕ) → ((a : A) → Fits a → least ≤ length (spell a)) → (file : List ℕ) (to from : ℕ) (refused : LedgerRefused) → RefusedShort file to from least refused → RefusedAt (field Fits spell) file to from refused
 short_field Fits spell least long file to from DiskFault short = tt
-short_field Fits spell least long file to from (LedgerFault part at) short = (short.0, record {
-  later = 0;
-  breaks = (refl, λ a more fits e. omega (arith, ap length e, length-append (spell a) more, long a fits, short.2));
-  at_is = omega (arith, short.1);
-})
+short_field Fits spell least long file to from (LedgerFault part at) short = (
+  short.0,
+  record {
+    later = 0;
+    breaks = (refl, λ a more fits e. omega (arith, ap length e, length-append (spell a) more, long a fits, short.2));
+    at_is = omega (arith, short.1);
+  },
+)
 
 -- the first of two parts is refused
 pub refused_first : {A B : Type 0} (first : Layout A) (second : A → Layout B) (file : List ℕ) (to from : ℕ) (refused : LedgerRefused) → RefusedAt first file to from refused → RefusedAt (behind first second) file to from refused
@@ -38,11 +41,14 @@ refused_first first second file to from (LedgerFault part at) broken = (broken.0
 -- the first is read, and the second is refused
 pub refused_second : {A B : Type 0} (first : Layout A) (second : A → Layout B) (file : List ℕ) (to from mid : ℕ) (value : A) (refused : LedgerRefused) → IsRead first file to from mid value → RefusedAt (second value) file to mid refused → RefusedAt (behind first second) file to from refused
 refused_second first second file to from mid value DiskFault read broken = tt
-refused_second first second file to from mid value (LedgerFault part at) read broken = (broken.0, record {
-  later = length (first.spell value) + broken.1.later;
-  breaks = inr (record { value = value; more = left_of file to mid; later = broken.1.later; fits = read.fits; split = read.stood.split; breaks = broken.1.breaks; place_is = refl });
-  at_is = omega (arith, broken.1.at_is, read.stood.moved);
-})
+refused_second first second file to from mid value (LedgerFault part at) read broken = (
+  broken.0,
+  record {
+    later = length (first.spell value) + broken.1.later;
+    breaks = inr (record { value = value; more = left_of file to mid; later = broken.1.later; fits = read.fits; split = read.stood.split; breaks = broken.1.breaks; place_is = refl });
+    at_is = omega (arith, broken.1.at_is, read.stood.moved);
+  },
+)
 
 -- both are read
 pub read_both : {A B : Type 0} (first : Layout A) (second : A → Layout B) (file : List ℕ) (to from mid at : ℕ) (one : A) (two : B) → IsRead first file to from mid one → IsRead (second one) file to mid at two → IsRead (behind first second) file to from at (one, two)
@@ -75,9 +81,12 @@ narrowed Wide Fits spell file to from at value read fits = record { fits = fits;
 pub misfit : {A : Type 0} (Wide Fits : A → Type 0) (spell : A → List ℕ) → IsLawful (field Wide spell) → ((a : A) → Fits a → Wide a) → (file : List ℕ) (to from at : ℕ) (value : A) → IsRead (field Wide spell) file to from at value → (Fits value → ⊥) → IsBroken (field Fits spell) file to from from
 misfit {A} Wide Fits spell law wider file to from at value read unfit = record {
   later = 0;
-  breaks = (refl, λ a more fits e.
-      let same = law.one value a (left_of file to at) more read.fits (wider a fits) (sym read.stood.split ∙ e) in
-      unfit (subst (λ (x : A). Fits x) (sym same.0) fits));
+  breaks = (
+    refl,
+    λ a more fits e.
+        let same = law.one value a (left_of file to at) more read.fits (wider a fits) (sym read.stood.split ∙ e) in
+        unfit (subst (λ (x : A). Fits x) (sym same.0) fits),
+  );
   at_is = omega arith;
 }
 
@@ -98,10 +107,13 @@ read_u8 file to from at bytes n size is low stood = record { fits = omega (arith
 pub text_refused : (Is : List ℕ → Type 0) (file : List ℕ) (to from mid n : ℕ) → IsRead any_word file to from mid n → ((text more : List ℕ) → length text ≡ n → Is text → left_of file to mid ≡ text ++ more → ⊥) → IsBroken (text_of Is) file to from from
 text_refused Is file to from mid n read none = record {
   later = 0;
-  breaks = (refl, λ text more fits e.
-      let apart = sym read.stood.split ∙ e ∙ append_assoc (u32_bytes (length text)) text more in
-      let front = u32_one n (length text) (left_of file to mid) (text ++ more) read.fits fits.0 apart in
-      none text more (sym front.0) fits.1 front.1);
+  breaks = (
+    refl,
+    λ text more fits e.
+        let apart = sym read.stood.split ∙ e ∙ append_assoc (u32_bytes (length text)) text more in
+        let front = u32_one n (length text) (left_of file to mid) (text ++ more) read.fits fits.0 apart in
+        none text more (sym front.0) fits.1 front.1,
+  );
   at_is = omega arith;
 }
 
@@ -118,11 +130,14 @@ text_read Is file to from mid at n text read stood size is = record {
 -- a text whose length isn't there
 pub text_unsized : (Is : List ℕ → Type 0) (file : List ℕ) (to from : ℕ) (refused : LedgerRefused) → RefusedAt any_word file to from refused → RefusedAt (text_of Is) file to from refused
 text_unsized Is file to from DiskFault broken = tt
-text_unsized Is file to from (LedgerFault part at) broken = (broken.0, record {
-  later = broken.1.later;
-  breaks = (broken.1.breaks.0, λ text more fits e. broken.1.breaks.1 (length text) (text ++ more) fits.0 (e ∙ append_assoc (u32_bytes (length text)) text more));
-  at_is = broken.1.at_is;
-})
+text_unsized Is file to from (LedgerFault part at) broken = (
+  broken.0,
+  record {
+    later = broken.1.later;
+    breaks = (broken.1.breaks.0, λ text more fits e. broken.1.breaks.1 (length text) (text ++ more) fits.0 (e ∙ append_assoc (u32_bytes (length text)) text more));
+    at_is = broken.1.at_is;
+  },
+)
 
 -- a text whose bytes aren't all there
 pub text_short : (Is : List ℕ → Type 0) (file : List ℕ) (to from mid n : ℕ) (refused : LedgerRefused) → IsRead any_word file to from mid n → RefusedShort file to mid n refused → RefusedAt (text_of Is) file to from (moved_to refused from)
@@ -164,8 +179,11 @@ bits_fit z fits = omega (arith, ints)
 pub signed_refused : (file : List ℕ) (to from : ℕ) (refused : LedgerRefused) → RefusedAt number file to from refused → RefusedAt any_signed file to from refused
 unfolding i64_bytes u64_bytes
 signed_refused file to from DiskFault broken = tt
-signed_refused file to from (LedgerFault part at) broken = (broken.0, record {
-  later = broken.1.later;
-  breaks = (broken.1.breaks.0, λ z more fits e. broken.1.breaks.1 (cast_unsigned w64 z) more (bits_fit z fits) e);
-  at_is = broken.1.at_is;
-})
+signed_refused file to from (LedgerFault part at) broken = (
+  broken.0,
+  record {
+    later = broken.1.later;
+    breaks = (broken.1.breaks.0, λ z more fits e. broken.1.breaks.1 (cast_unsigned w64 z) more (bits_fit z fits) e);
+    at_is = broken.1.at_is;
+  },
+)

@@ -35,11 +35,14 @@ items_more item file to from mid at count some value read = record {
 -- an item that is refused
 pub items_refused : {A : Type 0} (item : List A → Layout A) (file : List ℕ) (to from mid count all : ℕ) (some : SomeItems item file to from mid count) → count < all → (refused : LedgerRefused) → RefusedAt (item some.items) file to mid refused → RefusedAt (listed item all) file to from refused
 items_refused item file to from mid count all some fewer DiskFault broken = tt
-items_refused item file to from mid count all some fewer (LedgerFault part at) broken = (broken.0, record {
-  later = length (spelled item [] some.items) + broken.1.later;
-  breaks = record { items = some.items; more = left_of file to mid; later = broken.1.later; fewer = omega (arith, some.count_is, fewer); fit = some.fit; split = some.stood.split; breaks = broken.1.breaks; place_is = refl };
-  at_is = omega (arith, broken.1.at_is, some.stood.moved);
-})
+items_refused item file to from mid count all some fewer (LedgerFault part at) broken = (
+  broken.0,
+  record {
+    later = length (spelled item [] some.items) + broken.1.later;
+    breaks = record { items = some.items; more = left_of file to mid; later = broken.1.later; fewer = omega (arith, some.count_is, fewer); fit = some.fit; split = some.stood.split; breaks = broken.1.breaks; place_is = refl };
+    at_is = omega (arith, broken.1.at_is, some.stood.moved);
+  },
+)
 
 pub items_read : {A : Type 0} (item : List A → Layout A) (file : List ℕ) (to from at count : ℕ) → SomeItems item file to from at count → SomeRead (listed item count) file to from at
 items_read item file to from at count some = record { value = some.items; read = record { fits = (some.count_is, some.fit); stood = some.stood } }
@@ -51,11 +54,14 @@ counted_unsized spell bound item file to from (LedgerFault part at) broken = (br
 
 pub counted_refused : {A : Type 0} (spell : ℕ → List ℕ) (bound : ℕ) (item : List A → Layout A) (file : List ℕ) (to from mid n : ℕ) (refused : LedgerRefused) → IsRead (field (λ (n : ℕ). n < bound) spell) file to from mid n → RefusedAt (listed item n) file to mid refused → RefusedAt (counted spell bound item) file to from refused
 counted_refused spell bound item file to from mid n DiskFault read broken = tt
-counted_refused spell bound item file to from mid n (LedgerFault part at) read broken = (broken.0, record {
-  later = length (spell n) + broken.1.later;
-  breaks = inr (record { value = n; more = left_of file to mid; later = broken.1.later; fits = read.fits; split = read.stood.split; breaks = broken.1.breaks; place_is = refl });
-  at_is = omega (arith, broken.1.at_is, read.stood.moved);
-})
+counted_refused spell bound item file to from mid n (LedgerFault part at) read broken = (
+  broken.0,
+  record {
+    later = length (spell n) + broken.1.later;
+    breaks = inr (record { value = n; more = left_of file to mid; later = broken.1.later; fits = read.fits; split = read.stood.split; breaks = broken.1.breaks; place_is = refl });
+    at_is = omega (arith, broken.1.at_is, read.stood.moved);
+  },
+)
 
 pub counted_read : {A : Type 0} (spell : ℕ → List ℕ) (bound : ℕ) (item : List A → Layout A) (file : List ℕ) (to from mid at n : ℕ) → IsRead (field (λ (n : ℕ). n < bound) spell) file to from mid n → SomeRead (listed item n) file to mid at → SomeRead (counted spell bound item) file to from at
 counted_read spell bound item file to from mid at n read some = record {

@@ -28,7 +28,7 @@ passes_some kind file to from at most count size ahead chunk some stands within 
           let left : ahead ≡ take (length ahead) (text ++ more) = stands ∙ sym (take-take (length ahead) (to - from) (drop from file) within) ∙ ap (take (length ahead)) e in
           let long : first.0 ≤ length ahead = ⊎_elim (λ many. omega (arith, many, first.2, first.3, text_size)) (λ all. omega (arith, ap length all, ap length e, length-append text more, first.3)) enough in
           let same : take first.0 chunk ≡ take first.0 text =
-              fronts first.0 (omega (arith, long, cut_at, first.2, first.3, text_size)) ∙ ap (take first.0) left ∙ take-take first.0 (length ahead) (text ++ more) long ∙ take-append-le first.0 text more first.3 in
+          fronts first.0 (omega (arith, long, cut_at, first.2, first.3, text_size)) ∙ ap (take first.0) left ∙ take-take first.0 (length ahead) (text ++ more) long ∙ take-append-le first.0 text more first.3 in
           longest first.0 (omega (arith, zero, first.1)) (omega (arith, chunk_size, long, cut_at, first.2, first.3, text_size)) (subst (λ (t : List ℕ). IsText kind t) (sym same) first.4);
     }
 
@@ -53,5 +53,5 @@ passed_not kind file to a b m n f none text more size is e =
     let parts : text ≡ f.text ++ drop (length f.text) text = sym (take-append-drop (length f.text) text) ∙ ap (λ (t : List ℕ). t ++ drop (length f.text) text) front in
     let rest : IsText kind (drop (length f.text) text) = text_rest kind f.text (drop (length f.text) text) (subst (λ (t : List ℕ). IsText kind t) parts is) f.is in
     let left : left_of file to b ≡ drop (length f.text) text ++ more =
-        append_cancel_left f.text (left_of file to b) (drop (length f.text) text ++ more) (whole ∙ ap (λ (t : List ℕ). t ++ more) parts ∙ append_assoc f.text (drop (length f.text) text) more) in
+    append_cancel_left f.text (left_of file to b) (drop (length f.text) text ++ more) (whole ∙ ap (λ (t : List ℕ). t ++ more) parts ∙ append_assoc f.text (drop (length f.text) text) more) in
     none (drop (length f.text) text) more (omega (arith, ap length parts, length-append f.text (drop (length f.text) text), f.size_is, size)) rest left

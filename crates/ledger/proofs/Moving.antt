@@ -14,17 +14,18 @@ skipped disk name file to r s count can le at end ahead =
     let size : length s.ahead ≡ length r.ahead - count = ap length ahead ∙ length-drop count r.ahead in
     let reach : length r.ahead ≡ count + length s.ahead = omega (arith, size, le) in
     let room : to - r.at ≡ count + (to - s.at) = omega (arith, can.within, le, at) in
-    let taken : length (take count r.ahead) ≡ count = length-take-le count r.ahead le in
-    (record {
-       holds = can.holds;
-       end = end ∙ can.end;
-       ahead = ahead ∙ ap (drop count) (can.ahead ∙ ap (λ (n : ℕ). take n b) reach) ∙ drop-take count (length s.ahead) b ∙ ap (take (length s.ahead)) (sym moved);
-       within = omega (arith, can.within, size, at);
-     },
-     record {
-       split = ap (λ (n : ℕ). take n b) room ∙ take-add count (to - s.at) b ∙ ap (λ (t : List ℕ). t ++ take (to - s.at) (drop count b)) (sym front) ∙ ap (λ (t : List ℕ). take count r.ahead ++ take (to - s.at) t) (sym moved);
-       moved = omega (arith, at, taken);
-     })
+    let taken : length (take count r.ahead) ≡ count = length-take-le count r.ahead le in (
+      record {
+        holds = can.holds;
+        end = end ∙ can.end;
+        ahead = ahead ∙ ap (drop count) (can.ahead ∙ ap (λ (n : ℕ). take n b) reach) ∙ drop-take count (length s.ahead) b ∙ ap (take (length s.ahead)) (sym moved);
+        within = omega (arith, can.within, size, at);
+      },
+      record {
+        split = ap (λ (n : ℕ). take n b) room ∙ take-add count (to - s.at) b ∙ ap (λ (t : List ℕ). t ++ take (to - s.at) (drop count b)) (sym front) ∙ ap (λ (t : List ℕ). take count r.ahead ++ take (to - s.at) t) (sym moved);
+        moved = omega (arith, at, taken);
+      },
+    )
 
 -- bytes and then more
 pub stood_then : (file : List ℕ) (to a b c : ℕ) (xs ys : List ℕ) → Stood file to a b xs → Stood file to b c ys → Stood file to a c (xs ++ ys)

@@ -25,24 +25,24 @@ body_written w old new e payload rest front split size count =
     let whole : List ℕ = front ++ payload in
     let long : length whole ≡ w.at + 8 + w.count = omega (arith, length-append front payload, size, count) in
     let first : overwritten old (w.at + 8 + w.count) (0 ∷ (0 ∷ [])) ≡ whole ++ (0 ∷ (0 ∷ [])) ++ drop 2 rest =
-        no_gap old (0 ∷ (0 ∷ [])) (w.at + 8 + w.count) (omega (arith, ap length split, length-append whole rest, long))
-        ∙ ap (λ (t : List ℕ). t ++ (0 ∷ (0 ∷ [])) ++ drop (w.at + 8 + w.count + 2) old) (ap (take (w.at + 8 + w.count)) split ∙ at_seam whole rest (w.at + 8 + w.count) long)
-        ∙ ap (λ (t : List ℕ). whole ++ (0 ∷ (0 ∷ [])) ++ t) (ap (drop (w.at + 8 + w.count + 2)) split ∙ ap (λ (n : ℕ). drop (n + 2) (whole ++ rest)) (sym long) ∙ drop-append-add whole rest 2) in
+    no_gap old (0 ∷ (0 ∷ [])) (w.at + 8 + w.count) (omega (arith, ap length split, length-append whole rest, long))
+    ∙ ap (λ (t : List ℕ). t ++ (0 ∷ (0 ∷ [])) ++ drop (w.at + 8 + w.count + 2) old) (ap (take (w.at + 8 + w.count)) split ∙ at_seam whole rest (w.at + 8 + w.count) long)
+    ∙ ap (λ (t : List ℕ). whole ++ (0 ∷ (0 ∷ [])) ++ t) (ap (drop (w.at + 8 + w.count + 2)) split ∙ ap (λ (n : ℕ). drop (n + 2) (whole ++ rest)) (sym long) ∙ drop-append-add whole rest 2) in
     let all : List ℕ = whole ++ (0 ∷ (0 ∷ [])) ++ drop 2 rest in
     let parts : all ≡ take w.at front ++ (drop w.at front ++ (payload ++ (0 ∷ (0 ∷ drop 2 rest)))) =
-        append_assoc whole (0 ∷ (0 ∷ [])) (drop 2 rest) ∙ append_assoc front payload (0 ∷ (0 ∷ drop 2 rest))
-        ∙ ap (λ (t : List ℕ). t ++ (payload ++ (0 ∷ (0 ∷ drop 2 rest)))) (sym (take-append-drop w.at front))
-        ∙ append_assoc (take w.at front) (drop w.at front) (payload ++ (0 ∷ (0 ∷ drop 2 rest))) in
+    append_assoc whole (0 ∷ (0 ∷ [])) (drop 2 rest) ∙ append_assoc front payload (0 ∷ (0 ∷ drop 2 rest))
+    ∙ ap (λ (t : List ℕ). t ++ (payload ++ (0 ∷ (0 ∷ drop 2 rest)))) (sym (take-append-drop w.at front))
+    ∙ append_assoc (take w.at front) (drop w.at front) (payload ++ (0 ∷ (0 ∷ drop 2 rest))) in
     let at : length (take w.at front) ≡ w.at = length-take-le w.at front (omega (arith, size)) in
     let eight : length (take w.at front ++ drop w.at front) ≡ w.at + 8 = ap length (take-append-drop w.at front) ∙ size in
     let second : overwritten all w.at (u64_bytes w.count) ≡ take w.at front ++ u64_bytes w.count ++ (payload ++ (0 ∷ (0 ∷ drop 2 rest))) =
-        no_gap all (u64_bytes w.count) w.at (omega (arith, ap length parts, at, length-append (take w.at front) (drop w.at front ++ (payload ++ (0 ∷ (0 ∷ drop 2 rest))))))
-        ∙ ap (λ (t : List ℕ). t ++ u64_bytes w.count ++ drop (w.at + length (u64_bytes w.count)) all) (ap (take w.at) parts ∙ at_seam (take w.at front) _ w.at at)
-        ∙ ap (λ (t : List ℕ). take w.at front ++ u64_bytes w.count ++ t)
-            (ap (λ (n : ℕ). drop (w.at + n) all) (u64_length w.count) ∙ ap (drop (w.at + 8)) (parts ∙ sym (append_assoc (take w.at front) (drop w.at front) (payload ++ (0 ∷ (0 ∷ drop 2 rest)))))
-             ∙ past_seam (take w.at front ++ drop w.at front) (payload ++ (0 ∷ (0 ∷ drop 2 rest))) (w.at + 8) eight) in
+    no_gap all (u64_bytes w.count) w.at (omega (arith, ap length parts, at, length-append (take w.at front) (drop w.at front ++ (payload ++ (0 ∷ (0 ∷ drop 2 rest))))))
+    ∙ ap (λ (t : List ℕ). t ++ u64_bytes w.count ++ drop (w.at + length (u64_bytes w.count)) all) (ap (take w.at) parts ∙ at_seam (take w.at front) _ w.at at)
+    ∙ ap (λ (t : List ℕ). take w.at front ++ u64_bytes w.count ++ t)
+    (ap (λ (n : ℕ). drop (w.at + n) all) (u64_length w.count) ∙ ap (drop (w.at + 8)) (parts ∙ sym (append_assoc (take w.at front) (drop w.at front) (payload ++ (0 ∷ (0 ∷ drop 2 rest)))))
+    ∙ past_seam (take w.at front ++ drop w.at front) (payload ++ (0 ∷ (0 ∷ drop 2 rest))) (w.at + 8) eight) in
     e ∙ ap (λ (t : List ℕ). overwritten t w.at (u64_bytes w.count)) first ∙ second
-      ∙ append_assoc (take w.at front) (u64_bytes w.count) (payload ++ (0 ∷ (0 ∷ drop 2 rest)))
-      ∙ ap (λ (t : List ℕ). take w.at front ++ t) (sym (append_assoc (u64_bytes w.count) payload (0 ∷ (0 ∷ drop 2 rest))))
-      ∙ sym (append_assoc (take w.at front) (u64_bytes w.count ++ payload) (0 ∷ (0 ∷ drop 2 rest)))
-      ∙ ap (λ (n : ℕ). take w.at front ++ (u64_bytes n ++ payload) ++ (0 ∷ (0 ∷ drop 2 rest))) (sym count)
+    ∙ append_assoc (take w.at front) (u64_bytes w.count) (payload ++ (0 ∷ (0 ∷ drop 2 rest)))
+    ∙ ap (λ (t : List ℕ). take w.at front ++ t) (sym (append_assoc (u64_bytes w.count) payload (0 ∷ (0 ∷ drop 2 rest))))
+    ∙ sym (append_assoc (take w.at front) (u64_bytes w.count ++ payload) (0 ∷ (0 ∷ drop 2 rest)))
+    ∙ ap (λ (n : ℕ). take w.at front ++ (u64_bytes n ++ payload) ++ (0 ∷ (0 ∷ drop 2 rest))) (sym count)

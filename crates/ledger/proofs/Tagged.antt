@@ -27,9 +27,13 @@ use Rattle.ledger.proofs.Moving.{stood_then, stood_as}
 
 -- values that stand as their parts do
 pub checks_viewed : {A B R : Type 0} (parts : A → B) (back : B → A) (layout : Layout B) → ((b : B) → parts (back b) ≡ b) → (file : List ℕ) (to from at : ℕ) (r : Result R LedgerRefused) → Checks layout file to from at r → Checks (viewed parts layout) file to from at r
-checks_viewed {A} {B} parts back layout again file to from at (Ok x) some = record { value = back some.value; read = record {
-  fits = subst (λ (b : B). layout.Fits b) (sym (again some.value)) some.read.fits;
-  stood = subst (λ (b : B). Stood file to from at (layout.spell b)) (sym (again some.value)) some.read.stood } }
+checks_viewed {A} {B} parts back layout again file to from at (Ok x) some = record {
+  value = back some.value;
+  read = record {
+    fits = subst (λ (b : B). layout.Fits b) (sym (again some.value)) some.read.fits;
+    stood = subst (λ (b : B). Stood file to from at (layout.spell b)) (sym (again some.value)) some.read.stood;
+  };
+}
 checks_viewed parts back layout again file to from at (Err DiskFault) broken = tt
 checks_viewed parts back layout again file to from at (Err (LedgerFault part place)) broken = (broken.0, record { later = broken.1.later; breaks = broken.1.breaks; at_is = broken.1.at_is })
 
@@ -51,11 +55,14 @@ nothing file to at = record { split = refl; moved = omega arith }
 -- a tag that isn't there
 untagged : {A : Type 0} (Fits : A → Type 0) (spell : A → List ℕ) (file : List ℕ) (to from : ℕ) (refused : LedgerRefused) → RefusedAt any_byte file to from refused → ((a : A) → Fits a → (b : ℕ) × (rest : List ℕ) × (b < 256) × (spell a ≡ b ∷ rest)) → RefusedAt (field Fits spell) file to from refused
 untagged Fits spell file to from DiskFault broken tagged = tt
-untagged Fits spell file to from (LedgerFault part at) broken tagged = (broken.0, record {
-  later = broken.1.later;
-  breaks = (broken.1.breaks.0, λ a more fits e. let tag = tagged a fits in broken.1.breaks.1 tag.0 (tag.1 ++ more) tag.2 (e ∙ ap (λ (t : List ℕ). t ++ more) tag.3));
-  at_is = broken.1.at_is;
-})
+untagged Fits spell file to from (LedgerFault part at) broken tagged = (
+  broken.0,
+  record {
+    later = broken.1.later;
+    breaks = (broken.1.breaks.0, λ a more fits e. let tag = tagged a fits in broken.1.breaks.1 tag.0 (tag.1 ++ more) tag.2 (e ∙ ap (λ (t : List ℕ). t ++ more) tag.3));
+    at_is = broken.1.at_is;
+  },
+)
 
 columns_tagged : (a : Option Columns) → AreColumns a → (b : ℕ) × (rest : List ℕ) × (b < 256) × (columns_bytes a ≡ b ∷ rest)
 columns_tagged None fits = (0, [], lit< tt, refl)
@@ -100,8 +107,11 @@ standing_long most file to from mid at n read some differs = text_refused (IsSta
 
 pub standing_refused : (most : ℕ) (file : List ℕ) (to from mid n : ℕ) (refused : LedgerRefused) → IsRead any_word file to from mid n → RefusedAt (standing_layout most) file to mid refused → RefusedAt (text_of (IsStanding most)) file to from (moved_to refused from)
 standing_refused most file to from mid n DiskFault read broken = tt
-standing_refused most file to from mid n (LedgerFault part at) read broken = (refl, text_refused (IsStanding most) file to from mid n read (λ text more size is e.
-    (standing_law most).apart is.standing more broken.1.later is.fits (subst (λ (t : List ℕ). (standing_layout most).Breaks t broken.1.later) (e ∙ ap (λ (t : List ℕ). t ++ more) is.spells) broken.1.breaks)))
+standing_refused most file to from mid n (LedgerFault part at) read broken = (
+  refl,
+  text_refused (IsStanding most) file to from mid n read (λ text more size is e.
+      (standing_law most).apart is.standing more broken.1.later is.fits (subst (λ (t : List ℕ). (standing_layout most).Breaks t broken.1.later) (e ∙ ap (λ (t : List ℕ). t ++ more) is.spells) broken.1.breaks)),
+)
 
 -- stamps
 stamp_fits : (b : ℕ) (z : ℤ) → IsStamp b z → FitsSigned w64 z
@@ -122,8 +132,11 @@ stamp_misfit file to from mid at b z read seconds differs = tagged_broken _ stam
 
 pub stamp_short : (file : List ℕ) (to from mid b : ℕ) (refused : LedgerRefused) → IsRead any_byte file to from mid b → RefusedAt any_signed file to mid refused → RefusedAt any_stamp file to from (moved_to refused from)
 stamp_short file to from mid b DiskFault read broken = tt
-stamp_short file to from mid b (LedgerFault part at) read broken = (refl, tagged_broken _ stamp_bytes file to from mid b read (λ s more fits e.
-    let rest : left_of file to mid ≡ i64_bytes s.1 ++ more = cc in broken.1.breaks.1 s.1 more (stamp_fits s.0 s.1 fits) rest))
+stamp_short file to from mid b (LedgerFault part at) read broken = (
+  refl,
+  tagged_broken _ stamp_bytes file to from mid b read (λ s more fits e.
+      let rest : left_of file to mid ≡ i64_bytes s.1 ++ more = cc in broken.1.breaks.1 s.1 more (stamp_fits s.0 s.1 fits) rest),
+)
 
 -- values
 kept_tagged : (a : Kept) → IsKept a → (b : ℕ) × (rest : List ℕ) × (b < 256) × (kept_bytes a ≡ b ∷ rest)
@@ -222,9 +235,10 @@ stamp_from Time z is = record { in_years = (is.low, is.high); whole_day = λ e. 
 stamp_from Both z is = record { in_years = (is.low, is.high); whole_day = λ e. absurd (cc); first_day = λ e. absurd (cc) }
 
 pub same_stamp : (r : Bool) (part : Part) (code : ℕ) (z w : ℤ) → (IsTrue r ↔ IsStampOf w part) → w ≡ z → code ≡ part_code part → IsTrue r ↔ IsStamp code z
-same_stamp r part code z w tells same is =
-    (λ yes'. subst (λ (n : ℕ). IsStamp n z) (sym is) (stamp_to part z (subst (λ (x : ℤ). IsStampOf x part) same (tells.0 yes'))),
-     λ stamp. tells.1 (subst (λ (x : ℤ). IsStampOf x part) (sym same) (stamp_from part z (subst (λ (n : ℕ). IsStamp n z) is stamp))))
+same_stamp r part code z w tells same is = (
+  λ yes'. subst (λ (n : ℕ). IsStamp n z) (sym is) (stamp_to part z (subst (λ (x : ℤ). IsStampOf x part) same (tells.0 yes'))),
+  λ stamp. tells.1 (subst (λ (x : ℤ). IsStampOf x part) (sym same) (stamp_from part z (subst (λ (n : ℕ). IsStamp n z) is stamp))),
+)
 
 pub kept_lost : (file : List ℕ) (to from mid b place : ℕ) (refused : LedgerRefused) → refused ≡ LedgerFault Ledger place → 4 < b → IsRead any_byte file to from mid b → RefusedAt kept_field file to from (moved_to refused from)
 kept_lost file to from mid b place refused is high read = subst (λ (r : LedgerRefused). RefusedAt kept_field file to from (moved_to r from)) (sym is) (refl, kept_unknown file to from mid b high read)

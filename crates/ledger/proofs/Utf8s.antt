@@ -20,9 +20,14 @@ utf8_rest a b whole front =
 utf8_first : (text : List ℕ) → IsUtf8 text → 0 < length text → (k : ℕ) × (0 < k) × (k ≤ 4) × (k ≤ length text) × IsUtf8 (take k text)
 utf8_first text ([], is) some = absurd (omega (arith, ap length is.1, some))
 utf8_first text (c ∷ cs, is) some =
-    let size : length text ≡ len_utf8 c + length (encode_utf8_all cs) = omega (arith, ap length is.1, length-append (encode_utf8 c) (encode_utf8_all cs), length-encode c) in
-    (len_utf8 c, (len_utf8_bounds c).0, (len_utf8_bounds c).1, omega (arith, size), IsUtf8-take text (len_utf8 c) (c ∷ cs, is)
-        (subst (λ (n : ℕ). IsCharBoundary text n) (omega arith) (IsCharBoundary-past_char text (encode_utf8_all cs) 0 c (omega arith) (c ∷ cs, is) (sym is.1))))
+    let size : length text ≡ len_utf8 c + length (encode_utf8_all cs) = omega (arith, ap length is.1, length-append (encode_utf8 c) (encode_utf8_all cs), length-encode c) in (
+      len_utf8 c,
+      (len_utf8_bounds c).0,
+      (len_utf8_bounds c).1,
+      omega (arith, size),
+      IsUtf8-take text (len_utf8 c) (c ∷ cs, is)
+          (subst (λ (n : ℕ). IsCharBoundary text n) (omega arith) (IsCharBoundary-past_char text (encode_utf8_all cs) 0 c (omega arith) (c ∷ cs, is) (sym is.1))),
+    )
 
 pub text_append : (kind : TextKind) (a b : List ℕ) → IsText kind a → IsText kind b → IsText kind (a ++ b)
 text_append Any a b f s = tt

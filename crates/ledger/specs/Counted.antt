@@ -24,7 +24,6 @@ kept_field = field IsKept kept_bytes
 abbrev pub from_on : ℕ → Layout ℕ
 from_on least = field (λ n. (n < 2 ^ 64) × (least ≤ n)) u64_bytes
 
-
 -- the part and the seconds of a stamp
 abbrev pub stamp_bytes : ℕ × ℤ → List ℕ
 stamp_bytes stamp = stamp.0 ∷ i64_bytes stamp.1

@@ -30,7 +30,17 @@ output_of output = record { name = output.name; base = output.base; size = outpu
 
 abbrev pub entry_of : Entry → PlainEntry
 entry_of entry = record {
-  form = entry.form; moment = entry.moment; input = entry.input; words = entry.words; query = entry.query; template = entry.template;
-  spans = map span_of entry.spans; lists = map (map kept_of) entry.lists; staged = entry.staged; outputs = map output_of entry.outputs;
-  processed = entry.processed; output = entry.output; bad = entry.bad;
+  form = entry.form;
+  moment = entry.moment;
+  input = entry.input;
+  words = entry.words;
+  query = entry.query;
+  template = entry.template;
+  spans = map span_of entry.spans;
+  lists = map (map kept_of) entry.lists;
+  staged = entry.staged;
+  outputs = map output_of entry.outputs;
+  processed = entry.processed;
+  output = entry.output;
+  bad = entry.bad;
 }

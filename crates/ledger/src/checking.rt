@@ -17,7 +17,12 @@ use crate::{EntryReader, LedgerRefused};
 use lp_outside::{Disk, Name};
 use lp_values::{Part, Stamp};
 
-pub(crate) fn text<D: Disk>(disk: &mut D, ledger: &Name, reader: &mut EntryReader, kind: TextKind) -> Result<(), LedgerRefused>
+pub(crate) fn text<D: Disk>(
+    disk: &mut D,
+    ledger: &Name,
+    reader: &mut EntryReader,
+    kind: TextKind,
+) -> Result<(), LedgerRefused>
     ensures looks { Looks (text_of (IsText kind)) (D.state disk.old) (D.state disk.new) ledger.now reader.old reader.new result }
     ensures rests { Rests (D.state disk.old) (D.state disk.new) }
     ensures reason { HasReason (D.faults disk.old) (D.faults disk.new) result }
@@ -31,7 +36,12 @@ pub(crate) fn text<D: Disk>(disk: &mut D, ledger: &Name, reader: &mut EntryReade
     }
 }
 
-fn texts<D: Disk>(disk: &mut D, ledger: &Name, reader: &mut EntryReader, count: u64) -> Result<(), LedgerRefused>
+fn texts<D: Disk>(
+    disk: &mut D,
+    ledger: &Name,
+    reader: &mut EntryReader,
+    count: u64,
+) -> Result<(), LedgerRefused>
     ensures looks { Looks (listed (λ before. text_field) count) (D.state disk.old) (D.state disk.new) ledger.now reader.old reader.new result }
     ensures rests { Rests (D.state disk.old) (D.state disk.new) }
     ensures reason { HasReason (D.faults disk.old) (D.faults disk.new) result }
@@ -42,7 +52,11 @@ fn texts<D: Disk>(disk: &mut D, ledger: &Name, reader: &mut EntryReader, count: 
     Ok(())
 }
 
-fn words<D: Disk>(disk: &mut D, ledger: &Name, reader: &mut EntryReader) -> Result<(), LedgerRefused>
+fn words<D: Disk>(
+    disk: &mut D,
+    ledger: &Name,
+    reader: &mut EntryReader,
+) -> Result<(), LedgerRefused>
     ensures looks { Looks words_layout (D.state disk.old) (D.state disk.new) ledger.now reader.old reader.new result }
     ensures rests { Rests (D.state disk.old) (D.state disk.new) }
     ensures reason { HasReason (D.faults disk.old) (D.faults disk.new) result }
@@ -52,7 +66,11 @@ fn words<D: Disk>(disk: &mut D, ledger: &Name, reader: &mut EntryReader) -> Resu
 }
 
 /// The words, the query and the template.
-pub fn check_texts<D: Disk>(disk: &mut D, ledger: &Name, reader: &mut EntryReader) -> Result<(), LedgerRefused>
+pub fn check_texts<D: Disk>(
+    disk: &mut D,
+    ledger: &Name,
+    reader: &mut EntryReader,
+) -> Result<(), LedgerRefused>
     ensures looks { Looks texts_layout (D.state disk.old) (D.state disk.new) ledger.now reader.old reader.new result }
     ensures rests { Rests (D.state disk.old) (D.state disk.new) }
     ensures reason { HasReason (D.faults disk.old) (D.faults disk.new) result }
@@ -63,7 +81,11 @@ pub fn check_texts<D: Disk>(disk: &mut D, ledger: &Name, reader: &mut EntryReade
 }
 
 /// The counts of records, rows and bad lines.
-pub fn check_counts<D: Disk>(disk: &mut D, ledger: &Name, reader: &mut EntryReader) -> Result<(), LedgerRefused>
+pub fn check_counts<D: Disk>(
+    disk: &mut D,
+    ledger: &Name,
+    reader: &mut EntryReader,
+) -> Result<(), LedgerRefused>
     ensures looks { Looks counts_layout (D.state disk.old) (D.state disk.new) ledger.now reader.old reader.new result }
     ensures rests { Rests (D.state disk.old) (D.state disk.new) }
     ensures reason { HasReason (D.faults disk.old) (D.faults disk.new) result }
@@ -74,7 +96,11 @@ pub fn check_counts<D: Disk>(disk: &mut D, ledger: &Name, reader: &mut EntryRead
     Ok(())
 }
 
-fn names<D: Disk>(disk: &mut D, ledger: &Name, reader: &mut EntryReader) -> Result<(), LedgerRefused>
+fn names<D: Disk>(
+    disk: &mut D,
+    ledger: &Name,
+    reader: &mut EntryReader,
+) -> Result<(), LedgerRefused>
     ensures looks { Looks names_layout (D.state disk.old) (D.state disk.new) ledger.now reader.old reader.new result }
     ensures rests { Rests (D.state disk.old) (D.state disk.new) }
     ensures reason { HasReason (D.faults disk.old) (D.faults disk.new) result }
@@ -87,7 +113,11 @@ fn names<D: Disk>(disk: &mut D, ledger: &Name, reader: &mut EntryReader) -> Resu
     texts(disk, ledger, reader, u64::from(count))
 }
 
-fn columns<D: Disk>(disk: &mut D, ledger: &Name, reader: &mut EntryReader) -> Result<(), LedgerRefused>
+fn columns<D: Disk>(
+    disk: &mut D,
+    ledger: &Name,
+    reader: &mut EntryReader,
+) -> Result<(), LedgerRefused>
     ensures looks { Looks columns_field (D.state disk.old) (D.state disk.new) ledger.now reader.old reader.new result }
     ensures rests { Rests (D.state disk.old) (D.state disk.new) }
     ensures reason { HasReason (D.faults disk.old) (D.faults disk.new) result }
@@ -104,7 +134,12 @@ fn columns<D: Disk>(disk: &mut D, ledger: &Name, reader: &mut EntryReader) -> Re
 }
 
 /// The parts of a standing.
-fn lines<D: Disk>(disk: &mut D, ledger: &Name, reader: &mut EntryReader, most: u64) -> Result<(), LedgerRefused>
+fn lines<D: Disk>(
+    disk: &mut D,
+    ledger: &Name,
+    reader: &mut EntryReader,
+    most: u64,
+) -> Result<(), LedgerRefused>
     ensures looks { Looks (standing_layout most) (D.state disk.old) (D.state disk.new) ledger.now reader.old reader.new result }
     ensures rests { Rests (D.state disk.old) (D.state disk.new) }
     ensures reason { HasReason (D.faults disk.old) (D.faults disk.new) result }
@@ -117,7 +152,12 @@ fn lines<D: Disk>(disk: &mut D, ledger: &Name, reader: &mut EntryReader, most: u
     columns(disk, ledger, reader)
 }
 
-fn standing<D: Disk>(disk: &mut D, ledger: &Name, reader: &mut EntryReader, most: u64) -> Result<(), LedgerRefused>
+fn standing<D: Disk>(
+    disk: &mut D,
+    ledger: &Name,
+    reader: &mut EntryReader,
+    most: u64,
+) -> Result<(), LedgerRefused>
     ensures looks { Looks (text_of (IsStanding most)) (D.state disk.old) (D.state disk.new) ledger.now reader.old reader.new result }
     ensures rests { Rests (D.state disk.old) (D.state disk.new) }
     ensures reason { HasReason (D.faults disk.old) (D.faults disk.new) result }
@@ -147,7 +187,12 @@ fn span<D: Disk>(disk: &mut D, ledger: &Name, reader: &mut EntryReader) -> Resul
     standing(disk, ledger, reader, to)
 }
 
-fn span_items<D: Disk>(disk: &mut D, ledger: &Name, reader: &mut EntryReader, count: u64) -> Result<(), LedgerRefused>
+fn span_items<D: Disk>(
+    disk: &mut D,
+    ledger: &Name,
+    reader: &mut EntryReader,
+    count: u64,
+) -> Result<(), LedgerRefused>
     ensures looks { Looks (listed (λ before. span_layout) count) (D.state disk.old) (D.state disk.new) ledger.now reader.old reader.new result }
     ensures rests { Rests (D.state disk.old) (D.state disk.new) }
     ensures reason { HasReason (D.faults disk.old) (D.faults disk.new) result }
@@ -158,7 +203,11 @@ fn span_items<D: Disk>(disk: &mut D, ledger: &Name, reader: &mut EntryReader, co
     Ok(())
 }
 
-fn spans<D: Disk>(disk: &mut D, ledger: &Name, reader: &mut EntryReader) -> Result<(), LedgerRefused>
+fn spans<D: Disk>(
+    disk: &mut D,
+    ledger: &Name,
+    reader: &mut EntryReader,
+) -> Result<(), LedgerRefused>
     ensures looks { Looks spans_layout (D.state disk.old) (D.state disk.new) ledger.now reader.old reader.new result }
     ensures rests { Rests (D.state disk.old) (D.state disk.new) }
     ensures reason { HasReason (D.faults disk.old) (D.faults disk.new) result }
@@ -189,7 +238,11 @@ fn is_stamp(code: u8, seconds: i64) -> bool
     }
 }
 
-fn stamp<D: Disk>(disk: &mut D, ledger: &Name, reader: &mut EntryReader) -> Result<(), LedgerRefused>
+fn stamp<D: Disk>(
+    disk: &mut D,
+    ledger: &Name,
+    reader: &mut EntryReader,
+) -> Result<(), LedgerRefused>
     ensures looks { Looks any_stamp (D.state disk.old) (D.state disk.new) ledger.now reader.old reader.new result }
     ensures rests { Rests (D.state disk.old) (D.state disk.new) }
     ensures reason { HasReason (D.faults disk.old) (D.faults disk.new) result }
@@ -203,7 +256,11 @@ fn stamp<D: Disk>(disk: &mut D, ledger: &Name, reader: &mut EntryReader) -> Resu
     }
 }
 
-fn signed<D: Disk>(disk: &mut D, ledger: &Name, reader: &mut EntryReader) -> Result<(), LedgerRefused>
+fn signed<D: Disk>(
+    disk: &mut D,
+    ledger: &Name,
+    reader: &mut EntryReader,
+) -> Result<(), LedgerRefused>
     ensures looks { Looks any_signed (D.state disk.old) (D.state disk.new) ledger.now reader.old reader.new result }
     ensures rests { Rests (D.state disk.old) (D.state disk.new) }
     ensures reason { HasReason (D.faults disk.old) (D.faults disk.new) result }
@@ -213,7 +270,11 @@ fn signed<D: Disk>(disk: &mut D, ledger: &Name, reader: &mut EntryReader) -> Res
 }
 
 /// A value, whose parts are no fields of their own.
-fn value_parts<D: Disk>(disk: &mut D, ledger: &Name, reader: &mut EntryReader) -> Result<(), LedgerRefused>
+fn value_parts<D: Disk>(
+    disk: &mut D,
+    ledger: &Name,
+    reader: &mut EntryReader,
+) -> Result<(), LedgerRefused>
     ensures looks { (file : List ℕ) (to : ℕ) → CanRead (D.state disk.old) ledger.now file to reader.old → CanRead (D.state disk.new) ledger.now file to reader.new
         × MatchResult result (λ _. SomeRead kept_field file to reader.old.at reader.new.at) (λ refused. RefusedAt kept_field file to reader.old.at (moved_to refused reader.old.at)) }
     ensures rests { Rests (D.state disk.old) (D.state disk.new) }
@@ -230,7 +291,11 @@ fn value_parts<D: Disk>(disk: &mut D, ledger: &Name, reader: &mut EntryReader) -
     }
 }
 
-fn value<D: Disk>(disk: &mut D, ledger: &Name, reader: &mut EntryReader) -> Result<(), LedgerRefused>
+fn value<D: Disk>(
+    disk: &mut D,
+    ledger: &Name,
+    reader: &mut EntryReader,
+) -> Result<(), LedgerRefused>
     ensures looks { Looks kept_field (D.state disk.old) (D.state disk.new) ledger.now reader.old reader.new result }
     ensures rests { Rests (D.state disk.old) (D.state disk.new) }
     ensures reason { HasReason (D.faults disk.old) (D.faults disk.new) result }
@@ -242,7 +307,12 @@ fn value<D: Disk>(disk: &mut D, ledger: &Name, reader: &mut EntryReader) -> Resu
     }
 }
 
-fn value_items<D: Disk>(disk: &mut D, ledger: &Name, reader: &mut EntryReader, count: u64) -> Result<(), LedgerRefused>
+fn value_items<D: Disk>(
+    disk: &mut D,
+    ledger: &Name,
+    reader: &mut EntryReader,
+    count: u64,
+) -> Result<(), LedgerRefused>
     ensures looks { Looks (listed (λ before. kept_field) count) (D.state disk.old) (D.state disk.new) ledger.now reader.old reader.new result }
     ensures rests { Rests (D.state disk.old) (D.state disk.new) }
     ensures reason { HasReason (D.faults disk.old) (D.faults disk.new) result }
@@ -262,7 +332,12 @@ fn list<D: Disk>(disk: &mut D, ledger: &Name, reader: &mut EntryReader) -> Resul
     value_items(disk, ledger, reader, count)
 }
 
-fn list_items<D: Disk>(disk: &mut D, ledger: &Name, reader: &mut EntryReader, count: u64) -> Result<(), LedgerRefused>
+fn list_items<D: Disk>(
+    disk: &mut D,
+    ledger: &Name,
+    reader: &mut EntryReader,
+    count: u64,
+) -> Result<(), LedgerRefused>
     ensures looks { Looks (listed (λ before. list_layout) count) (D.state disk.old) (D.state disk.new) ledger.now reader.old reader.new result }
     ensures rests { Rests (D.state disk.old) (D.state disk.new) }
     ensures reason { HasReason (D.faults disk.old) (D.faults disk.new) result }
@@ -273,7 +348,11 @@ fn list_items<D: Disk>(disk: &mut D, ledger: &Name, reader: &mut EntryReader, co
     Ok(())
 }
 
-fn lists<D: Disk>(disk: &mut D, ledger: &Name, reader: &mut EntryReader) -> Result<(), LedgerRefused>
+fn lists<D: Disk>(
+    disk: &mut D,
+    ledger: &Name,
+    reader: &mut EntryReader,
+) -> Result<(), LedgerRefused>
     ensures looks { Looks lists_layout (D.state disk.old) (D.state disk.new) ledger.now reader.old reader.new result }
     ensures rests { Rests (D.state disk.old) (D.state disk.new) }
     ensures reason { HasReason (D.faults disk.old) (D.faults disk.new) result }
@@ -283,7 +362,11 @@ fn lists<D: Disk>(disk: &mut D, ledger: &Name, reader: &mut EntryReader) -> Resu
 }
 
 /// The spans and the kept lists.
-pub fn check_kept<D: Disk>(disk: &mut D, ledger: &Name, reader: &mut EntryReader) -> Result<(), LedgerRefused>
+pub fn check_kept<D: Disk>(
+    disk: &mut D,
+    ledger: &Name,
+    reader: &mut EntryReader,
+) -> Result<(), LedgerRefused>
     ensures looks { Looks kept_layout (D.state disk.old) (D.state disk.new) ledger.now reader.old reader.new result }
     ensures rests { Rests (D.state disk.old) (D.state disk.new) }
     ensures reason { HasReason (D.faults disk.old) (D.faults disk.new) result }
@@ -291,4 +374,3 @@ pub fn check_kept<D: Disk>(disk: &mut D, ledger: &Name, reader: &mut EntryReader
     spans(disk, ledger, reader)?;
     lists(disk, ledger, reader)
 }
-

@@ -16,7 +16,11 @@ use std::marker::Model;
 
 const LIMIT: u64 = 1 << 63;
 
-fn skip_head<D: Disk>(disk: &mut D, ledger: &Name, reader: &mut EntryReader) -> Result<(), LedgerRefused>
+fn skip_head<D: Disk>(
+    disk: &mut D,
+    ledger: &Name,
+    reader: &mut EntryReader,
+) -> Result<(), LedgerRefused>
     ensures looks { Looks loose_head (D.state disk.old) (D.state disk.new) ledger.now reader.old reader.new result }
     ensures rests { Rests (D.state disk.old) (D.state disk.new) }
     ensures reason { HasReason (D.faults disk.old) (D.faults disk.new) result }
@@ -27,7 +31,11 @@ fn skip_head<D: Disk>(disk: &mut D, ledger: &Name, reader: &mut EntryReader) -> 
 }
 
 /// All that stands before the stage's length.
-fn skip_front<D: Disk>(disk: &mut D, ledger: &Name, reader: &mut EntryReader) -> Result<(), LedgerRefused>
+fn skip_front<D: Disk>(
+    disk: &mut D,
+    ledger: &Name,
+    reader: &mut EntryReader,
+) -> Result<(), LedgerRefused>
     ensures looks { Looks loose_front (D.state disk.old) (D.state disk.new) ledger.now reader.old reader.new result }
     ensures rests { Rests (D.state disk.old) (D.state disk.new) }
     ensures reason { HasReason (D.faults disk.old) (D.faults disk.new) result }
@@ -59,7 +67,12 @@ impl OutputReader {
     ghost use Rattle.ledger.specs.declared.refused.Part2.{Part2};
 
     /// A reader of the outputs of the entry whose payload stands from one place up to another.
-    pub fn find<D: Disk>(disk: &mut D, ledger: &Name, from: u64, to: u64) -> Result<OutputReader, LedgerRefused>
+    pub fn find<D: Disk>(
+        disk: &mut D,
+        ledger: &Name,
+        from: u64,
+        to: u64,
+    ) -> Result<OutputReader, LedgerRefused>
         ensures found { IfOk result (λ o. (entry : Entry) → HoldsEntry (D.state disk.old) ledger.now from to entry
             → (o.staged ≡ entry.staged) × (o.count ≡ length entry.outputs) × StandsBefore (D.state disk.new) ledger.now entry 0 o) }
         ensures fault { (part : Part2) (p : ℕ) → IsErrOf result (LedgerFault part p) → (entry : Entry) → HoldsEntry (D.state disk.old) ledger.now from to entry → ⊥ }
@@ -76,7 +89,11 @@ impl OutputReader {
             Err(refused) => return Err(refused),
         };
         match reader.word(disk, ledger) {
-            Ok(count) => Ok(OutputReader { reader, staged, count }),
+            Ok(count) => Ok(OutputReader {
+                reader,
+                staged,
+                count,
+            }),
             Err(refused) => Err(refused),
         }
     }

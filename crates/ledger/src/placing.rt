@@ -23,7 +23,14 @@ fn ends_high(base: u64, size: u64) -> bool
 }
 
 /// Whether a name is that of one of the outputs that stand at a place.
-fn is_taken<D: Disk>(disk: &mut D, ledger: &Name, first: u64, to: u64, count: u64, name: &Name) -> Result<bool, LedgerRefused>
+fn is_taken<D: Disk>(
+    disk: &mut D,
+    ledger: &Name,
+    first: u64,
+    to: u64,
+    count: u64,
+    name: &Name,
+) -> Result<bool, LedgerRefused>
     ensures compares { (file : List ℕ) → Holds (D.state disk.old) ledger.now file → Compares file to first count name.now result }
     ensures rests { Rests (D.state disk.old) (D.state disk.new) }
     ensures reason { HasReason (D.faults disk.old) (D.faults disk.new) result }
@@ -42,7 +49,13 @@ fn is_taken<D: Disk>(disk: &mut D, ledger: &Name, first: u64, to: u64, count: u6
 }
 
 /// An output behind others, of which the first stands at a place.
-fn output<D: Disk>(disk: &mut D, ledger: &Name, reader: &mut EntryReader, first: u64, count: u64) -> Result<(), LedgerRefused>
+fn output<D: Disk>(
+    disk: &mut D,
+    ledger: &Name,
+    reader: &mut EntryReader,
+    first: u64,
+    count: u64,
+) -> Result<(), LedgerRefused>
     ensures looks { (file : List ℕ) (to : ℕ) → CanRead (D.state disk.old) ledger.now file to reader.old → CanRead (D.state disk.new) ledger.now file to reader.new
         × ((some : SomeItems output_layout file to first reader.old.at count) → Checks (output_layout some.items) file to reader.old.at reader.new.at result) }
     ensures rests { Rests (D.state disk.old) (D.state disk.new) }
@@ -64,7 +77,12 @@ fn output<D: Disk>(disk: &mut D, ledger: &Name, reader: &mut EntryReader, first:
     Ok(())
 }
 
-fn output_items<D: Disk>(disk: &mut D, ledger: &Name, reader: &mut EntryReader, count: u64) -> Result<(), LedgerRefused>
+fn output_items<D: Disk>(
+    disk: &mut D,
+    ledger: &Name,
+    reader: &mut EntryReader,
+    count: u64,
+) -> Result<(), LedgerRefused>
     ensures looks { Looks (listed output_layout count) (D.state disk.old) (D.state disk.new) ledger.now reader.old reader.new result }
     ensures rests { Rests (D.state disk.old) (D.state disk.new) }
     ensures reason { HasReason (D.faults disk.old) (D.faults disk.new) result }
@@ -76,7 +94,11 @@ fn output_items<D: Disk>(disk: &mut D, ledger: &Name, reader: &mut EntryReader, 
     Ok(())
 }
 
-fn outputs<D: Disk>(disk: &mut D, ledger: &Name, reader: &mut EntryReader) -> Result<(), LedgerRefused>
+fn outputs<D: Disk>(
+    disk: &mut D,
+    ledger: &Name,
+    reader: &mut EntryReader,
+) -> Result<(), LedgerRefused>
     ensures looks { Looks outputs_layout (D.state disk.old) (D.state disk.new) ledger.now reader.old reader.new result }
     ensures rests { Rests (D.state disk.old) (D.state disk.new) }
     ensures reason { HasReason (D.faults disk.old) (D.faults disk.new) result }
@@ -90,7 +112,11 @@ fn outputs<D: Disk>(disk: &mut D, ledger: &Name, reader: &mut EntryReader) -> Re
 }
 
 /// The stage's length, the outputs and the counts.
-pub fn check_ending<D: Disk>(disk: &mut D, ledger: &Name, reader: &mut EntryReader) -> Result<(), LedgerRefused>
+pub fn check_ending<D: Disk>(
+    disk: &mut D,
+    ledger: &Name,
+    reader: &mut EntryReader,
+) -> Result<(), LedgerRefused>
     ensures looks { Looks ending_layout (D.state disk.old) (D.state disk.new) ledger.now reader.old reader.new result }
     ensures rests { Rests (D.state disk.old) (D.state disk.new) }
     ensures reason { HasReason (D.faults disk.old) (D.faults disk.new) result }
@@ -99,4 +125,3 @@ pub fn check_ending<D: Disk>(disk: &mut D, ledger: &Name, reader: &mut EntryRead
     outputs(disk, ledger, reader)?;
     check_counts(disk, ledger, reader)
 }
-

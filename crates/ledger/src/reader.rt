@@ -33,7 +33,13 @@ impl Model for EntryReader {
 }
 
 /// Fills a buffer from its front with bytes of a file: at least as many as are wanted, or all that fit or are left.
-fn fill<D: Disk>(disk: &mut D, name: &Name, at: u64, room: &mut [u8], want: usize) -> Result<usize, DiskFailed>
+fn fill<D: Disk>(
+    disk: &mut D,
+    name: &Name,
+    at: u64,
+    room: &mut [u8],
+    want: usize,
+) -> Result<usize, DiskFailed>
     requires { at + length room.old < 2 ^ 64 }
     ensures count { IfOk result (λ count. count ≤ length room.new) }
     ensures holds { (file : List ℕ) → Holds (D.state disk.old) name.now file → Holds (D.state disk.new) name.now file }
@@ -112,7 +118,12 @@ impl EntryReader {
     }
 
     /// Reads at least so many bytes ahead, or all that are left.
-    pub(crate) fn load<D: Disk>(&mut self, disk: &mut D, ledger: &Name, want: usize) -> Result<(), DiskFailed>
+    pub(crate) fn load<D: Disk>(
+        &mut self,
+        disk: &mut D,
+        ledger: &Name,
+        want: usize,
+    ) -> Result<(), DiskFailed>
         requires { want ≤ 1024 }
         ensures at { self.new.at ≡ self.old.at }
         ensures to { self.new.to ≡ self.old.to }
@@ -142,7 +153,12 @@ impl EntryReader {
     }
 
     /// Takes a piece of at most 1,024 bytes, or none where fewer are left.
-    fn take_piece<D: Disk>(&mut self, disk: &mut D, ledger: &Name, piece: &mut [u8]) -> Result<bool, DiskFailed>
+    fn take_piece<D: Disk>(
+        &mut self,
+        disk: &mut D,
+        ledger: &Name,
+        piece: &mut [u8],
+    ) -> Result<bool, DiskFailed>
         requires { length piece.old ≤ 1024 }
         ensures to { self.new.to ≡ self.old.to }
         ensures reads { (file : List ℕ) (to : ℕ) → CanRead (D.state disk.old) ledger.now file to self.old → CanRead (D.state disk.new) ledger.now file to self.new
@@ -161,7 +177,12 @@ impl EntryReader {
     }
 
     /// Takes the next bytes. Where fewer are left the ledger is damaged at the first of them, and none are taken.
-    pub fn take<D: Disk>(&mut self, disk: &mut D, ledger: &Name, into: &mut [u8]) -> Result<(), LedgerRefused>
+    pub fn take<D: Disk>(
+        &mut self,
+        disk: &mut D,
+        ledger: &Name,
+        into: &mut [u8],
+    ) -> Result<(), LedgerRefused>
         ensures to { self.new.to ≡ self.old.to }
         ensures reads { (file : List ℕ) (to : ℕ) → CanRead (D.state disk.old) ledger.now file to self.old → CanRead (D.state disk.new) ledger.now file to self.new
             × MatchResult result (λ _. Stood file to self.old.at self.new.at into.new) (RefusedShort file to self.old.at (length into.old)) }
@@ -199,7 +220,11 @@ impl EntryReader {
         Ok(bytes[0])
     }
 
-    pub(crate) fn short<D: Disk>(&mut self, disk: &mut D, ledger: &Name) -> Result<u16, LedgerRefused>
+    pub(crate) fn short<D: Disk>(
+        &mut self,
+        disk: &mut D,
+        ledger: &Name,
+    ) -> Result<u16, LedgerRefused>
         ensures gives { Gives any_short (D.state disk.old) (D.state disk.new) ledger.now self.old self.new result }
         ensures rests { Rests (D.state disk.old) (D.state disk.new) }
         ensures reason { HasReason (D.faults disk.old) (D.faults disk.new) result }
@@ -209,7 +234,11 @@ impl EntryReader {
         Ok(u16::from_le_bytes(bytes))
     }
 
-    pub(crate) fn word<D: Disk>(&mut self, disk: &mut D, ledger: &Name) -> Result<u32, LedgerRefused>
+    pub(crate) fn word<D: Disk>(
+        &mut self,
+        disk: &mut D,
+        ledger: &Name,
+    ) -> Result<u32, LedgerRefused>
         ensures gives { Gives any_word (D.state disk.old) (D.state disk.new) ledger.now self.old self.new result }
         ensures rests { Rests (D.state disk.old) (D.state disk.new) }
         ensures reason { HasReason (D.faults disk.old) (D.faults disk.new) result }
@@ -219,7 +248,11 @@ impl EntryReader {
         Ok(u32::from_le_bytes(bytes))
     }
 
-    pub(crate) fn number<D: Disk>(&mut self, disk: &mut D, ledger: &Name) -> Result<u64, LedgerRefused>
+    pub(crate) fn number<D: Disk>(
+        &mut self,
+        disk: &mut D,
+        ledger: &Name,
+    ) -> Result<u64, LedgerRefused>
         ensures gives { Gives number (D.state disk.old) (D.state disk.new) ledger.now self.old self.new result }
         ensures rests { Rests (D.state disk.old) (D.state disk.new) }
         ensures reason { HasReason (D.faults disk.old) (D.faults disk.new) result }
@@ -229,7 +262,11 @@ impl EntryReader {
         Ok(u64::from_le_bytes(bytes))
     }
 
-    pub(crate) fn signed<D: Disk>(&mut self, disk: &mut D, ledger: &Name) -> Result<i64, LedgerRefused>
+    pub(crate) fn signed<D: Disk>(
+        &mut self,
+        disk: &mut D,
+        ledger: &Name,
+    ) -> Result<i64, LedgerRefused>
         ensures gives { Gives any_signed (D.state disk.old) (D.state disk.new) ledger.now self.old self.new result }
         ensures rests { Rests (D.state disk.old) (D.state disk.new) }
         ensures reason { HasReason (D.faults disk.old) (D.faults disk.new) result }
@@ -239,7 +276,12 @@ impl EntryReader {
     }
 
     /// Takes a text into the front of a buffer, and gives its length; a text that is longer is damaged.
-    pub(crate) fn short_text<D: Disk>(&mut self, disk: &mut D, ledger: &Name, room: &mut [u8]) -> Result<usize, LedgerRefused>
+    pub(crate) fn short_text<D: Disk>(
+        &mut self,
+        disk: &mut D,
+        ledger: &Name,
+        room: &mut [u8],
+    ) -> Result<usize, LedgerRefused>
         requires { length room.old < 2 ^ 32 }
         ensures reads { (file : List ℕ) (to : ℕ) → CanRead (D.state disk.old) ledger.now file to self.old → CanRead (D.state disk.new) ledger.now file to self.new
             × MatchResult result (λ size. IsRead (text_within (length room.old)) file to self.old.at self.new.at (take size room.new)) (RefusedAt (text_within (length room.old)) file to self.old.at) }

@@ -33,7 +33,6 @@ pub enum TextRefused {
 
 impl From<lp_outside::DiskFailed> for LedgerRefused {
     ghost use Rattle.std.specs.Prelude.{◌≡◌};
-
     ghost use Rattle.ledger.specs.declared.refused.LedgerRefused.TheVariants.{DiskFault};
 
     ghost from_gives = { λ _ refused. refused ≡ DiskFault };

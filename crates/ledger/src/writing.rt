@@ -53,7 +53,12 @@ impl EntryWriter {
     }
 
     /// Writes a piece of the payload behind those before it. After an `Err` any part of it may be written.
-    pub fn put<D: Disk>(&mut self, disk: &mut D, ledger: &Name, bytes: &[u8]) -> Result<(), DiskFailed>
+    pub fn put<D: Disk>(
+        &mut self,
+        disk: &mut D,
+        ledger: &Name,
+        bytes: &[u8],
+    ) -> Result<(), DiskFailed>
         ensures at { self.new.at ≡ self.old.at }
         ensures count { OnOk result (self.new.count ≡ self.old.count + length bytes.now) }
         ensures err { OnErr result (self.new.count ≡ self.old.count) }

@@ -26,6 +26,8 @@ pub returns-clause-looks : goal.returns-clause-looks
 returns-clause-looks g c = λ file to can.
     let k = c.in_ok-words.ensures.looks file to can in
     let t = c.in_ok-text.ensures.looks file to k.0 in
-    let l = c.text-2.ensures.looks file to t.0 in
-    (l.0, checks_behind words_layout (λ words. behind text_field (λ query. text_of (λ template. ⊤))) file to _ _ _ k.1.value k.1.read c.text-2.result
-        (checks_behind text_field (λ query. text_of (λ template. ⊤)) file to _ _ _ t.1.value t.1.read c.text-2.result l.1))
+    let l = c.text-2.ensures.looks file to t.0 in (
+      l.0,
+      checks_behind words_layout (λ words. behind text_field (λ query. text_of (λ template. ⊤))) file to _ _ _ k.1.value k.1.read c.text-2.result
+          (checks_behind text_field (λ query. text_of (λ template. ⊤)) file to _ _ _ t.1.value t.1.read c.text-2.result l.1),
+    )

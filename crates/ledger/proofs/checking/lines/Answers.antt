@@ -20,10 +20,12 @@ returns-in_err-count-clause-looks g c = λ file to can.
 
 pub returns-then-count-most-clause-looks : goal.returns-then-count-most-clause-looks
 returns-then-count-most-clause-looks g c = λ file to can.
-    let k = c.in_ok-count.ensures.gives file to can in
-    (k.0, refused_viewed (λ (standing : Standing). (standing.lines, standing.columns)) (behind (field (λ n. (n < 2 ^ 64) × (n ≤ c.args.most)) u64_bytes) (λ lines. columns_field)) file to c.args.reader.now.at c.damaged.result (refused_first (field (λ n. (n < 2 ^ 64) × (n ≤ c.args.most)) u64_bytes) (λ lines. columns_field) file to _ _
-        (refused_here (field (λ n. (n < 2 ^ 64) × (n ≤ c.args.most)) u64_bytes) file to c.args.reader.now.at c.place-place.result c.damaged.result c.damaged.ensures c.place-place.ensures
-            (misfit (λ n. n < 2 ^ 64) (λ n. (n < 2 ^ 64) × (n ≤ c.args.most)) u64_bytes number_law (λ n fits. fits.0) file to _ _ _ k.1 (λ fits. omega (arith, c.if-count-most.true, fits.1))))))
+    let k = c.in_ok-count.ensures.gives file to can in (
+      k.0,
+      refused_viewed (λ (standing : Standing). (standing.lines, standing.columns)) (behind (field (λ n. (n < 2 ^ 64) × (n ≤ c.args.most)) u64_bytes) (λ lines. columns_field)) file to c.args.reader.now.at c.damaged.result (refused_first (field (λ n. (n < 2 ^ 64) × (n ≤ c.args.most)) u64_bytes) (λ lines. columns_field) file to _ _
+          (refused_here (field (λ n. (n < 2 ^ 64) × (n ≤ c.args.most)) u64_bytes) file to c.args.reader.now.at c.place-place.result c.damaged.result c.damaged.ensures c.place-place.ensures
+          (misfit (λ n. n < 2 ^ 64) (λ n. (n < 2 ^ 64) × (n ≤ c.args.most)) u64_bytes number_law (λ n fits. fits.0) file to _ _ _ k.1 (λ fits. omega (arith, c.if-count-most.true, fits.1))))),
+    )
 
 pub returns-clause-looks : goal.returns-clause-looks
 returns-clause-looks g c = λ file to can.

@@ -18,13 +18,17 @@ returns-in_err-count-clause-looks g c = λ file to can.
 
 pub returns-then-count-gt1024-clause-looks : goal.returns-then-count-gt1024-clause-looks
 returns-then-count-gt1024-clause-looks g c = λ file to can.
-    let k = c.in_ok-count.ensures.gives file to can in
-    (k.0, counted_unsized u16_bytes 1025 (λ before. text_field) file to _ _ (refused_here (field (λ n. n < 1025) u16_bytes) file to c.args.reader.now.at c.place-place.result c.damaged.result c.damaged.ensures c.place-place.ensures
-        (misfit (λ n. n < 2 ^ 16) (λ n. n < 1025) u16_bytes (short_law (2 ^ 16) (lit≤ tt)) (λ n fits. omega arith) file to _ _ _ k.1 (λ fits. omega (arith, c.if-count-gt1024.true)))))
+    let k = c.in_ok-count.ensures.gives file to can in (
+      k.0,
+      counted_unsized u16_bytes 1025 (λ before. text_field) file to _ _ (refused_here (field (λ n. n < 1025) u16_bytes) file to c.args.reader.now.at c.place-place.result c.damaged.result c.damaged.ensures c.place-place.ensures
+          (misfit (λ n. n < 2 ^ 16) (λ n. n < 1025) u16_bytes (short_law (2 ^ 16) (lit≤ tt)) (λ n fits. omega arith) file to _ _ _ k.1 (λ fits. omega (arith, c.if-count-gt1024.true)))),
+    )
 
 pub returns-clause-looks : goal.returns-clause-looks
 returns-clause-looks g c = λ file to can.
     let k = c.in_ok-count.ensures.gives file to can in
-    let t = c.texts.ensures.looks file to k.0 in
-    (t.0, checks_counted u16_bytes 1025 (λ before. text_field) file to _ _ _ _ (narrowed (λ n. n < 2 ^ 16) (λ n. n < 1025) u16_bytes file to _ _ _ k.1 (omega (arith, c.if-count-gt1024.false))) c.texts.result
-        (subst (λ (n : ℕ). Checks (listed (λ before. text_field) n) file to c.short.new.self.at c.texts.new.reader.at c.texts.result) (omega (arith, c.from.ensures)) t.1))
+    let t = c.texts.ensures.looks file to k.0 in (
+      t.0,
+      checks_counted u16_bytes 1025 (λ before. text_field) file to _ _ _ _ (narrowed (λ n. n < 2 ^ 16) (λ n. n < 1025) u16_bytes file to _ _ _ k.1 (omega (arith, c.if-count-gt1024.false))) c.texts.result
+          (subst (λ (n : ℕ). Checks (listed (λ before. text_field) n) file to c.short.new.self.at c.texts.new.reader.at c.texts.result) (omega (arith, c.from.ensures)) t.1),
+    )

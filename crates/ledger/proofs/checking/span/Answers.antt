@@ -43,7 +43,9 @@ returns-clause-looks g c = λ file to can.
     let n = c.in_ok-take_name.ensures.gives file to can in
     let f = c.in_ok-from.ensures.gives file to n.0 in
     let t = c.in_ok-to.ensures.gives file to f.0 in
-    let s = c.standing.ensures.looks file to t.0 in
-    (s.0, checks_viewed (λ (span : Span). (span.identity, (span.from, (span.to, span.standing)))) (λ parts. record { identity = parts.0; from = parts.1.0; to = parts.1.1.0; standing = parts.1.1.1 }) (behind name_field (λ identity. behind number (λ from. behind (field (λ to. (to < 2 ^ 64) × (from ≤ to)) u64_bytes) (λ to. text_of (IsStanding to))))) (λ parts. refl) file to _ _ c.standing.result
-        (checks_behind name_field (λ identity. behind number (λ from. behind (field (λ to. (to < 2 ^ 64) × (from ≤ to)) u64_bytes) (λ to. text_of (IsStanding to)))) file to _ _ _ _ n.1 c.standing.result (checks_behind number (λ from. behind (field (λ to. (to < 2 ^ 64) × (from ≤ to)) u64_bytes) (λ to. text_of (IsStanding to))) file to _ _ _ _ f.1 c.standing.result
-            (checks_behind (field (λ to. (to < 2 ^ 64) × (c.in_ok-from.from ≤ to)) u64_bytes) (λ to. text_of (IsStanding to)) file to _ _ _ _ (narrowed (λ n. n < 2 ^ 64) (λ to. (to < 2 ^ 64) × (c.in_ok-from.from ≤ to)) u64_bytes file to _ _ _ t.1 (omega arith, omega (arith, c.if-to-from.false))) c.standing.result s.1))))
+    let s = c.standing.ensures.looks file to t.0 in (
+      s.0,
+      checks_viewed (λ (span : Span). (span.identity, (span.from, (span.to, span.standing)))) (λ parts. record { identity = parts.0; from = parts.1.0; to = parts.1.1.0; standing = parts.1.1.1 }) (behind name_field (λ identity. behind number (λ from. behind (field (λ to. (to < 2 ^ 64) × (from ≤ to)) u64_bytes) (λ to. text_of (IsStanding to))))) (λ parts. refl) file to _ _ c.standing.result
+          (checks_behind name_field (λ identity. behind number (λ from. behind (field (λ to. (to < 2 ^ 64) × (from ≤ to)) u64_bytes) (λ to. text_of (IsStanding to)))) file to _ _ _ _ n.1 c.standing.result (checks_behind number (λ from. behind (field (λ to. (to < 2 ^ 64) × (from ≤ to)) u64_bytes) (λ to. text_of (IsStanding to))) file to _ _ _ _ f.1 c.standing.result
+          (checks_behind (field (λ to. (to < 2 ^ 64) × (c.in_ok-from.from ≤ to)) u64_bytes) (λ to. text_of (IsStanding to)) file to _ _ _ _ (narrowed (λ n. n < 2 ^ 64) (λ to. (to < 2 ^ 64) × (c.in_ok-from.from ≤ to)) u64_bytes file to _ _ _ t.1 (omega arith, omega (arith, c.if-to-from.false))) c.standing.result s.1))),
+    )

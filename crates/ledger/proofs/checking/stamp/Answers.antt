@@ -26,9 +26,11 @@ returns-in-Ok-clause-looks g c = λ file to can.
 pub returns-in-Ok-2-clause-looks : goal.returns-in-Ok-2-clause-looks
 returns-in-Ok-2-clause-looks g c = λ file to can.
     let k = c.in_ok-code.ensures.gives file to can in
-    let s = c.in-Ok.ensures.gives file to k.0 in
-    (s.0, refused_here any_stamp file to c.args.reader.now.at c.place-place.result c.damaged.result c.damaged.ensures c.place-place.ensures
-        (stamp_misfit file to _ _ _ _ _ k.1 s.1 (λ is. let wrong = c.if-is_stamp.ensures.1 (subst (λ (z : ℤ). IsStamp c.in_ok-code.code z) (sym (to_z-of_z w64 c.in-Ok.seconds s.1.fits)) is) in cc)))
+    let s = c.in-Ok.ensures.gives file to k.0 in (
+      s.0,
+      refused_here any_stamp file to c.args.reader.now.at c.place-place.result c.damaged.result c.damaged.ensures c.place-place.ensures
+          (stamp_misfit file to _ _ _ _ _ k.1 s.1 (λ is. let wrong = c.if-is_stamp.ensures.1 (subst (λ (z : ℤ). IsStamp c.in_ok-code.code z) (sym (to_z-of_z w64 c.in-Ok.seconds s.1.fits)) is) in cc)),
+    )
 
 pub returns-in-Err-clause-looks : goal.returns-in-Err-clause-looks
 returns-in-Err-clause-looks g c = λ file to can.

@@ -23,9 +23,11 @@ returns-in-Ok-clause-looks g c = λ file to can.
 pub returns-in-Ok-2-clause-looks : goal.returns-in-Ok-2-clause-looks
 returns-in-Ok-2-clause-looks g c = λ file to can.
     let k = c.in_ok-size.ensures.gives file to can in
-    let l = c.in-Ok.ensures.looks file to k.0 in
-    (l.0, refused_here (text_of (IsStanding c.args.most)) file to c.args.reader.now.at c.place-place.result c.damaged.result c.damaged.ensures c.place-place.ensures
-        (standing_long c.args.most file to _ _ _ _ k.1 l.1 (λ e. omega (arith, e, c.place.ensures, c.place-start.ensures, c.saturating_sub.ensures, c.from.ensures, c.if-saturating_sub-from.false))))
+    let l = c.in-Ok.ensures.looks file to k.0 in (
+      l.0,
+      refused_here (text_of (IsStanding c.args.most)) file to c.args.reader.now.at c.place-place.result c.damaged.result c.damaged.ensures c.place-place.ensures
+          (standing_long c.args.most file to _ _ _ _ k.1 l.1 (λ e. omega (arith, e, c.place.ensures, c.place-start.ensures, c.saturating_sub.ensures, c.from.ensures, c.if-saturating_sub-from.false))),
+    )
 
 pub returns-in-Err-clause-looks : goal.returns-in-Err-clause-looks
 returns-in-Err-clause-looks g c = λ file to can.

@@ -10,13 +10,13 @@ use Rattle.ledger.proofs.checking.texts.Goals as goal
 
 pub loop-index-preserved : goal.loop-index-preserved
 loop-index-preserved g c = let inv = c.loop-index.invariant in record {
-      rests = rests_then _ _ _ inv.rests c.text.ensures.rests;
-      later = omega (arith, inv.later, c.text.ensures.reason.later);
-      reads = λ file to can.
-          let past = inv.reads file to can in
-          let here = c.in_ok-text.ensures.looks file to past.0 in
-          (here.0, items_more (λ before. text_field) file to _ _ _ _ past.1 here.1.value here.1.read);
-    }
+  rests = rests_then _ _ _ inv.rests c.text.ensures.rests;
+  later = omega (arith, inv.later, c.text.ensures.reason.later);
+  reads = λ file to can.
+      let past = inv.reads file to can in
+      let here = c.in_ok-text.ensures.looks file to past.0 in
+      (here.0, items_more (λ before. text_field) file to _ _ _ _ past.1 here.1.value here.1.read);
+}
 
 pub returns-in_err-text-clause-looks : goal.returns-in_err-text-clause-looks
 returns-in_err-text-clause-looks g c = λ file to can.

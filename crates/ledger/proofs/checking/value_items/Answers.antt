@@ -10,13 +10,13 @@ use Rattle.ledger.proofs.checking.value_items.Goals as goal
 
 pub loop-index-preserved : goal.loop-index-preserved
 loop-index-preserved g c = let inv = c.loop-index.invariant in record {
-      rests = rests_then _ _ _ inv.rests c.value.ensures.rests;
-      later = omega (arith, inv.later, c.value.ensures.reason.later);
-      reads = λ file to can.
-          let past = inv.reads file to can in
-          let here = c.in_ok-value.ensures.looks file to past.0 in
-          (here.0, items_more (λ before. kept_field) file to _ _ _ _ past.1 here.1.value here.1.read);
-    }
+  rests = rests_then _ _ _ inv.rests c.value.ensures.rests;
+  later = omega (arith, inv.later, c.value.ensures.reason.later);
+  reads = λ file to can.
+      let past = inv.reads file to can in
+      let here = c.in_ok-value.ensures.looks file to past.0 in
+      (here.0, items_more (λ before. kept_field) file to _ _ _ _ past.1 here.1.value here.1.read);
+}
 
 pub returns-in_err-value-clause-looks : goal.returns-in_err-value-clause-looks
 returns-in_err-value-clause-looks g c = λ file to can.

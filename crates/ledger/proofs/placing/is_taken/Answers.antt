@@ -70,19 +70,21 @@ loop-index-preserved g c =
           let k0 = c.in_ok-other.ensures.gives file c.args.to before.0 in
           let k1 = c.in_ok-number.ensures.gives file c.args.to k0.0 in
           let k2 = c.in_ok-number-2.ensures.gives file c.args.to k1.0 in
-          let k3 = c.in_ok-number-3.ensures.gives file c.args.to k2.0 in
-          (k3.0, λ at some.
-    let past = c.loop-index.invariant.reads file holds in
-    let x = past_ahead file c.args.to at some.items c.loop-index._index c.args.name.now c.loop-index.reader.at (past.1 at some) (omega (arith, some.count_is)) in
-    let g0 = c.in_ok-other.ensures.gives file c.args.to past.0 in
-    let r0 = gives_front name_field (text_law IsName) file c.args.to _ _ x.output.name _ x.front x.name_fits (Ok c.in_ok-other.other) g0.1 in
-    let g1 = c.in_ok-number.ensures.gives file c.args.to g0.0 in
-    let r1 = gives_front number number_law file c.args.to _ _ x.output.base _ r0.1 x.base_fits (Ok c.in_ok-number.field-0) g1.1 in
-    let g2 = c.in_ok-number-2.ensures.gives file c.args.to g1.0 in
-    let r2 = gives_front number number_law file c.args.to _ _ x.output.size _ r1.1 x.size_fits (Ok c.in_ok-number-2.field-0) g2.1 in
-    let g3 = c.in_ok-number-3.ensures.gives file c.args.to g2.0 in
-    let r3 = gives_front number number_law file c.args.to _ _ x.output.last _ r2.1 x.last_fits (Ok c.in_ok-number-3.field-0) g3.1 in
-    x.goes _ r3.1 (λ same. other_name c.in_ok-other.other c.args.name.now c.is.result c.is.ensures c.if-is.false (r0.0 ∙ same)));
+          let k3 = c.in_ok-number-3.ensures.gives file c.args.to k2.0 in (
+            k3.0,
+            λ at some.
+                let past = c.loop-index.invariant.reads file holds in
+                let x = past_ahead file c.args.to at some.items c.loop-index._index c.args.name.now c.loop-index.reader.at (past.1 at some) (omega (arith, some.count_is)) in
+                let g0 = c.in_ok-other.ensures.gives file c.args.to past.0 in
+                let r0 = gives_front name_field (text_law IsName) file c.args.to _ _ x.output.name _ x.front x.name_fits (Ok c.in_ok-other.other) g0.1 in
+                let g1 = c.in_ok-number.ensures.gives file c.args.to g0.0 in
+                let r1 = gives_front number number_law file c.args.to _ _ x.output.base _ r0.1 x.base_fits (Ok c.in_ok-number.field-0) g1.1 in
+                let g2 = c.in_ok-number-2.ensures.gives file c.args.to g1.0 in
+                let r2 = gives_front number number_law file c.args.to _ _ x.output.size _ r1.1 x.size_fits (Ok c.in_ok-number-2.field-0) g2.1 in
+                let g3 = c.in_ok-number-3.ensures.gives file c.args.to g2.0 in
+                let r3 = gives_front number number_law file c.args.to _ _ x.output.last _ r2.1 x.last_fits (Ok c.in_ok-number-3.field-0) g3.1 in
+                x.goes _ r3.1 (λ same. other_name c.in_ok-other.other c.args.name.now c.is.result c.is.ensures c.if-is.false (r0.0 ∙ same)),
+          );
     }
 
 pub returns-clause-compares : goal.returns-clause-compares

@@ -15,14 +15,14 @@ use Rattle.ledger.proofs.placing.output_items.Goals as goal
 
 pub loop-index-preserved : goal.loop-index-preserved
 loop-index-preserved g c = let inv = c.loop-index.invariant in record {
-      rests = rests_then _ _ _ inv.rests c.output.ensures.rests;
-      later = omega (arith, inv.later, c.output.ensures.reason.later);
-      reads = λ file to can.
-          let past = inv.reads file to can in
-          let here = c.in_ok-output.ensures.looks file to past.0 in
-          let item = here.1 past.1 in
-          (here.0, items_more output_layout file to _ _ _ _ past.1 item.value item.read);
-    }
+  rests = rests_then _ _ _ inv.rests c.output.ensures.rests;
+  later = omega (arith, inv.later, c.output.ensures.reason.later);
+  reads = λ file to can.
+      let past = inv.reads file to can in
+      let here = c.in_ok-output.ensures.looks file to past.0 in
+      let item = here.1 past.1 in
+      (here.0, items_more output_layout file to _ _ _ _ past.1 item.value item.read);
+}
 
 pub returns-in_err-output-clause-looks : goal.returns-in_err-output-clause-looks
 returns-in_err-output-clause-looks g c = λ file to can.

@@ -24,8 +24,9 @@ loop-done-preserved g c =
       found = λ file holds.
           let now = rests_holds _ _ c.args.name.now file inv.rests holds in
           let fits : c.args.at + c.loop-done.done + c.in_ok-count.count ≤ length file =
-              omega (arith, ap length now.seen, c.in_ok-count.ensures.fits now.tells (omega (arith, c.if-count-eq0.false))) in
-          (filled c.loop-done.done (length c.loop-done.room - c.loop-done.done) c.in_ok-count.count c.loop-done.room c.read_at.new.into _ inv.within rest (omega (arith, rest, count)) (inv.found file holds).0
-              (c.in_ok-count.ensures.bytes now.tells ∙ ap (λ (l : List ℕ). take c.in_ok-count.count (drop (c.args.at + c.loop-done.done) l)) now.seen ∙ ap (λ (l : List ℕ). take c.in_ok-count.count l) (sym (drop-drop c.loop-done.done c.args.at file))),
-           omega (arith, fits, length-drop c.args.at file));
+          omega (arith, ap length now.seen, c.in_ok-count.ensures.fits now.tells (omega (arith, c.if-count-eq0.false))) in (
+            filled c.loop-done.done (length c.loop-done.room - c.loop-done.done) c.in_ok-count.count c.loop-done.room c.read_at.new.into _ inv.within rest (omega (arith, rest, count)) (inv.found file holds).0
+                (c.in_ok-count.ensures.bytes now.tells ∙ ap (λ (l : List ℕ). take c.in_ok-count.count (drop (c.args.at + c.loop-done.done) l)) now.seen ∙ ap (λ (l : List ℕ). take c.in_ok-count.count l) (sym (drop-drop c.loop-done.done c.args.at file))),
+            omega (arith, fits, length-drop c.args.at file),
+          );
     }

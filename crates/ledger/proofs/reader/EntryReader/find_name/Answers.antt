@@ -19,6 +19,8 @@ returns-in-Some-clause-gives g c = λ file to can.
 
 pub returns-in-None-clause-gives : goal.returns-in-None-clause-gives
 returns-in-None-clause-gives g c = λ file to can.
-    let k = c.in_ok-size.ensures.reads file to can in
-    (k.0, refused_here name_field file to c.args.self.now.at c.place-place.result c.damaged.result c.damaged.ensures c.place-place.ensures
-        (misfit _ _ text_bytes (text_law _) (λ t fits. (fits.0, fits.1.most)) file to _ _ _ k.1 (λ fits. c.in-None.ensures fits.1)))
+    let k = c.in_ok-size.ensures.reads file to can in (
+      k.0,
+      refused_here name_field file to c.args.self.now.at c.place-place.result c.damaged.result c.damaged.ensures c.place-place.ensures
+          (misfit _ _ text_bytes (text_law _) (λ t fits. (fits.0, fits.1.most)) file to _ _ _ k.1 (λ fits. c.in-None.ensures fits.1)),
+    )

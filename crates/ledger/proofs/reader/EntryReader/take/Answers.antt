@@ -14,7 +14,7 @@ loop-done-preserved g c =
     let rest : length c.take_piece.new.piece ≡ c.min-end.result - c.loop-done.done = omega (arith, c.take_piece.auto.piece, last.0, last.1) in
     let size : length (put_mid c.loop-done.done (c.min-end.result - c.loop-done.done) c.loop-done.into c.take_piece.new.piece) ≡ length c.loop-done.into = search rules in
     let whole : take c.min-end.result (put_mid c.loop-done.done (c.min-end.result - c.loop-done.done) c.loop-done.into c.take_piece.new.piece) ≡ take c.loop-done.done c.loop-done.into ++ c.take_piece.new.piece =
-        take-put_mid c.loop-done.done (c.min-end.result - c.loop-done.done) c.loop-done.into c.take_piece.new.piece c.min-end.result (omega (arith, rest, last.0)) inv.within in
+    take-put_mid c.loop-done.done (c.min-end.result - c.loop-done.done) c.loop-done.into c.take_piece.new.piece c.min-end.result (omega (arith, rest, last.0)) inv.within in
     record {
       within = omega (arith, size, last.1);
       low = λ i. Fits-lt-pow (c.type_inv.into i);

@@ -19,5 +19,5 @@ pub returns-then-ahead-piece-clause-reads : goal.returns-then-ahead-piece-clause
 returns-then-ahead-piece-clause-reads g c = λ file to can.
     let fewer : length c.load.new.self.ahead < length c.args.piece.now = omega (arith, ap length c.ahead-ahead.ensures, c.if-ahead-piece.true) in
     let goes : length (left_of file to c.args.self.now.at) < length c.args.piece.now =
-        ⊎_elim (λ many. absurd (omega (arith, many, fewer))) (λ all. omega (arith, ap length all, fewer)) (c.in_ok-load.ensures.enough file to can) in
+    ⊎_elim (λ many. absurd (omega (arith, many, fewer))) (λ all. omega (arith, ap length all, fewer)) (c.in_ok-load.ensures.enough file to can) in
     (c.load.ensures.reads file to can, goes)

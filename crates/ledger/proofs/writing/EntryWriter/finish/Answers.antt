@@ -24,7 +24,7 @@ pub returns-clause-written : goal.returns-clause-written
 unfolding u64_bytes
 returns-clause-written g c = on_ok c.write_at-2.result _ _ c.write_at-2.ensures.written (λ second tells.
     two_writes ((g.D.Disk.state c.args.disk.now).seen c.args.ledger.now) ((g.D.Disk.state c.write_at.new.self).seen c.args.ledger.now) ((g.D.Disk.state c.write_at-2.new.self).seen c.args.ledger.now) c.to_le_bytes.result
-        c.args.self.at c.args.self.count c.self.inside.at c.self.inside.count (search rules) (search rules) (c.in_ok-write_at.ensures.written tells) c.to_le_bytes.ensures (second (c.write_at.ensures.shows tells).tells))
+    c.args.self.at c.args.self.count c.self.inside.at c.self.inside.count (search rules) (search rules) (c.in_ok-write_at.ensures.written tells) c.to_le_bytes.ensures (second (c.write_at.ensures.shows tells).tells))
 
 pub returns-clause-body : goal.returns-clause-body
 returns-clause-body g c = on_ok c.write_at-2.result _ _ (returns-clause-written g c) (λ written tells. body_written c.args.self _ _ (written tells))
