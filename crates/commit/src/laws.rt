@@ -1,7 +1,7 @@
 // What the steps mean together.
 ghost use Rattle.std.specs.Prelude.{◌≡◌, ◌≢◌, ℕ, List};
 ghost use Rattle.disk_model.specs.Disk.{Files};
-ghost use Rattle.disk_model.specs.Changes.{KeepsFront};
+ghost use Rattle.disk_changes.specs.Changes.{KeepsFront};
 ghost use Rattle.ledger_model.specs.Entries.{Entry, Output};
 ghost use Rattle.commit.specs.Recovered.{IsRestored, Recovers};
 ghost use Rattle.commit.specs.States.{Keeps, KeepsEither};
