@@ -1,0 +1,9 @@
+pub mod Classes
+pub mod Heads
+pub mod Agreeing
+pub mod Opening
+pub mod Laws
+pub mod Repeating
+pub mod Choosing
+pub mod Ending
+pub mod Checking

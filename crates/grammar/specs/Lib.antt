@@ -1,0 +1,7 @@
+pub mod Classes
+pub mod Trees
+pub mod Forms
+pub mod Rules
+pub mod Derivations
+pub mod Reading
+pub mod Whole
