@@ -1,0 +1,36 @@
+-- Trees, read at the lists of their parts.
+use Rattle.std.proofs.Common.{◌≡◌, ℕ, List, ◌∷◌, map, refl, ap, Vec, Option, rules}
+use Rattle.grammar.specs.Trees.{Tree, Trees, Whens, Queries}
+use Rattle.grammar.specs.Trees as model
+use Rattle.grammar.specs.Trees.{Tree as tree}
+use Rattle.grammar.specs.Trees.{Trees as trees}
+use Rattle.grammar.specs.Trees.{Whens as whens}
+use Rattle.grammar.specs.Trees.{Queries as queries}
+use Rattle.query_tree.specs.Views.{tree_of, trees_of, trees_in, when_of, whens_of, whens_in, whens_of_row, query_of, queries_in, queries_of_row}
+use Rattle.query_tree.specs.declared.expression.ExprList.{ExprList}
+use Rattle.query_tree.specs.declared.expression.WhenList.{WhenList, WhenList', out-WhenList, Row_of-When, end_of-When, more_of-When, items-the_row-When}
+use Rattle.query_tree.specs.declared.expression.Expr.TheViews as shown
+use Rattle.query_tree.specs.declared.expression.Expr.{Expr, Row_of-Expr, end_of-Expr, more_of-Expr, items-the_row-Expr, the_lemmas}
+use Rattle.query_tree.specs.declared.query.QueryList.{QueryList, QueryList', out-QueryList, Row_of-Query, end_of-Query, more_of-Query, items-the_row-Query}
+use Rattle.query_tree.specs.declared.query.Query.{the_lemmas as query_lemmas}
+
+pub trees_map : {m : _} (all : Row_of-Expr m) → trees_in all ≡ model.trees_of (map tree_of (items-the_row-Expr m all))
+trees_map end_of-Expr = refl
+trees_map (more_of-Expr e rest) = ap (λ (l : Trees). trees.more_trees (tree_of e) l) (trees_map rest)
+
+pub whens_map : {m : _} (all : Row_of-When m) → whens_of_row all ≡ model.whens_of (map when_of (items-the_row-When m all))
+whens_map end_of-When = refl
+whens_map (more_of-When test value rest) = ap (λ (l : Whens). whens.more_whens (tree_of test) (tree_of value) l) (whens_map rest)
+
+pub queries_map : {m : _} (all : Row_of-Query m) → queries_of_row all ≡ model.queries_of (map query_of (items-the_row-Query m all))
+queries_map end_of-Query = refl
+queries_map (more_of-Query q rest) = ap (λ (l : Queries). queries.more_queries (query_of q) l) (queries_map rest)
+
+pub call_tree : (at : ℕ) (name : List ℕ) (arguments : ExprList) → tree_of (shown.Call at name arguments) ≡ tree.Call at name (model.trees_of (trees_of arguments))
+call_tree at name arguments = search (rules, the_lemmas, trees_map)
+
+pub whens_list : (ws : WhenList) → whens_in ws ≡ model.whens_of (whens_of ws)
+whens_list (WhenList' shape all) = search (rules, the_lemmas, whens_map)
+
+pub queries_list : (qs : QueryList) → queries_in qs ≡ model.queries_of (map query_of (out-QueryList qs).items.items)
+queries_list (QueryList' shape all) = search (rules, query_lemmas, queries_map)
