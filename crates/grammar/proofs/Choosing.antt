@@ -9,7 +9,7 @@ use Rattle.grammar.specs.Forms.{Kind, Worth, Form, Tok, Seq, Alt, Many, Opt, Map
 use Rattle.grammar.specs.Rules.{a}
 use Rattle.grammar.specs.Derivations.{Derivation, tok, tokens, worth}
 use Rattle.grammar.specs.Reading.{starts, continues, heads_by, Outcome, read, failed, mapped, Reads, Exact}
-use Rattle.grammar.proofs.Classes.{at_each, same_class}
+use Rattle.grammar.proofs.Classes.{at_each, all_by, same_class}
 use Rattle.grammar.proofs.Heads.{implied, apart_of}
 use Rattle.grammar.proofs.Agreeing.{On, Off, Disjoint}
 use Rattle.grammar.proofs.Laws.{exact_seq, exact_seq_fails}
@@ -19,6 +19,13 @@ use Rattle.grammar.proofs.Repeating.{exact_nest, exact_deep, exact_off}
 -- each class of the first set is in the second
 abbrev pub Within : (Class → Bool) → (Class → Bool) → Type 0
 Within p q = for_all (λ k. not (p k) || q k) ≡ true
+
+self_or : (x : Bool) → (not x || x) ≡ true
+self_or true = refl
+self_or false = refl
+
+pub within_self : (p : Class → Bool) → Within p p
+within_self p = all_by (λ k. not (p k) || p k) (λ k. self_or (p k))
 
 pub on_heads : {a : Kind} (f : Form a) (p : Class → Bool) (all : List Token) → Within p (starts f) → heads_by p all ≡ true → On f all
 on_heads f p [] within is = false≢true is

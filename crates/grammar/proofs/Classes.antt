@@ -81,6 +81,35 @@ at_each p so c.Semicolon = let is = in_signs p so in and_left (p c.Semicolon) (p
 at_each p so c.Star = let is = in_signs p so in and_left (p c.Star) (p c.Compares) (and_right (p c.Semicolon) (p c.Star && p c.Compares) (and_right (p c.Comma) (p c.Semicolon && (p c.Star && p c.Compares)) (and_right (p c.Close) (p c.Comma && (p c.Semicolon && (p c.Star && p c.Compares))) is)))
 at_each p so c.Compares = let is = in_signs p so in and_right (p c.Star) (p c.Compares) (and_right (p c.Semicolon) (p c.Star && p c.Compares) (and_right (p c.Comma) (p c.Semicolon && (p c.Star && p c.Compares)) (and_right (p c.Close) (p c.Comma && (p c.Semicolon && (p c.Star && p c.Compares))) is)))
 
+both : (a b : Bool) → a ≡ true → b ≡ true → (a && b) ≡ true
+both true b one two = two
+both false b one two = one
+
+make_numbers : (p : Class → Bool) → ((k : Class) → p k ≡ true) → all_numbers p ≡ true
+make_numbers p is = both _ _ (is c.Unsigned) (both _ _ (is c.Signed) (is c.Real))
+
+make_words : (p : Class → Bool) → ((k : Class) → p k ≡ true) → all_words p ≡ true
+make_words p is = both _ _ (is c.Text) (both _ _ (is c.Name) (both _ _ (is c.Word) (both _ _ (is c.Count) (both _ _ (is c.PropCount) (is c.Timestamp)))))
+
+make_first_keywords : (p : Class → Bool) → ((k : Class) → p k ≡ true) → all_first_keywords p ≡ true
+make_first_keywords p is = both _ _ (is c.Select) (both _ _ (is c.Top) (both _ _ (is c.Distinct) (both _ _ (is c.All) (both _ _ (is c.Using) (both _ _ (is c.As) (both _ _ (is c.Into) (is c.From)))))))
+
+make_second_keywords : (p : Class → Bool) → ((k : Class) → p k ≡ true) → all_second_keywords p ≡ true
+make_second_keywords p is = both _ _ (is c.Where) (both _ _ (is c.Group) (both _ _ (is c.By) (both _ _ (is c.With) (both _ _ (is c.Rollup) (both _ _ (is c.Having) (both _ _ (is c.Order) (is c.Asc)))))))
+
+make_third_keywords : (p : Class → Bool) → ((k : Class) → p k ≡ true) → all_third_keywords p ≡ true
+make_third_keywords p is = both _ _ (is c.Desc) (both _ _ (is c.And) (both _ _ (is c.Or) (both _ _ (is c.Not) (both _ _ (is c.Like) (both _ _ (is c.Between) (both _ _ (is c.In) (is c.Is)))))))
+
+make_last_keywords : (p : Class → Bool) → ((k : Class) → p k ≡ true) → all_last_keywords p ≡ true
+make_last_keywords p is = both _ _ (is c.Null) (both _ _ (is c.Case) (both _ _ (is c.When) (both _ _ (is c.Then) (both _ _ (is c.Else) (both _ _ (is c.End) (is c.Open))))))
+
+make_signs : (p : Class → Bool) → ((k : Class) → p k ≡ true) → all_signs p ≡ true
+make_signs p is = both _ _ (is c.Close) (both _ _ (is c.Comma) (both _ _ (is c.Semicolon) (both _ _ (is c.Star) (is c.Compares))))
+
+-- and what holds of each holds of all
+pub all_by : (p : Class → Bool) → ((k : Class) → p k ≡ true) → for_all p ≡ true
+all_by p is = both _ _ (make_numbers p is) (both _ _ (make_words p is) (both _ _ (make_first_keywords p is) (both _ _ (make_second_keywords p is) (both _ _ (make_third_keywords p is) (both _ _ (make_last_keywords p is) (make_signs p is))))))
+
 -- a class with the property
 pub record One (p : Class → Bool) : Type 0 where
   pub class : Class
@@ -168,3 +197,50 @@ same_class c.Comma = refl
 same_class c.Semicolon = refl
 same_class c.Star = refl
 same_class c.Compares = refl
+
+pub some_class : (k : Class) → for_some (is_a k) ≡ true
+some_class c.Unsigned = refl
+some_class c.Signed = refl
+some_class c.Real = refl
+some_class c.Text = refl
+some_class c.Name = refl
+some_class c.Word = refl
+some_class c.Count = refl
+some_class c.PropCount = refl
+some_class c.Timestamp = refl
+some_class c.Select = refl
+some_class c.Top = refl
+some_class c.Distinct = refl
+some_class c.All = refl
+some_class c.Using = refl
+some_class c.As = refl
+some_class c.Into = refl
+some_class c.From = refl
+some_class c.Where = refl
+some_class c.Group = refl
+some_class c.By = refl
+some_class c.With = refl
+some_class c.Rollup = refl
+some_class c.Having = refl
+some_class c.Order = refl
+some_class c.Asc = refl
+some_class c.Desc = refl
+some_class c.And = refl
+some_class c.Or = refl
+some_class c.Not = refl
+some_class c.Like = refl
+some_class c.Between = refl
+some_class c.In = refl
+some_class c.Is = refl
+some_class c.Null = refl
+some_class c.Case = refl
+some_class c.When = refl
+some_class c.Then = refl
+some_class c.Else = refl
+some_class c.End = refl
+some_class c.Open = refl
+some_class c.Close = refl
+some_class c.Comma = refl
+some_class c.Semicolon = refl
+some_class c.Star = refl
+some_class c.Compares = refl

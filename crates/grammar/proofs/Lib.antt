@@ -7,3 +7,4 @@ pub mod Repeating
 pub mod Choosing
 pub mod Ending
 pub mod Checking
+pub mod Answering

@@ -1,6 +1,6 @@
 -- The forms of rules, and what each is worth.
 use Rattle.std.specs.Prelude.{ℕ, ℤ, Bool, true, false, ◌&&◌, ◌||◌, List, Option}
-use Rattle.grammar.specs.Classes.{Class}
+use Rattle.grammar.specs.Classes.{Class, for_some}
 use Rattle.grammar.specs.Trees.{Token, Placed, Tree, Item, Query, Condition, Arguments, Set', Range, Tail}
 
 pub data Kind : Type 0 where
@@ -92,3 +92,14 @@ is_nullable (Opt f) = true
 is_nullable (Map h f) = is_nullable f
 is_nullable (Nest p f) = false
 is_nullable (Ref n) = false
+
+-- whether each token of a form has a class
+abbrev pub can_be : {a : Kind} → Form a → Bool
+can_be (Tok p) = for_some p
+can_be (Seq f g) = can_be f && can_be g
+can_be (Alt f g) = can_be f
+can_be (Many f) = true
+can_be (Opt f) = true
+can_be (Map h f) = can_be f
+can_be (Nest p f) = for_some p && can_be f
+can_be (Ref n) = true
