@@ -1,3 +1,4 @@
 pub mod Words
 pub mod Stopping
 pub mod Taking
+pub mod Steps

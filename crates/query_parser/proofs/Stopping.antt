@@ -65,3 +65,13 @@ pub given_by : {a b : Kind} {Y : Type 0} (m n : ℕ) (f : Form a) (g : Form b) (
     → Gives m f some rest view result → Gives n g all rest show result
 given_by m n f g some all rest view show (Ok y) reads stops one = record { is = reads y one.is }
 given_by m n f g some all rest view show (Err e) reads stops one = record { is = stops e one.is }
+
+-- a form with the same worth and the same rest
+pub given_same : {b : Kind} {Y : Type 0} {m n : ℕ} {f g : Form b} {all rest : List RealToken} {view : Y → Worth b} {result : Result Y Stop}
+    → ((v : Worth b) → Reads m f (map seen all) v (map seen rest) → Reads n g (map seen all) v (map seen rest)) → ((e : Stop) → Stopped m f (map seen all) e → Stopped n g (map seen all) e)
+    → Gives m f all rest view result → Gives n g all rest view result
+given_same {m = m} {n = n} {f = f} {g = g} {all = all} {rest = rest} {view = view} {result = result} reads stops one = given_by m n f g all all rest view view result (λ y x. reads (view y) x) stops one
+
+-- what is seen as a worth was read with it
+pub given_as : {b : Kind} {Y : Type 0} {n : ℕ} {f : Form b} {all rest : List RealToken} {view : Y → Worth b} {y : Y} {v : Worth b} → view y ≡ v → Reads n f (map seen all) v (map seen rest) → Gives n f all rest view (Ok y)
+given_as {n = n} {f = f} {all = all} {rest = rest} same one = record { is = subst (λ x. Reads n f (map seen all) x (map seen rest)) (sym same) one }

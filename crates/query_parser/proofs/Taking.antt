@@ -26,11 +26,13 @@ take_reads n p all rest t split is = subst (λ (x : List RealToken). Reads n (To
 
 -- another token stands there, or none
 pub take_stops : {a : Kind} (n : ℕ) (p : Class → Bool) (f : Form a) (all rest : List RealToken) (t : RealToken) → can_be (Nest p f) ≡ true → all ≡ t ∷ rest → p (seen t).class ≡ false → Stopped n (Nest p f) (map seen all) (stop.Syntax (length all))
-take_stops n p f all rest t some split is = subst (λ (x : List RealToken). Stopped n (Nest p f) (map seen x) (stop.Syntax (length x))) (sym split) (record { is = record {
-  rest = map seen (t ∷ rest);
-  count_is = length-map (t ∷ rest) seen;
-  exact = exact_off (witness (Nest p f) some) (refl , is);
-} })
+take_stops n p f all rest t some split is = subst (λ (x : List RealToken). Stopped n (Nest p f) (map seen x) (stop.Syntax (length x))) (sym split) (record {
+  is = record {
+    rest = map seen (t ∷ rest);
+    count_is = length-map (t ∷ rest) seen;
+    exact = exact_off (witness (Nest p f) some) (refl, is);
+  };
+})
 
 not-suc : (n : ℕ) → suc n ≡ 0 → ⊥
 not-suc n is = omega arith
@@ -40,36 +42,44 @@ no_length [] is = refl
 no_length (t ∷ ts) is = absurd (not-suc (length ts) is)
 
 pub take_ends : {a : Kind} (n : ℕ) (p : Class → Bool) (f : Form a) (all : List RealToken) → can_be (Nest p f) ≡ true → length all ≡ 0 → Stopped n (Nest p f) (map seen all) (stop.Syntax 0)
-take_ends n p f all some is = subst (λ (x : List RealToken). Stopped n (Nest p f) (map seen x) (stop.Syntax 0)) (sym (no_length all is)) (record { is = record {
-  rest = [];
-  count_is = refl;
-  exact = exact_off (witness (Nest p f) some) refl;
-} })
+take_ends n p f all some is = subst (λ (x : List RealToken). Stopped n (Nest p f) (map seen x) (stop.Syntax 0)) (sym (no_length all is)) (record {
+  is = record {
+    rest = [];
+    count_is = refl;
+    exact = exact_off (witness (Nest p f) some) refl;
+  };
+})
 
 pub tok_stops : (n : ℕ) (p : Class → Bool) (all rest : List RealToken) (t : RealToken) → can_be (Tok p) ≡ true → all ≡ t ∷ rest → p (seen t).class ≡ false → Stopped n (Tok p) (map seen all) (stop.Syntax (length all))
-tok_stops n p all rest t some split is = subst (λ (x : List RealToken). Stopped n (Tok p) (map seen x) (stop.Syntax (length x))) (sym split) (record { is = record {
-  rest = map seen (t ∷ rest);
-  count_is = length-map (t ∷ rest) seen;
-  exact = exact_off (witness (Tok p) some) (refl , is);
-} })
+tok_stops n p all rest t some split is = subst (λ (x : List RealToken). Stopped n (Tok p) (map seen x) (stop.Syntax (length x))) (sym split) (record {
+  is = record {
+    rest = map seen (t ∷ rest);
+    count_is = length-map (t ∷ rest) seen;
+    exact = exact_off (witness (Tok p) some) (refl, is);
+  };
+})
 
 pub tok_ends : (n : ℕ) (p : Class → Bool) (all : List RealToken) → can_be (Tok p) ≡ true → length all ≡ 0 → Stopped n (Tok p) (map seen all) (stop.Syntax 0)
-tok_ends n p all some is = subst (λ (x : List RealToken). Stopped n (Tok p) (map seen x) (stop.Syntax 0)) (sym (no_length all is)) (record { is = record {
-  rest = [];
-  count_is = refl;
-  exact = exact_off (witness (Tok p) some) refl;
-} })
+tok_ends n p all some is = subst (λ (x : List RealToken). Stopped n (Tok p) (map seen x) (stop.Syntax 0)) (sym (no_length all is)) (record {
+  is = record {
+    rest = [];
+    count_is = refl;
+    exact = exact_off (witness (Tok p) some) refl;
+  };
+})
 
 pub heads_is : (p : Class → Bool) (all rest : List RealToken) (t : RealToken) (b : Bool) → all ≡ t ∷ rest → p (seen t).class ≡ b → heads_by p (map seen all) ≡ b
 heads_is p all rest t b split is = subst (λ (x : List RealToken). heads_by p (map seen x) ≡ b) (sym split) is
 
 -- one level too deep at the opening token
 pub open_deep : {a : Kind} (n : ℕ) (p : Class → Bool) (f : Form a) (all rest : List RealToken) (t : RealToken) → can_be f ≡ true → n ≡ 0 → all ≡ t ∷ rest → p (seen t).class ≡ true → Stopped n (Nest p f) (map seen all) (stop.TooDeep (length all))
-open_deep n p f all rest t some none split is = record { is = record {
-  rest = map seen all;
-  count_is = length-map all seen;
-  exact = nest_deep (witness f some) none (take_reads n p all rest t split is);
-} }
+open_deep n p f all rest t some none split is = record {
+  is = record {
+    rest = map seen all;
+    count_is = length-map all seen;
+    exact = nest_deep (witness f some) none (take_reads n p all rest t split is);
+  };
+}
 
 pub any_sort : (sort : Sort) → can_be (Tok (in_sort sort)) ≡ true
 any_sort s.Word = refl

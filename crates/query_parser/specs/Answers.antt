@@ -1,5 +1,5 @@
 -- When what a reader returned is right.
-use Rattle.std.specs.Prelude.{◌≡◌, ℕ, ◌<◌, Bool, true, false, List, length, map, Result, Ok, Err}
+use Rattle.std.specs.Prelude.{◌≡◌, ℕ, ◌<◌, Bool, true, false, List, length, map, Option, Some, None, Result, Ok, Err}
 use Rattle.grammar.specs.declared.Class.{Class}
 use Rattle.grammar.specs.Rules.{a}
 use Rattle.grammar.specs.Trees as model
@@ -7,6 +7,10 @@ use Rattle.grammar.specs.Forms.{Kind, Worth, Form}
 use Rattle.grammar.specs.Reading.{Exact, Reads, failed}
 use Rattle.query_lexer.specs.declared.token.Token.{Token}
 use Rattle.query_tree.specs.Tokens.{seen}
+use Rattle.query_tree.specs.Views.{trees_of, placed_of}
+use Rattle.query_tree.specs.declared.expression.ExprList.{ExprList}
+use Rattle.query_tree.specs.declared.placed.Placed.{Placed}
+use Rattle.grammar.specs.Trees.{Arguments as args}
 use Rattle.query_parser.specs.declared.fault.Stop.{Stop}
 use Rattle.query_parser.specs.declared.fault.Stop.TheVariants as stop
 
@@ -36,3 +40,11 @@ pub record Gives {a : Kind} {Y : Type 0} (left : ℕ) (f : Form a) (all rest : L
 pub record Opened (left : ℕ) (class : Class) (all rest : List Token) (t : Token) : Type 0 where
   pub reads : Reads left (a class) (map seen all) (seen t) (map seen rest)
   pub some : 0 < left
+
+-- the arguments of COUNT: none told stands for all rows
+abbrev pub arguments_of : Option ExprList → model.Arguments
+arguments_of None = args.all_rows
+arguments_of (Some es) = args.listed (trees_of es)
+
+abbrev pub placed_pair : Placed × Placed → model.Placed × model.Placed
+placed_pair p = (placed_of p.0, placed_of p.1)

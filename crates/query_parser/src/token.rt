@@ -160,7 +160,11 @@ fn word_class(word: &str) -> Class
 fn integer_class(value: i64, signed: bool) -> Class
     ensures { result ≡ class_of_integer signed value }
 {
-    if signed || value < 0 { Class::Signed } else { Class::Unsigned }
+    if signed || value < 0 {
+        Class::Signed
+    } else {
+        Class::Unsigned
+    }
 }
 
 /// The class of a token.
