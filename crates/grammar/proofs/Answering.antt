@@ -40,6 +40,14 @@ reads_left {g = g} {all = all} p apart filled is one = (exact_left (off_other g 
 pub reads_right : {a : Kind} {f g : Form a} {n : ℕ} {all rest : List Token} {v : Worth a} (p : Class → Bool) → Within (starts f) p → is_nullable f ≡ false → heads_by p all ≡ false → Reads n g all v rest → Reads n (Alt f g) all v rest
 reads_right {f = f} {all = all} p within filled is one = (exact_right (off_heads f p all within filled is) (exact_of one)).holds
 
+-- the first of two, where no token of the second stands there
+pub reads_alt_left : {a : Kind} {f g : Form a} {n : ℕ} {all rest : List Token} {v : Worth a} (p : Class → Bool) → Within (starts g) p → is_nullable g ≡ false → heads_by p all ≡ false → Reads n f all v rest → Reads n (Alt f g) all v rest
+reads_alt_left {g = g} {all = all} p within filled is one = (exact_left (off_heads g p all within filled is) (exact_of one)).holds
+
+-- the second of two, where a token stands there that begins it and not the first
+pub reads_alt_right : {a : Kind} {f g : Form a} {n : ℕ} {all rest : List Token} {v : Worth a} (p : Class → Bool) → Disjoint (starts f) p → is_nullable f ≡ false → heads_by p all ≡ true → Reads n g all v rest → Reads n (Alt f g) all v rest
+reads_alt_right {f = f} {all = all} p apart filled is one = (exact_right (off_other f p all apart filled is) (exact_of one)).holds
+
 pub reads_absent : {a : Kind} {f : Form a} {n : ℕ} {all : List Token} (p : Class → Bool) → Within (starts f) p → is_nullable f ≡ false → heads_by p all ≡ false → Reads n (Opt f) all None all
 reads_absent {f = f} {all = all} p within filled is = (exact_absent (off_heads f p all within filled is)).holds
 
@@ -86,6 +94,14 @@ so_far_more {n = n} {f = f} {g = g} {all = all} {mid = mid} {j = j} {v = v} p wi
 pub so_far_end : {b d : Kind} {n : ℕ} {f : Form d} {g : Form b} {all mid : List Token} {j : List (Worth b) → Worth d} (p : Class → Bool) → Within (starts g) p → is_nullable g ≡ false
     → heads_by p mid ≡ false → SoFar n f g all mid j → Reads n f all (j []) mid
 so_far_end {g = g} {mid = mid} p within filled is so_far = (so_far.goes (read [] mid) (exact_none (off_heads g p mid within filled is))).holds
+
+pub so_far_map : {b d e : Kind} {h : Worth d → Worth e} {n : ℕ} {f : Form d} {g : Form b} {all mid : List Token} {j : List (Worth b) → Worth d} → SoFar n f g all mid j → SoFar n (Map {a = d} {b = e} h f) g all mid (λ vs. h (j vs))
+so_far_map {d = d} {e = e} {h = h} {n = n} {f = f} {all = all} {j = j} one = record {
+  goes = λ o two. subst (λ x. Exact n (Map {a = d} {b = e} h f) all x) (mapped_twice h j (λ vs. h (j vs)) (λ vs. refl) o) (exact_map h (one.goes o two));
+}
+
+pub so_far_ref : {b : Kind} {m : Rule} {n : ℕ} {g : Form b} {all mid : List Token} {j : List (Worth b) → Worth (kind m)} → SoFar n (rule m) g all mid j → SoFar n (Ref m) g all mid j
+so_far_ref {m = m} one = record { goes = λ o two. exact_ref {m = m} (one.goes o two) }
 
 fewer : {b : Kind} (f : Form b) (xs rest all : List Token) → Heads f xs → is_nullable f ≡ false → all ≡ xs ++ rest → length rest < length all
 fewer f [] rest all h filled split = absurd (false≢true (sym filled ∙ h))

@@ -112,8 +112,11 @@ usings = behind (a c.Using) (parted (a c.Comma) using)
 abbrev pub into : Form k.placed
 into = behind (a c.Into) name
 
+abbrev pub names : Form (k.list k.placed)
+names = parted (a c.Comma) name
+
 abbrev pub from : Form (k.list k.placed)
-from = behind (a c.From) (parted (a c.Comma) name)
+from = behind (a c.From) names
 
 abbrev pub where' : Bool → Form k.condition
 where' asks = behind (a c.Where) (cond asks)

@@ -2,3 +2,4 @@ pub mod Words
 pub mod Stopping
 pub mod Taking
 pub mod Steps
+pub mod Conditioning

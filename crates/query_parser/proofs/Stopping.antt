@@ -41,6 +41,12 @@ stop_left {g = g} {all = all} p apart filled is one = stop_by (λ deep rest x. e
 pub stop_right : {a : Kind} {f g : Form a} {n : ℕ} {all : List Token} {e : Stop} (p : Class → Bool) → Within (starts f) p → is_nullable f ≡ false → heads_by p all ≡ false → Stopped n g all e → Stopped n (Alt f g) all e
 stop_right {f = f} {all = all} p within filled is one = stop_by (λ deep rest x. exact_right (off_heads f p all within filled is) x) one
 
+pub stop_alt_left : {a : Kind} {f g : Form a} {n : ℕ} {all : List Token} {e : Stop} (p : Class → Bool) → Within (starts g) p → is_nullable g ≡ false → heads_by p all ≡ false → Stopped n f all e → Stopped n (Alt f g) all e
+stop_alt_left {g = g} {all = all} p within filled is one = stop_by (λ deep rest x. exact_left (off_heads g p all within filled is) x) one
+
+pub stop_alt_right : {a : Kind} {f g : Form a} {n : ℕ} {all : List Token} {e : Stop} (p : Class → Bool) → Disjoint (starts f) p → is_nullable f ≡ false → heads_by p all ≡ true → Stopped n g all e → Stopped n (Alt f g) all e
+stop_alt_right {f = f} {all = all} p apart filled is one = stop_by (λ deep rest x. exact_right (off_other f p all apart filled is) x) one
+
 pub stop_present : {a : Kind} {f : Form a} {n : ℕ} {all : List Token} {e : Stop} (p : Class → Bool) → Within p (starts f) → heads_by p all ≡ true → Stopped n f all e → Stopped n (Opt f) all e
 stop_present {f = f} {all = all} p within is one = stop_by (λ deep rest x. exact_present (on_heads f p all within is) x) one
 

@@ -5,9 +5,13 @@
 //! reader of a rule has one contract (`Gives`), which says all that the grammar says of its answer.
 #![tactic(auto)]
 
+mod conditions;
 mod cursor;
 mod expressions;
 mod fault;
+mod subquery;
+mod tail;
 mod token;
+mod values;
 
 ghost use Rattle.std.specs.Prelude.{◌≡◌};
