@@ -139,7 +139,7 @@ some_conj : (asks : Bool) → Derivation _ (Ref (r.conj_rule asks))
 some_conj asks = ref {n = r.conj_rule asks} (map (seq (some_neg asks) none))
 
 some_rule : (n : Rule) → Derivation (kind n) (Ref n)
-some_rule r.query_rule = ref {n = r.query_rule} (map (seq (map (seq (any c.Select) (seq absent (seq (map absent) (left (map (any c.Star))))))) (seq (seq absent (seq absent (seq some_from absent))) (seq absent (seq absent (map (seq absent absent)))))))
+some_rule r.query_rule = ref {n = r.query_rule} (map (seq (map (seq (any c.Select) (seq absent (seq (map absent) (left (map (any c.Star))))))) (seq (seq absent (seq absent (seq some_from absent))) (seq absent (seq absent (map (seq absent (map absent))))))))
 some_rule r.item_rule = ref {n = r.item_rule} (map (seq some_expr absent))
 some_rule r.using_rule = ref {n = r.using_rule} (map (seq some_expr (map (seq (any c.As) (map some_word)))))
 some_rule (r.cond_rule asks) = ref {n = r.cond_rule asks} (map (seq (some_conj asks) none))

@@ -88,6 +88,9 @@ neg asks = Ref (r.neg_rule asks)
 abbrev pub test : Bool → Form k.condition
 test asks = Ref (r.test_rule asks)
 
+abbrev pub query : Form k.query
+query = Ref r.query_rule
+
 abbrev pub exprs : Form (k.list k.tree)
 exprs = parted (a c.Comma) expr
 
@@ -138,7 +141,7 @@ abbrev pub order : Form (k.pair (k.list k.tree) k.truth)
 order = behind (a c.Order) (behind (a c.By) (Seq exprs direction))
 
 abbrev pub ended : Form (k.pair (k.maybe (k.pair (k.list k.tree) k.truth)) (k.pair (k.maybe k.condition) (k.maybe (k.pair (k.list k.tree) k.truth))))
-ended = Seq (Opt keys) (Seq (Opt having) (before (Opt order) (Opt (a c.Semicolon))))
+ended = Seq (Opt keys) (Seq (Opt having) (before (Opt order) (there (a c.Semicolon))))
 
 -- tests: expr cmp expr | expr IS [NOT] NULL | expr [NOT] LIKE string | expr [NOT] BETWEEN expr AND expr | expr [NOT] IN ( set )
 abbrev pub comparison : Form k.tail

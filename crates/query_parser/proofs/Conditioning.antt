@@ -1,8 +1,18 @@
 -- Conditions and the subqueries read in them, joined.
-use Rattle.std.proofs.Common.{◌≡◌, ℕ, zero, suc, ◌+◌, Bool, true, false, List, [], ◌∷◌, ◌++◌, length, drop, map, Option, Some, None, option_map, refl, sym, ◌∙◌, ap, ap₂, subst, arith, append_assoc, append-nil, length-append}
+use Rattle.std.proofs.Common.{◌≡◌, ℕ, zero, suc, ◌+◌, Bool, true, false, List, [], ◌∷◌, ◌++◌, length, drop, map, Option, Some, None, option_map, Result, Ok, Err, refl, sym, ◌∙◌, ap, ap₂, subst, arith, append_assoc, append-nil, length-append}
 use Rattle.std.proofs.lemmas.Bool.{false≢true}
 use Rattle.std.proofs.lemmas.List.{map-append}
 use Rattle.grammar.specs.Trees as model
+use Rattle.grammar.specs.Forms.{Kind, Worth, Form, Ref}
+use Rattle.grammar.specs.Forms.{Rule as rule}
+use Rattle.grammar.specs.declared.Class.TheVariants as class
+use Rattle.grammar.specs.Rules.{a}
+use Rattle.grammar.proofs.Agreeing.{Disjoint}
+use Rattle.grammar.specs.Reading.{Reads, starts, continues}
+use Rattle.query_lexer.specs.declared.token.Token.{Token}
+use Rattle.query_tree.specs.Tokens.{seen}
+use Rattle.query_parser.specs.Answers.{Stopped}
+use Rattle.query_parser.specs.declared.fault.Stop.{Stop}
 use Rattle.grammar.specs.Trees.{Test as test}
 use Rattle.query_tree.specs.declared.condition.Cond.{Cond}
 use Rattle.query_tree.specs.declared.query.Query.{Query}
@@ -13,7 +23,7 @@ use Rattle.query_parser.specs.declared.tail.Range.{Range}
 use Rattle.query_parser.specs.declared.tail.Range.TheVariants as r
 use Rattle.query_parser.specs.declared.tail.Tail.{Tail}
 use Rattle.query_parser.specs.declared.tail.Tail.TheVariants as t
-use Rattle.query_parser.specs.Conditions.{asked_between, condition_of, conditions_of, count_from, Grown, set_of, range_of, tail_of, numbers_in_values, numbers_in_range, numbers_in_tail, tested, tested_range, tested_in, first_asked}
+use Rattle.query_parser.specs.Conditions.{Asks, asked_between, condition_with, conditions_with, count_from, Grown, set_of, range_of, tail_of, numbers_in_values, numbers_in_range, numbers_in_tail, tested, tested_range, tested_in, first_asked}
 
 drop_front : {A : Type 0} (xs ys : List A) → drop (length xs) (xs ++ ys) ≡ ys
 drop_front [] ys = refl
@@ -58,11 +68,11 @@ between_both {old = old} {mid = mid} {new = new} one two =
     ap₂ (λ (a b : List model.Query). a ++ b) (between_is old mid one.added one.grown) (between_is mid new two.added two.grown) ∙ sym (map-append query_of one.added two.added) ∙ sym (between_is old new (one.added ++ two.added) (all_grown one two))
 
 pub and_made : {asks : Bool} {old mid new : List Query} {ms ns : List ℕ} (a b c : Cond) → Grown asks old mid ms → Grown asks mid new ns → test_of c ≡ test.And (model.test_place (test_of a)) (test_of a) (test_of b)
-    → model.and_both (condition_of old mid a) (condition_of mid new b) ≡ condition_of old new c
+    → model.and_both (condition_with a (asked_between old mid)) (condition_with b (asked_between mid new)) ≡ condition_with c (asked_between old new)
 and_made a b c one two is = ap₂ (λ (x : model.Test) (y : List model.Query). record { test = x; asked = y }) (sym is) (between_both one two)
 
 pub or_made : {asks : Bool} {old mid new : List Query} {ms ns : List ℕ} (a b c : Cond) → Grown asks old mid ms → Grown asks mid new ns → test_of c ≡ test.Or (model.test_place (test_of a)) (test_of a) (test_of b)
-    → model.or_both (condition_of old mid a) (condition_of mid new b) ≡ condition_of old new c
+    → model.or_both (condition_with a (asked_between old mid)) (condition_with b (asked_between mid new)) ≡ condition_with c (asked_between old new)
 or_made a b c one two is = ap₂ (λ (x : model.Test) (y : List model.Query). record { test = x; asked = y }) (sym is) (between_both one two)
 
 -- no numbers, no subqueries; one number, one subquery
@@ -138,6 +148,46 @@ between_one old new q is = between_is old new (q ∷ []) is
 pub plain_same : {old new : List Query} {ns : List ℕ} → Grown false old new ns → new ≡ old
 plain_same {old = old} one = one.grown ∙ ap (λ (l : List Query). old ++ l) (one.plain refl) ∙ append-nil old
 
-pub tested_all : (old new : List Query) (o : Option Cond) → model.tested_of (conditions_of old new o) ≡ option_map test_of o
+pub tested_all : (old new : List Query) (o : Option Cond) → model.tested_of (conditions_with o (asked_between old new)) ≡ option_map test_of o
 tested_all old new None = refl
 tested_all old new (Some c) = refl
+
+pub asks_err : {b : Kind} {Y : Type 0} {asks : Bool} {n : ℕ} {f : Form b} {all rest : List Token} {old new : List Query} {view : Y → List model.Query → Worth b} {numbers : Y → List ℕ} {e : Stop}
+    → Stopped n f (map seen all) e → Asks asks n f all rest old new view numbers (Err e)
+asks_err one = record { is = one }
+
+pub asks_ok : {b : Kind} {Y : Type 0} {asks : Bool} {n : ℕ} {f : Form b} {all rest : List Token} {old new : List Query} {view : Y → List model.Query → Worth b} {numbers : Y → List ℕ} {y : Y}
+    → Reads n f (map seen all) (view y (asked_between old new)) (map seen rest) → Grown asks old new (numbers y) → Asks asks n f all rest old new view numbers (Ok y)
+asks_ok one two = record { is = (one , two) }
+
+pub asks_as : {b : Kind} {Y : Type 0} {asks : Bool} {n : ℕ} {f : Form b} {all rest : List Token} {old new : List Query} {view : Y → List model.Query → Worth b} {numbers : Y → List ℕ} {y : Y} {v : Worth b}
+    → view y (asked_between old new) ≡ v → Reads n f (map seen all) v (map seen rest) → Grown asks old new (numbers y) → Asks asks n f all rest old new view numbers (Ok y)
+asks_as {n = n} {f = f} {all = all} {rest = rest} same one two = record { is = (subst (λ x. Reads n f (map seen all) x (map seen rest)) (sym same) one , two) }
+
+asks_by : {b : Kind} {Y : Type 0} (asks : Bool) (n : ℕ) (f g : Form b) (all rest : List Token) (old new : List Query) (view : Y → List model.Query → Worth b) (numbers : Y → List ℕ) (result : Result Y Stop)
+    → ((v : Worth b) → Reads n f (map seen all) v (map seen rest) → Reads n g (map seen all) v (map seen rest)) → ((e : Stop) → Stopped n f (map seen all) e → Stopped n g (map seen all) e)
+    → Asks asks n f all rest old new view numbers result → Asks asks n g all rest old new view numbers result
+asks_by asks n f g all rest old new view numbers (Ok y) reads stops one = record { is = (reads _ one.is.0 , one.is.1) }
+asks_by asks n f g all rest old new view numbers (Err e) reads stops one = record { is = stops e one.is }
+
+pub asks_same : {b : Kind} {Y : Type 0} {asks : Bool} {n : ℕ} {f g : Form b} {all rest : List Token} {old new : List Query} {view : Y → List model.Query → Worth b} {numbers : Y → List ℕ} {result : Result Y Stop}
+    → ((v : Worth b) → Reads n f (map seen all) v (map seen rest) → Reads n g (map seen all) v (map seen rest)) → ((e : Stop) → Stopped n f (map seen all) e → Stopped n g (map seen all) e)
+    → Asks asks n f all rest old new view numbers result → Asks asks n g all rest old new view numbers result
+asks_same {asks = asks} {n = n} {f = f} {g = g} {all = all} {rest = rest} {old = old} {new = new} {view = view} {numbers = numbers} {result = result} reads stops one = asks_by asks n f g all rest old new view numbers result reads stops one
+
+-- the rule of a set, by whether it may ask
+pub asks_set : {Y : Type 0} {asks : Bool} {n : ℕ} {all rest : List Token} {old new : List Query} {view : Y → List model.Query → model.Set'} {numbers : Y → List ℕ} {result : Result Y Stop} (b : Bool) → asks ≡ b
+    → Asks b n (Ref (rule.set_rule b)) all rest old new view numbers result → Asks asks n (Ref (rule.set_rule asks)) all rest old new view numbers result
+asks_set {n = n} {all = all} {rest = rest} {old = old} {new = new} {view = view} {numbers = numbers} {result = result} b is one = subst (λ (x : Bool). Asks x n (Ref (rule.set_rule x)) all rest old new view numbers result) (sym is) one
+
+-- what may not ask has no numbers
+pub plain_numbers : {old new : List Query} {ns : List ℕ} → Grown false old new ns → ns ≡ []
+plain_numbers {old = old} one = one.numbered ∙ ap (λ (l : List Query). count_from (length old) (length l)) (one.plain refl)
+
+-- what goes on with a set doesn't close it
+pub set_apart : (asks : Bool) → Disjoint (continues (Ref (rule.set_rule asks))) (starts (a class.Close))
+set_apart true = refl
+set_apart false = refl
+
+pub tested_by : {asks : Bool} {old new : List Query} {ns : List ℕ} (o : Option Cond) → Grown asks old new ns → model.tested_of (conditions_with o (asked_between old new)) ≡ option_map test_of o
+tested_by {old = old} {new = new} o one = tested_all old new o

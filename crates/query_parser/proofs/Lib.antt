@@ -3,3 +3,5 @@ pub mod Stopping
 pub mod Taking
 pub mod Steps
 pub mod Conditioning
+pub mod Querying
+pub mod Finishing

@@ -1,6 +1,12 @@
 -- Conditions with the subqueries that were read in them.
-use Rattle.std.specs.Prelude.{◌≡◌, ℕ, zero, suc, ◌+◌, Bool, true, false, List, [], ◌∷◌, ◌++◌, length, drop, map, Option, Some, None, option_map}
+use Rattle.std.specs.Prelude.{◌≡◌, ℕ, zero, suc, ◌+◌, Bool, true, false, List, [], ◌∷◌, ◌++◌, length, drop, map, Option, Some, None, option_map, Result, Ok, Err}
 use Rattle.grammar.specs.Trees as model
+use Rattle.grammar.specs.Forms.{Kind, Worth, Form}
+use Rattle.grammar.specs.Reading.{Reads}
+use Rattle.query_lexer.specs.declared.token.Token.{Token}
+use Rattle.query_tree.specs.Tokens.{seen}
+use Rattle.query_parser.specs.Answers.{Stopped}
+use Rattle.query_parser.specs.declared.fault.Stop.{Stop}
 use Rattle.grammar.specs.Trees.{Test as test}
 use Rattle.grammar.specs.Trees.{Set' as set}
 use Rattle.grammar.specs.Trees.{Range as range}
@@ -21,12 +27,12 @@ use Rattle.query_parser.specs.declared.tail.Tail.TheVariants as t
 abbrev pub asked_between : List Query → List Query → List model.Query
 asked_between old new = map query_of (drop (length old) new)
 
-abbrev pub condition_of : List Query → List Query → Cond → model.Condition
-condition_of old new c = record { test = test_of c; asked = asked_between old new }
+abbrev pub condition_with : Cond → List model.Query → model.Condition
+condition_with c qs = record { test = test_of c; asked = qs }
 
-abbrev pub conditions_of : List Query → List Query → Option Cond → Option model.Condition
-conditions_of old new None = None
-conditions_of old new (Some c) = Some (condition_of old new c)
+abbrev pub conditions_with : Option Cond → List model.Query → Option model.Condition
+conditions_with None qs = None
+conditions_with (Some c) qs = Some (condition_with c qs)
 
 -- so many numbers from one on
 abbrev pub count_from : ℕ → ℕ → List ℕ
@@ -104,3 +110,11 @@ subquery_with distinct value names condition = query.query (record {
   order = [];
   descending = false;
 }) queries.no_queries
+
+abbrev pub IsAsked : {a : Kind} {Y : Type 0} → Bool → ℕ → Form a → List Token → List Token → List Query → List Query → (Y → List model.Query → Worth a) → (Y → List ℕ) → Result Y Stop → Type 0
+IsAsked asks left f all rest old new view numbers (Ok y) = Reads left f (map seen all) (view y (asked_between old new)) (map seen rest) × Grown asks old new (numbers y)
+IsAsked asks left f all rest old new view numbers (Err e) = Stopped left f (map seen all) e
+
+-- what was read, as view sees it with the subqueries that came, is exactly what the form gives, and these have the numbers; or the fault is
+pub record Asks {a : Kind} {Y : Type 0} (asks : Bool) (left : ℕ) (f : Form a) (all rest : List Token) (old new : List Query) (view : Y → List model.Query → Worth a) (numbers : Y → List ℕ) (result : Result Y Stop) : Type 0 where
+  pub is : IsAsked asks left f all rest old new view numbers result

@@ -1,14 +1,14 @@
 // Conditions, and the subqueries in them.
-ghost use Rattle.std.specs.Prelude.{◌≡◌, IfOk, true};
+ghost use Rattle.std.specs.Prelude.{◌≡◌, [], true, false, length};
 ghost use Rattle.grammar.specs.Forms.{Ref, Opt};
 ghost use Rattle.grammar.specs.Forms.{Rule as rule};
 ghost use Rattle.grammar.specs.Rules.{cond, conj, neg, test, within, where'};
 ghost use Rattle.query_tree.specs.Views.{query_of, numbers_in, numbers_of};
-ghost use Rattle.query_parser.specs.Answers.{Gives};
-ghost use Rattle.query_parser.specs.Conditions.{condition_of, conditions_of, asked_between, tail_of, range_of, set_of, Grown, numbers_in_tail, numbers_in_range, numbers_in_values};
+ghost use Rattle.query_parser.specs.Conditions.{Asks, condition_with, conditions_with, tail_of, range_of, set_of, numbers_in_tail, numbers_in_range, numbers_in_values};
 
 use crate::cursor::Cursor;
 use crate::fault::Stop;
+use crate::joining::{join_and, join_or};
 use crate::subquery::subquery_of;
 use crate::tail::{Range, Tail, Values};
 use grammar::Class;
@@ -22,17 +22,23 @@ pub struct Parser<'a> {
 }
 
 impl<'a> Parser<'a> {
+    /// How many subqueries were read.
+    fn asked(&self) -> usize
+        ensures { result ≡ length self.now.subqueries.items }
+    {
+        self.subqueries.len()
+    }
+
     /// A condition; `asks` tells whether a subquery may stand in it.
     #[cycle(conditions)]
     pub fn cond(&mut self, asks: bool, left: u32) -> Result<Cond, Stop>
-        ensures exact { Gives left (cond asks) self.old.cursor.rest.now self.new.cursor.rest.now (condition_of self.old.subqueries.items self.new.subqueries.items) result }
-        ensures grown { IfOk result (λ c. Grown asks self.old.subqueries.items self.new.subqueries.items (numbers_in c)) }
+        ensures { Asks asks left (cond asks) self.old.cursor.rest.now self.new.cursor.rest.now self.old.subqueries.items self.new.subqueries.items condition_with numbers_in result }
     {
         let mut test = self.conj(asks, left)?;
         while self.cursor.next_is(Class::Or) {
             let _or = self.cursor.take(Class::Or)?;
             let right = self.conj(asks, left)?;
-            test = Cond::or(self.cursor.alloc, test, right)?;
+            join_or(self.cursor.alloc, &mut test, right)?;
         }
         Ok(test)
     }
@@ -40,14 +46,13 @@ impl<'a> Parser<'a> {
     /// Conditions joined by AND.
     #[cycle(conditions)]
     fn conj(&mut self, asks: bool, left: u32) -> Result<Cond, Stop>
-        ensures exact { Gives left (conj asks) self.old.cursor.rest.now self.new.cursor.rest.now (condition_of self.old.subqueries.items self.new.subqueries.items) result }
-        ensures grown { IfOk result (λ c. Grown asks self.old.subqueries.items self.new.subqueries.items (numbers_in c)) }
+        ensures { Asks asks left (conj asks) self.old.cursor.rest.now self.new.cursor.rest.now self.old.subqueries.items self.new.subqueries.items condition_with numbers_in result }
     {
         let mut test = self.neg(asks, left)?;
         while self.cursor.next_is(Class::And) {
             let _and = self.cursor.take(Class::And)?;
             let right = self.neg(asks, left)?;
-            test = Cond::and(self.cursor.alloc, test, right)?;
+            join_and(self.cursor.alloc, &mut test, right)?;
         }
         Ok(test)
     }
@@ -55,8 +60,7 @@ impl<'a> Parser<'a> {
     /// NOT, a condition in parentheses, or a test.
     #[cycle(conditions)]
     fn neg(&mut self, asks: bool, left: u32) -> Result<Cond, Stop>
-        ensures exact { Gives left (neg asks) self.old.cursor.rest.now self.new.cursor.rest.now (condition_of self.old.subqueries.items self.new.subqueries.items) result }
-        ensures grown { IfOk result (λ c. Grown asks self.old.subqueries.items self.new.subqueries.items (numbers_in c)) }
+        ensures { Asks asks left (neg asks) self.old.cursor.rest.now self.new.cursor.rest.now self.old.subqueries.items self.new.subqueries.items condition_with numbers_in result }
     {
         if self.cursor.next_is(Class::Not) {
             let token = self.cursor.open(Class::Not, left)?;
@@ -76,8 +80,7 @@ impl<'a> Parser<'a> {
     /// An expression and what is asked of it.
     #[cycle(conditions)]
     fn test(&mut self, asks: bool, left: u32) -> Result<Cond, Stop>
-        ensures exact { Gives left (test asks) self.old.cursor.rest.now self.new.cursor.rest.now (condition_of self.old.subqueries.items self.new.subqueries.items) result }
-        ensures grown { IfOk result (λ c. Grown asks self.old.subqueries.items self.new.subqueries.items (numbers_in c)) }
+        ensures { Asks asks left (test asks) self.old.cursor.rest.now self.new.cursor.rest.now self.old.subqueries.items self.new.subqueries.items condition_with numbers_in result }
     {
         let value = self.cursor.expr(left)?;
         let tail = self.tail(asks, left)?;
@@ -87,8 +90,7 @@ impl<'a> Parser<'a> {
     /// What stands behind the first expression of a test.
     #[cycle(conditions)]
     fn tail(&mut self, asks: bool, left: u32) -> Result<Tail, Stop>
-        ensures exact { Gives left (Ref (rule.tail_rule asks)) self.old.cursor.rest.now self.new.cursor.rest.now (λ t. tail_of t (asked_between self.old.subqueries.items self.new.subqueries.items)) result }
-        ensures grown { IfOk result (λ t. Grown asks self.old.subqueries.items self.new.subqueries.items (numbers_in_tail t)) }
+        ensures { Asks asks left (Ref (rule.tail_rule asks)) self.old.cursor.rest.now self.new.cursor.rest.now self.old.subqueries.items self.new.subqueries.items tail_of numbers_in_tail result }
     {
         if self.cursor.next_is(Class::Compares) {
             let tail = self.cursor.comparison(left)?;
@@ -106,8 +108,7 @@ impl<'a> Parser<'a> {
     /// LIKE, BETWEEN or IN.
     #[cycle(conditions)]
     fn range(&mut self, asks: bool, left: u32) -> Result<Range, Stop>
-        ensures exact { Gives left (Ref (rule.range_rule asks)) self.old.cursor.rest.now self.new.cursor.rest.now (λ r. range_of r (asked_between self.old.subqueries.items self.new.subqueries.items)) result }
-        ensures grown { IfOk result (λ r. Grown asks self.old.subqueries.items self.new.subqueries.items (numbers_in_range r)) }
+        ensures { Asks asks left (Ref (rule.range_rule asks)) self.old.cursor.rest.now self.new.cursor.rest.now self.old.subqueries.items self.new.subqueries.items range_of numbers_in_range result }
     {
         if self.cursor.next_is(Class::Like) {
             let range = self.cursor.like()?;
@@ -124,8 +125,7 @@ impl<'a> Parser<'a> {
     /// IN and its parentheses.
     #[cycle(conditions)]
     fn within(&mut self, asks: bool, left: u32) -> Result<Range, Stop>
-        ensures exact { Gives left (within asks) self.old.cursor.rest.now self.new.cursor.rest.now (λ r. range_of r (asked_between self.old.subqueries.items self.new.subqueries.items)) result }
-        ensures grown { IfOk result (λ r. Grown asks self.old.subqueries.items self.new.subqueries.items (numbers_in_range r)) }
+        ensures { Asks asks left (within asks) self.old.cursor.rest.now self.new.cursor.rest.now self.old.subqueries.items self.new.subqueries.items range_of numbers_in_range result }
     {
         let _in = self.cursor.take(Class::In)?;
         let _open = self.cursor.open(Class::Open, left)?;
@@ -137,8 +137,7 @@ impl<'a> Parser<'a> {
     /// What stands in the parentheses of IN.
     #[cycle(conditions)]
     fn set(&mut self, asks: bool, left: u32) -> Result<Values, Stop>
-        ensures exact { Gives left (Ref (rule.set_rule asks)) self.old.cursor.rest.now self.new.cursor.rest.now (λ v. set_of v (asked_between self.old.subqueries.items self.new.subqueries.items)) result }
-        ensures grown { IfOk result (λ v. Grown asks self.old.subqueries.items self.new.subqueries.items (numbers_in_values v)) }
+        ensures { Asks asks left (Ref (rule.set_rule asks)) self.old.cursor.rest.now self.new.cursor.rest.now self.old.subqueries.items self.new.subqueries.items set_of numbers_in_values result }
     {
         if asks {
             return self.any_set(left);
@@ -150,15 +149,14 @@ impl<'a> Parser<'a> {
     /// Expressions, or a subquery.
     #[cycle(conditions)]
     fn any_set(&mut self, left: u32) -> Result<Values, Stop>
-        ensures exact { Gives left (Ref (rule.set_rule true)) self.old.cursor.rest.now self.new.cursor.rest.now (λ v. set_of v (asked_between self.old.subqueries.items self.new.subqueries.items)) result }
-        ensures grown { IfOk result (λ v. Grown true self.old.subqueries.items self.new.subqueries.items (numbers_in_values v)) }
+        ensures { Asks true left (Ref (rule.set_rule true)) self.old.cursor.rest.now self.new.cursor.rest.now self.old.subqueries.items self.new.subqueries.items set_of numbers_in_values result }
     {
         if !self.cursor.next_is(Class::Select) {
             let items = self.cursor.values(left)?;
             return Ok(Values::Listed(items));
         }
         let query = self.subquery(left)?;
-        let number = self.subqueries.len();
+        let number = self.asked();
         self.subqueries.push(query)?;
         Ok(Values::Asked(number))
     }
@@ -166,8 +164,7 @@ impl<'a> Parser<'a> {
     /// A subquery, in whose condition no other stands.
     #[cycle(conditions)]
     fn subquery(&mut self, left: u32) -> Result<Query, Stop>
-        ensures exact { Gives left (Ref rule.asked_rule) self.old.cursor.rest.now self.new.cursor.rest.now query_of result }
-        ensures same { IfOk result (λ q. self.new.subqueries.items ≡ self.old.subqueries.items) }
+        ensures { Asks false left (Ref rule.asked_rule) self.old.cursor.rest.now self.new.cursor.rest.now self.old.subqueries.items self.new.subqueries.items (λ q qs. query_of q) (λ q. []) result }
     {
         let _select = self.cursor.take(Class::Select)?;
         let distinct = self.cursor.skip(Class::Distinct);
@@ -181,8 +178,7 @@ impl<'a> Parser<'a> {
     /// WHERE and its condition, where it stands there.
     #[cycle(conditions)]
     pub fn where_part(&mut self, asks: bool, left: u32) -> Result<Option<Cond>, Stop>
-        ensures exact { Gives left (Opt (where' asks)) self.old.cursor.rest.now self.new.cursor.rest.now (conditions_of self.old.subqueries.items self.new.subqueries.items) result }
-        ensures grown { IfOk result (λ o. Grown asks self.old.subqueries.items self.new.subqueries.items (numbers_of o)) }
+        ensures { Asks asks left (Opt (where' asks)) self.old.cursor.rest.now self.new.cursor.rest.now self.old.subqueries.items self.new.subqueries.items conditions_with numbers_of result }
     {
         if !self.cursor.next_is(Class::Where) {
             return Ok(None);

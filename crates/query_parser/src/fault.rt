@@ -27,3 +27,14 @@ impl<T: Drop> From<AllocFailed<T>> for Stop {
         Stop::Memory
     }
 }
+
+/// Why tokens are no query; `at` is the place of the first bad token in the text, in bytes.
+#[derive(Clone, Copy, Debug, PartialEq, Eq)]
+pub enum ParseFault {
+    /// No query begins with the tokens up to and including this one.
+    Syntax { at: u32 },
+    /// This token opens level 65.
+    TooDeep { at: u32 },
+    /// There was no memory.
+    Memory,
+}

@@ -5,13 +5,18 @@
 //! reader of a rule has one contract (`Gives`), which says all that the grammar says of its answer.
 #![tactic(auto)]
 
+mod clauses;
 mod conditions;
 mod cursor;
 mod expressions;
 mod fault;
+mod joining;
+mod query;
 mod subquery;
 mod tail;
 mod token;
 mod values;
+mod whole;
 
-ghost use Rattle.std.specs.Prelude.{◌≡◌};
+pub use fault::ParseFault;
+pub use whole::parse;

@@ -52,7 +52,8 @@ impl<'a> Cursor<'a> {
         ensures { (n : ℕ) → Gives n from self.old.rest.now self.new.rest.now placed_all result }
     {
         let _from = self.take(Class::From)?;
-        self.names()
+        let names = self.names()?;
+        Ok(names)
     }
 
     /// A sign of comparison and an expression.

@@ -5,7 +5,7 @@ use Rattle.grammar.specs.Trees.{and_of, or_of}
 use Rattle.grammar.proofs.Answering.{SoFar}
 use Rattle.query_tree.specs.Tokens.{seen}
 use Rattle.query_tree.specs.Views.{numbers_in}
-use Rattle.query_parser.specs.Conditions.{condition_of, Grown}
+use Rattle.query_parser.specs.Conditions.{condition_with, asked_between, Grown}
 use Rattle.query_parser.proofs.conditions.Parser.+conditions.Given as goal
 
 abbrev pub decreases-within : goal.decreases-within
@@ -43,7 +43,7 @@ decreases-set l = 16 * l.left + 10
 
 abbrev pub invariant-conj-loop-self : goal.invariant-conj-loop-self
 invariant-conj-loop-self l = record {
-  so_far : SoFar l.left (conj l.asks) (behind (a class.And) (neg l.asks)) (map seen l.fn.self.cursor.rest.now) (map seen l.self.cursor.rest.now) (λ vs. and_of (condition_of l.fn.self.subqueries.items l.self.subqueries.items l.test) vs);
+  so_far : SoFar l.left (conj l.asks) (behind (a class.And) (neg l.asks)) (map seen l.fn.self.cursor.rest.now) (map seen l.self.cursor.rest.now) (λ vs. and_of (condition_with l.test (asked_between l.fn.self.subqueries.items l.self.subqueries.items)) vs);
   grown : Grown l.asks l.fn.self.subqueries.items l.self.subqueries.items (numbers_in l.test);
 }
 
@@ -52,7 +52,7 @@ decreases-conj-loop-self l = length l.self.cursor.rest.now
 
 abbrev pub invariant-cond-loop-self : goal.invariant-cond-loop-self
 invariant-cond-loop-self l = record {
-  so_far : SoFar l.left (cond l.asks) (behind (a class.Or) (conj l.asks)) (map seen l.fn.self.cursor.rest.now) (map seen l.self.cursor.rest.now) (λ vs. or_of (condition_of l.fn.self.subqueries.items l.self.subqueries.items l.test) vs);
+  so_far : SoFar l.left (cond l.asks) (behind (a class.Or) (conj l.asks)) (map seen l.fn.self.cursor.rest.now) (map seen l.self.cursor.rest.now) (λ vs. or_of (condition_with l.test (asked_between l.fn.self.subqueries.items l.self.subqueries.items)) vs);
   grown : Grown l.asks l.fn.self.subqueries.items l.self.subqueries.items (numbers_in l.test);
 }
 

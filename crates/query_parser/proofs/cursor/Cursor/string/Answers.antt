@@ -18,11 +18,11 @@ use Rattle.query_tree.specs.Views as views
 use Rattle.query_tree.proofs.Lists.{query_made}
 use Rattle.grammar.specs.Forms.{Ref, Tok}
 use Rattle.query_parser.specs.Answers.{Gives, Stopped}
-use Rattle.query_parser.specs.Conditions.{condition_of, conditions_of, asked_between, tail_of, range_of, set_of, subquery_with, numbers_in_values, Grown}
+use Rattle.query_parser.specs.Conditions.{condition_with, conditions_with, asked_between, tail_of, range_of, set_of, subquery_with, numbers_in_values, Grown}
 use Rattle.query_parser.specs.declared.tail.Values.TheVariants as v
 use Rattle.query_parser.proofs.Stopping.{stop_map, stop_first, stop_second, stop_left, stop_right, stop_alt_left, stop_alt_right, stop_present, stop_nest, stop_ref, stop_more, given_ok, given_err, given_as, given_same}
 use Rattle.query_parser.proofs.Steps.{reads_as, pushed, seen_shorter}
-use Rattle.query_parser.proofs.Conditioning.{between_none, grown_none, grown_as, grown_both, and_made, or_made, tail_made, grown_one, between_one, plain_same, tested_all}
+use Rattle.query_parser.proofs.Conditioning.{between_none, grown_none, grown_as, grown_both, and_made, or_made, tail_made, grown_one, between_one, plain_same, tested_by, asks_err, asks_ok, asks_as, asks_same, asks_set, plain_numbers, set_apart}
 use Rattle.query_parser.proofs.cursor.Cursor.string.Goals as goal
 
 pub returns-in_err-token : goal.returns-in_err-token
