@@ -23,7 +23,7 @@ exact_of one = record { holds = one }
 pub reads_map : {a b : Kind} {h : Worth a → Worth b} {f : Form a} {n : ℕ} {all rest : List Token} {v : Worth a} → Reads n f all v rest → Reads n (Map {a = a} {b = b} h f) all (h v) rest
 reads_map {h = h} one = (exact_map h (exact_of one)).holds
 
-pub reads_seq : {a b : Kind} {f : Form a} {g : Form b} {v : Worth a} {w : Worth b} {all mid rest : List Token} {n : ℕ} → Disjoint (continues f) (starts g) → Reads n f all v mid → Reads n g mid w rest → Reads n (Seq f g) all (v , w) rest
+pub reads_seq : {a b : Kind} {f : Form a} {g : Form b} {v : Worth a} {w : Worth b} {all mid rest : List Token} {n : ℕ} → Disjoint (continues f) (starts g) → Reads n f all v mid → Reads n g mid w rest → Reads n (Seq f g) all (v, w) rest
 reads_seq apart one two = seq_reads apart one two
 
 pub reads_behind : {a b : Kind} {f : Form a} {g : Form b} {v : Worth a} {w : Worth b} {all mid rest : List Token} {n : ℕ} → Disjoint (continues f) (starts g) → Reads n f all v mid → Reads n g mid w rest → Reads n (behind f g) all w rest
@@ -54,7 +54,7 @@ reads_absent {f = f} {all = all} p within filled is = (exact_absent (off_heads f
 pub reads_present : {a : Kind} {f : Form a} {n : ℕ} {all rest : List Token} {v : Worth a} (p : Class → Bool) → Within p (starts f) → heads_by p all ≡ true → Reads n f all v rest → Reads n (Opt f) all (Some v) rest
 reads_present {f = f} {all = all} p within is one = (exact_present (on_heads f p all within is) (exact_of one)).holds
 
-pub reads_nest : {a : Kind} {p : Class → Bool} {f : Form a} {all mid rest : List Token} {t : Token} {v : Worth a} {n : ℕ} → 0 < n → Reads n (Tok p) all t mid → Reads (n - 1) f mid v rest → Reads n (Nest p f) all (t , v) rest
+pub reads_nest : {a : Kind} {p : Class → Bool} {f : Form a} {all mid rest : List Token} {t : Token} {v : Worth a} {n : ℕ} → 0 < n → Reads n (Tok p) all t mid → Reads (n - 1) f mid v rest → Reads n (Nest p f) all (t, v) rest
 reads_nest some one two = (nest_read some one (exact_of two)).holds
 
 pub reads_ref : {m : Rule} {n : ℕ} {all rest : List Token} {v : Worth (kind m)} → Reads n (rule m) all v rest → Reads n (Ref m) all v rest
@@ -73,10 +73,10 @@ mapped_same f g same (read v rest) = ap (λ x. read x rest) (same v)
 mapped_same f g same (failed deep rest) = refl
 
 pub so_far_start : {b d e : Kind} {h : Worth (k.pair b (k.list d)) → Worth e} {f : Form b} {g : Form d} {n : ℕ} {all mid : List Token} {v : Worth b} → Disjoint (continues f) (starts g) → Reads n f all v mid
-    → SoFar n (Map {a = k.pair b (k.list d)} {b = e} h (Seq f (Many g))) g all mid (λ vs. h (v , vs))
+    → SoFar n (Map {a = k.pair b (k.list d)} {b = e} h (Seq f (Many g))) g all mid (λ vs. h (v, vs))
 so_far_start {b = b} {d = d} {e = e} {h = h} {f = f} {g = g} {n = n} {all = all} {v = v} apart one = record {
-  goes = λ o two. subst (λ x. Exact n (Map {a = k.pair b (k.list d)} {b = e} h (Seq f (Many g))) all x) (mapped_twice h (λ vs. (v , vs)) (λ vs. h (v , vs)) (λ vs. refl) o)
-    (exact_map h (exact_seq {g = Many g} apart one two));
+  goes = λ o two. subst (λ x. Exact n (Map {a = k.pair b (k.list d)} {b = e} h (Seq f (Many g))) all x) (mapped_twice h (λ vs. (v, vs)) (λ vs. h (v, vs)) (λ vs. refl) o)
+      (exact_map h (exact_seq {g = Many g} apart one two));
 }
 
 pub so_far_as : {b d : Kind} {n : ℕ} {f : Form d} {g : Form b} {all mid : List Token} {j l : List (Worth b) → Worth d} → ((vs : List (Worth b)) → j vs ≡ l vs) → SoFar n f g all mid j → SoFar n f g all mid l
@@ -88,7 +88,7 @@ pub so_far_more : {b d : Kind} {n : ℕ} {f : Form d} {g : Form b} {all mid afte
     → heads_by p mid ≡ true → Reads n g mid v after → SoFar n f g all mid j → SoFar n f g all after (λ vs. j (v ∷ vs))
 so_far_more {n = n} {f = f} {g = g} {all = all} {mid = mid} {j = j} {v = v} p within apart is one so_far = record {
   goes = λ o two. subst (λ x. Exact n f all x) (mapped_twice j (λ vs. v ∷ vs) (λ vs. j (v ∷ vs)) (λ vs. refl) o)
-    (so_far.goes _ (exact_more apart (on_heads g p mid within is) one two));
+      (so_far.goes _ (exact_more apart (on_heads g p mid within is) one two));
 }
 
 pub so_far_end : {b d : Kind} {n : ℕ} {f : Form d} {g : Form b} {all mid : List Token} {j : List (Worth b) → Worth d} (p : Class → Bool) → Within (starts g) p → is_nullable g ≡ false

@@ -101,16 +101,15 @@ no_items (x ∷ xs) is = absurd (not-suc (length xs) is)
 pub plain_between : {asks : Bool} {old new : List Query} → Grown asks old new [] → asked_between old new ≡ []
 plain_between {old = old} {new = new} one = between_is old new one.added one.grown ∙ ap (λ (l : List Query). map query_of l) (no_items one.added (none_counted _ _ one.numbered))
 
-
 single_of : (added : List Query) → length added ≡ 1 → (q : model.Query) × (map query_of added ≡ q ∷ [])
 single_of [] is = absurd (not-none is)
-single_of (q ∷ []) is = (query_of q , refl)
+single_of (q ∷ []) is = (query_of q, refl)
 single_of (q ∷ p ∷ ps) is = absurd (not-more (length ps) is)
 
 pub single_between : {asks : Bool} {old new : List Query} (n : ℕ) → Grown asks old new (n ∷ []) → (q : model.Query) × (asked_between old new ≡ q ∷ [])
 single_between {old = old} {new = new} n one =
     let s = single_of one.added (one_counted _ _ _ one.numbered) in
-    (s.0 , between_is old new one.added one.grown ∙ s.1)
+    (s.0, between_is old new one.added one.grown ∙ s.1)
 
 none_made : (x : model.Test) (qs : List model.Query) → qs ≡ [] → ◌≡◌ {A = model.Condition} (record { test = x; asked = qs }) (record { test = x; asked = [] })
 none_made x qs is = ap (λ (l : List model.Query). record { test = x; asked = l }) is
@@ -158,16 +157,16 @@ asks_err one = record { is = one }
 
 pub asks_ok : {b : Kind} {Y : Type 0} {asks : Bool} {n : ℕ} {f : Form b} {all rest : List Token} {old new : List Query} {view : Y → List model.Query → Worth b} {numbers : Y → List ℕ} {y : Y}
     → Reads n f (map seen all) (view y (asked_between old new)) (map seen rest) → Grown asks old new (numbers y) → Asks asks n f all rest old new view numbers (Ok y)
-asks_ok one two = record { is = (one , two) }
+asks_ok one two = record { is = (one, two) }
 
 pub asks_as : {b : Kind} {Y : Type 0} {asks : Bool} {n : ℕ} {f : Form b} {all rest : List Token} {old new : List Query} {view : Y → List model.Query → Worth b} {numbers : Y → List ℕ} {y : Y} {v : Worth b}
     → view y (asked_between old new) ≡ v → Reads n f (map seen all) v (map seen rest) → Grown asks old new (numbers y) → Asks asks n f all rest old new view numbers (Ok y)
-asks_as {n = n} {f = f} {all = all} {rest = rest} same one two = record { is = (subst (λ x. Reads n f (map seen all) x (map seen rest)) (sym same) one , two) }
+asks_as {n = n} {f = f} {all = all} {rest = rest} same one two = record { is = (subst (λ x. Reads n f (map seen all) x (map seen rest)) (sym same) one, two) }
 
 asks_by : {b : Kind} {Y : Type 0} (asks : Bool) (n : ℕ) (f g : Form b) (all rest : List Token) (old new : List Query) (view : Y → List model.Query → Worth b) (numbers : Y → List ℕ) (result : Result Y Stop)
     → ((v : Worth b) → Reads n f (map seen all) v (map seen rest) → Reads n g (map seen all) v (map seen rest)) → ((e : Stop) → Stopped n f (map seen all) e → Stopped n g (map seen all) e)
     → Asks asks n f all rest old new view numbers result → Asks asks n g all rest old new view numbers result
-asks_by asks n f g all rest old new view numbers (Ok y) reads stops one = record { is = (reads _ one.is.0 , one.is.1) }
+asks_by asks n f g all rest old new view numbers (Ok y) reads stops one = record { is = (reads _ one.is.0, one.is.1) }
 asks_by asks n f g all rest old new view numbers (Err e) reads stops one = record { is = stops e one.is }
 
 pub asks_same : {b : Kind} {Y : Type 0} {asks : Bool} {n : ℕ} {f g : Form b} {all rest : List Token} {old new : List Query} {view : Y → List model.Query → Worth b} {numbers : Y → List ℕ} {result : Result Y Stop}

@@ -59,17 +59,17 @@ left_only all (t ∷ rest) v w some one so = done_by (read v (t ∷ rest)) w (wh
 pub syntax_is : (all : List model.Token) (count size at : ℕ) → Stops false 64 query all count → at ≡ place_in (drop (length all - count) all) size → IsFault all size (Err (fault.Syntax at))
 syntax_is all count size at is place =
     let one = is.exact.holds in
-    (is.rest , whole_syntax query 64 all is.rest one , place ∙ ap (λ (l : List model.Token). place_in l size) (behind_is all one.front is.rest count one.split is.count_is))
+    (is.rest, whole_syntax query 64 all is.rest one, place ∙ ap (λ (l : List model.Token). place_in l size) (behind_is all one.front is.rest count one.split is.count_is))
 
 pub deep_is : (all : List model.Token) (count size at : ℕ) → Stops true 64 query all count → at ≡ place_in (drop (length all - count) all) size → IsFault all size (Err (fault.TooDeep at))
 deep_is all count size at is place =
     let one = is.exact.holds in
-    (is.rest , whole_deep query 64 all is.rest one , place ∙ ap (λ (l : List model.Token). place_in l size) (behind_is all one.front is.rest count one.split is.count_is))
+    (is.rest, whole_deep query 64 all is.rest one, place ∙ ap (λ (l : List model.Token). place_in l size) (behind_is all one.front is.rest count one.split is.count_is))
 
 pub left_is : (all rest : List model.Token) (v : model.Query) (count size at : ℕ) → length rest ≡ count → (count ≡ 0 → ⊥) → Reads 64 query all v rest → at ≡ place_in (drop (length all - count) all) size → IsFault all size (Err (fault.Syntax at))
 left_is all [] v count size at same some one place = absurd (some (sym same))
 left_is all (t ∷ rest) v count size at same some one place =
-    (t ∷ rest , whole_left query 64 all v t rest one , place ∙ ap (λ (l : List model.Token). place_in l size) (behind_is all (tokens one.way) (t ∷ rest) count one.split same))
+    (t ∷ rest, whole_left query 64 all v t rest one, place ∙ ap (λ (l : List model.Token). place_in l size) (behind_is all (tokens one.way) (t ∷ rest) count one.split same))
 
 none-some : {A : Type 0} {x : A} → None ≡ Some x → ⊥
 none-some is = cc

@@ -28,7 +28,7 @@ pub query_joined : (s : Selected) (u : Sourced) (e : Ended) (old mid new : List 
     → query_with s u e new ≡ model.query_of (selected_of s) (sourced_of u (asked_between old mid)) (ended_of e (asked_between mid new))
 query_joined s u e old mid new none one two =
     let asked : map query_of new ≡ model.asked_of (conditions_with u.condition (asked_between old mid)) ++ model.asked_of (conditions_with e.having (asked_between mid new))
-      = sym (between_start old new none) ∙ sym (between_both one two) ∙ sym (ap₂ (λ (a b : List model.Query). a ++ b) (asked_all u.condition one) (asked_all e.having two)) in
+    = sym (between_start old new none) ∙ sym (between_both one two) ∙ sym (ap₂ (λ (a b : List model.Query). a ++ b) (asked_all u.condition one) (asked_all e.having two)) in
     rw (tested u.condition (asked_between old mid), tested e.having (asked_between mid new), asked) refl
 
 start : (old new : List Query) (ns : List ℕ) → old ≡ [] → Grown true old new ns → ns ≡ count_from 0 (length new)

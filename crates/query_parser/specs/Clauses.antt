@@ -7,10 +7,10 @@ use Rattle.query_parser.specs.declared.clauses.Keys.{Keys}
 use Rattle.query_parser.specs.declared.clauses.Selected.{Selected}
 
 abbrev pub columns_of : Columns → Option ℕ × List model.Item
-columns_of c = (c.star , items_of c.items)
+columns_of c = (c.star, items_of c.items)
 
 abbrev pub keys_of : Keys → List model.Tree × Bool
-keys_of k = (trees_of k.items , k.marked)
+keys_of k = (trees_of k.items, k.marked)
 
 abbrev pub selected_of : Selected → model.Selected
-selected_of s = (option_map pos s.top , (s.distinct , columns_of s.columns))
+selected_of s = (option_map pos s.top, (s.distinct, columns_of s.columns))

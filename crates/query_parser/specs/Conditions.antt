@@ -1,7 +1,11 @@
 -- Conditions with the subqueries that were read in them.
 use Rattle.std.specs.Prelude.{◌≡◌, ℕ, zero, suc, ◌+◌, Bool, true, false, List, [], ◌∷◌, ◌++◌, length, drop, map, Option, Some, None, option_map, Result, Ok, Err}
 use Rattle.grammar.specs.Trees as model
-use Rattle.grammar.specs.Forms.{Kind, Worth, Form}
+use Rattle.grammar.specs.Forms.{Kind, Worth, Form, Map, Nest}
+use Rattle.grammar.specs.Forms.{Kind as kind}
+use Rattle.grammar.specs.declared.Class.TheVariants as class
+use Rattle.grammar.specs.Classes.{is_a}
+use Rattle.grammar.specs.Rules.{neg, cond, inside}
 use Rattle.grammar.specs.Reading.{Reads}
 use Rattle.query_lexer.specs.declared.token.Token.{Token}
 use Rattle.query_tree.specs.Tokens.{seen}
@@ -118,3 +122,10 @@ IsAsked asks left f all rest old new view numbers (Err e) = Stopped left f (map 
 -- what was read, as view sees it with the subqueries that came, is exactly what the form gives, and these have the numbers; or the fault is
 pub record Asks {a : Kind} {Y : Type 0} (asks : Bool) (left : ℕ) (f : Form a) (all rest : List Token) (old new : List Query) (view : Y → List model.Query → Worth a) (numbers : Y → List ℕ) (result : Result Y Stop) : Type 0 where
   pub is : IsAsked asks left f all rest old new view numbers result
+
+-- the first two forms of a condition that no AND parts
+abbrev pub negation : Bool → Form kind.condition
+negation asks = Map (λ x. model.not_of x.0.at x.1) (Nest (is_a class.Not) (neg asks))
+
+abbrev pub nesting : Bool → Form kind.condition
+nesting asks = Map (λ x. model.condition_at x.0.at x.1) (inside (cond asks))

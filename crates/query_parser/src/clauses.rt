@@ -85,7 +85,10 @@ impl<'a> Cursor<'a> {
             return Ok(Item { value, alias: None });
         }
         let alias = self.alias()?;
-        Ok(Item { value, alias: Some(alias) })
+        Ok(Item {
+            value,
+            alias: Some(alias),
+        })
     }
 
     /// An item of USING.
@@ -94,7 +97,10 @@ impl<'a> Cursor<'a> {
     {
         let value = self.expr(left)?;
         let alias = self.alias()?;
-        Ok(Item { value, alias: Some(alias) })
+        Ok(Item {
+            value,
+            alias: Some(alias),
+        })
     }
 
     /// Items between commas.
@@ -134,7 +140,10 @@ impl<'a> Cursor<'a> {
         if self.next_is(Class::Star) {
             let star = self.take(Class::Star)?;
             let items = ItemList::new(self.alloc);
-            return Ok(Columns { star: Some(star.at), items });
+            return Ok(Columns {
+                star: Some(star.at),
+                items,
+            });
         }
         let items = self.items(left)?;
         Ok(Columns { star: None, items })
@@ -148,7 +157,11 @@ impl<'a> Cursor<'a> {
         let top = self.top()?;
         let distinct = self.distinct()?;
         let columns = self.list(left)?;
-        Ok(Selected { top, distinct, columns })
+        Ok(Selected {
+            top,
+            distinct,
+            columns,
+        })
     }
 
     /// USING and its items, where it stands there.

@@ -1,10 +1,11 @@
 // Conditions, and the subqueries in them.
 ghost use Rattle.std.specs.Prelude.{◌≡◌, [], true, false, length};
+ghost use Rattle.grammar.specs.declared.Class.TheVariants as class;
 ghost use Rattle.grammar.specs.Forms.{Ref, Opt};
 ghost use Rattle.grammar.specs.Forms.{Rule as rule};
-ghost use Rattle.grammar.specs.Rules.{cond, conj, neg, test, within, where'};
+ghost use Rattle.grammar.specs.Rules.{a, behind, cond, conj, neg, test, within, where'};
 ghost use Rattle.query_tree.specs.Views.{query_of, numbers_in, numbers_of};
-ghost use Rattle.query_parser.specs.Conditions.{Asks, condition_with, conditions_with, tail_of, range_of, set_of, numbers_in_tail, numbers_in_range, numbers_in_values};
+ghost use Rattle.query_parser.specs.Conditions.{Asks, negation, nesting, condition_with, conditions_with, tail_of, range_of, set_of, numbers_in_tail, numbers_in_range, numbers_in_values};
 
 use crate::cursor::Cursor;
 use crate::fault::Stop;
@@ -36,8 +37,7 @@ impl<'a> Parser<'a> {
     {
         let mut test = self.conj(asks, left)?;
         while self.cursor.next_is(Class::Or) {
-            let _or = self.cursor.take(Class::Or)?;
-            let right = self.conj(asks, left)?;
+            let right = self.or_conj(asks, left)?;
             join_or(self.cursor.alloc, &mut test, right)?;
         }
         Ok(test)
@@ -50,11 +50,30 @@ impl<'a> Parser<'a> {
     {
         let mut test = self.neg(asks, left)?;
         while self.cursor.next_is(Class::And) {
-            let _and = self.cursor.take(Class::And)?;
-            let right = self.neg(asks, left)?;
+            let right = self.and_neg(asks, left)?;
             join_and(self.cursor.alloc, &mut test, right)?;
         }
         Ok(test)
+    }
+
+    /// OR and what it joins.
+    #[cycle(conditions)]
+    fn or_conj(&mut self, asks: bool, left: u32) -> Result<Cond, Stop>
+        ensures { Asks asks left (behind (a class.Or) (conj asks)) self.old.cursor.rest.now self.new.cursor.rest.now self.old.subqueries.items self.new.subqueries.items condition_with numbers_in result }
+    {
+        let _or = self.cursor.take(Class::Or)?;
+        let right = self.conj(asks, left)?;
+        Ok(right)
+    }
+
+    /// AND and what it joins.
+    #[cycle(conditions)]
+    fn and_neg(&mut self, asks: bool, left: u32) -> Result<Cond, Stop>
+        ensures { Asks asks left (behind (a class.And) (neg asks)) self.old.cursor.rest.now self.new.cursor.rest.now self.old.subqueries.items self.new.subqueries.items condition_with numbers_in result }
+    {
+        let _and = self.cursor.take(Class::And)?;
+        let right = self.neg(asks, left)?;
+        Ok(right)
     }
 
     /// NOT, a condition in parentheses, or a test.
@@ -63,18 +82,34 @@ impl<'a> Parser<'a> {
         ensures { Asks asks left (neg asks) self.old.cursor.rest.now self.new.cursor.rest.now self.old.subqueries.items self.new.subqueries.items condition_with numbers_in result }
     {
         if self.cursor.next_is(Class::Not) {
-            let token = self.cursor.open(Class::Not, left)?;
-            let inner = self.neg(asks, left - 1)?;
-            let test = Cond::negate(self.cursor.alloc, token.at, inner)?;
-            return Ok(test);
+            return self.negated(asks, left);
         }
         if self.cursor.next_is(Class::Open) {
-            let token = self.cursor.open(Class::Open, left)?;
-            let inner = self.cond(asks, left - 1)?;
-            let _close = self.cursor.take(Class::Close)?;
-            return Ok(inner.moved(token.at));
+            return self.nested(asks, left);
         }
         self.test(asks, left)
+    }
+
+    /// NOT and its condition.
+    #[cycle(conditions)]
+    fn negated(&mut self, asks: bool, left: u32) -> Result<Cond, Stop>
+        ensures { Asks asks left (negation asks) self.old.cursor.rest.now self.new.cursor.rest.now self.old.subqueries.items self.new.subqueries.items condition_with numbers_in result }
+    {
+        let token = self.cursor.open(Class::Not, left)?;
+        let inner = self.neg(asks, left - 1)?;
+        let test = Cond::negate(self.cursor.alloc, token.at, inner)?;
+        Ok(test)
+    }
+
+    /// A condition in parentheses.
+    #[cycle(conditions)]
+    fn nested(&mut self, asks: bool, left: u32) -> Result<Cond, Stop>
+        ensures { Asks asks left (nesting asks) self.old.cursor.rest.now self.new.cursor.rest.now self.old.subqueries.items self.new.subqueries.items condition_with numbers_in result }
+    {
+        let token = self.cursor.open(Class::Open, left)?;
+        let inner = self.cond(asks, left - 1)?;
+        let _close = self.cursor.take(Class::Close)?;
+        Ok(inner.moved(token.at))
     }
 
     /// An expression and what is asked of it.

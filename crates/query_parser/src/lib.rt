@@ -14,6 +14,8 @@ mod joining;
 mod query;
 mod subquery;
 mod tail;
+#[cfg(test)]
+mod tests;
 mod token;
 mod values;
 mod whole;

@@ -60,14 +60,33 @@ fn keys_or_none(alloc: Global, keys: Option<Keys>) -> Keys
 }
 
 /// A query of its parts.
-fn query_of_parts(alloc: Global, selected: Selected, sourced: Sourced, ended: Ended, subqueries: Vec<Query>) -> Query
+fn query_of_parts(
+    alloc: Global,
+    selected: Selected,
+    sourced: Sourced,
+    ended: Ended,
+    subqueries: Vec<Query>,
+) -> Query
     ensures query { query_of result ≡ query_with selected sourced ended subqueries.items }
     ensures condition { numbers_in_query result ≡ numbers_of sourced.condition ++ numbers_of ended.having }
     ensures count { length (asked_in result) ≡ length subqueries.items }
 {
-    let Selected { top, distinct, columns } = selected;
-    let Sourced { aliases, into, names, condition } = sourced;
-    let Ended { keys, having, order } = ended;
+    let Selected {
+        top,
+        distinct,
+        columns,
+    } = selected;
+    let Sourced {
+        aliases,
+        into,
+        names,
+        condition,
+    } = sourced;
+    let Ended {
+        keys,
+        having,
+        order,
+    } = ended;
     let aliases = items_or_none(alloc, aliases);
     let keys = keys_or_none(alloc, keys);
     let order = keys_or_none(alloc, order);
@@ -98,7 +117,12 @@ impl<'a> Parser<'a> {
         let into = self.cursor.into_name()?;
         let names = self.cursor.from()?;
         let condition = self.where_part(true, left)?;
-        Ok(Sourced { aliases, into, names, condition })
+        Ok(Sourced {
+            aliases,
+            into,
+            names,
+            condition,
+        })
     }
 
     /// HAVING and its condition, where it stands there.
@@ -121,7 +145,11 @@ impl<'a> Parser<'a> {
         let having = self.having(left)?;
         let order = self.cursor.order(left)?;
         let _semicolon = self.cursor.skip(Class::Semicolon);
-        Ok(Ended { keys, having, order })
+        Ok(Ended {
+            keys,
+            having,
+            order,
+        })
     }
 
     /// A query, where no subquery was read before.

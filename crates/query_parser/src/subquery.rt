@@ -7,7 +7,13 @@ use query_tree::{Cond, Expr, ExprList, Item, ItemList, PlacedList, Query, QueryL
 use std::alloc::{AllocError, Global};
 
 /// A subquery: its DISTINCT, its expression, its names and its condition.
-pub fn subquery_of(alloc: Global, distinct: bool, value: Expr, names: PlacedList, condition: Option<Cond>) -> Result<Query, AllocError>
+pub fn subquery_of(
+    alloc: Global,
+    distinct: bool,
+    value: Expr,
+    names: PlacedList,
+    condition: Option<Cond>,
+) -> Result<Query, AllocError>
     ensures { IfOk result (λ q. query_of q ≡ subquery_with distinct (tree_of value) (placed_all names) (option_map test_of condition)) }
 {
     let mut items = ItemList::new(alloc);

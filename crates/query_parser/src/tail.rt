@@ -38,14 +38,40 @@ impl Tail {
     {
         let at = value.place();
         match self {
-            Tail::Compared(how, right) => Cond::Compare { at, how, left: value, right },
+            Tail::Compared(how, right) => Cond::Compare {
+                at,
+                how,
+                left: value,
+                right,
+            },
             Tail::Null(negated) => Cond::IsNull { at, value, negated },
             Tail::Ranged(negated, range) => match range {
-                Range::Like(pattern) => Cond::Like { at, value, pattern, negated },
-                Range::Between(low, high) => Cond::Between { at, value, low, high, negated },
+                Range::Like(pattern) => Cond::Like {
+                    at,
+                    value,
+                    pattern,
+                    negated,
+                },
+                Range::Between(low, high) => Cond::Between {
+                    at,
+                    value,
+                    low,
+                    high,
+                    negated,
+                },
                 Range::Within(values) => match values {
-                    Values::Listed(items) => Cond::InList { at, value, items, negated },
-                    Values::Asked(subquery) => Cond::InQuery { at, value, subquery, negated },
+                    Values::Listed(items) => Cond::InList {
+                        at,
+                        value,
+                        items,
+                        negated,
+                    },
+                    Values::Asked(subquery) => Cond::InQuery {
+                        at,
+                        value,
+                        subquery,
+                        negated,
+                    },
                 },
             },
         }

@@ -39,19 +39,31 @@ pub fn parse(alloc: Global, tokens: &Tokens) -> Result<Query, ParseFault>
     ensures only { (v : model.Query) → Derives 64 query (map seen tokens.now.items) v → IsThis result v }
     ensures fault { IsFault (map seen tokens.now.items) tokens.now.text_length result }
 {
-    let cursor = Cursor { alloc, rest: tokens.as_slice() };
-    let mut parser = Parser { cursor, subqueries: Vec::new(alloc) };
+    let cursor = Cursor {
+        alloc,
+        rest: tokens.as_slice(),
+    };
+    let mut parser = Parser {
+        cursor,
+        subqueries: Vec::new(alloc),
+    };
     match parser.query(DEPTH) {
         Ok(query) => {
             let count = parser.cursor.rest.len();
             if count == 0 {
                 Ok(query)
             } else {
-                Err(ParseFault::Syntax { at: place(tokens, count) })
+                Err(ParseFault::Syntax {
+                    at: place(tokens, count),
+                })
             }
         }
-        Err(Stop::Syntax(count)) => Err(ParseFault::Syntax { at: place(tokens, count) }),
-        Err(Stop::TooDeep(count)) => Err(ParseFault::TooDeep { at: place(tokens, count) }),
+        Err(Stop::Syntax(count)) => Err(ParseFault::Syntax {
+            at: place(tokens, count),
+        }),
+        Err(Stop::TooDeep(count)) => Err(ParseFault::TooDeep {
+            at: place(tokens, count),
+        }),
         Err(Stop::Memory) => Err(ParseFault::Memory),
     }
 }

@@ -45,6 +45,6 @@ queries_list (QueryList' shape all) = search (rules, query_lemmas, queries_map)
 pub query_made : (top : Option ℕ) (distinct : Bool) (star : Option ℕ) (items aliases : ItemList) (into : Option Placed) (names : PlacedList) (condition : Option Cond) (keys : ExprList) (rollup : Bool) (having : Option Cond) (order : ExprList) (descending : Bool) (subqueries : QueryList)
     → query_of (roll-Query (record { top = top; distinct = distinct; star = star; items = items; aliases = aliases; into = into; names = names; condition = condition; keys = keys; rollup = rollup; having = having; order = order; descending = descending; subqueries = subqueries }))
     ≡ query.query (record { top = option_map pos top; distinct = distinct; star = star; items = items_of items; aliases = items_of aliases; into = option_map placed_of into; names = placed_all names; condition = option_map test_of condition; keys = trees_of keys; rollup = rollup; having = option_map test_of having; order = trees_of order; descending = descending })
-      (model.queries_of (map query_of (out-QueryList subqueries).items.items))
+    (model.queries_of (map query_of (out-QueryList subqueries).items.items))
 query_made top distinct star items aliases into names condition keys rollup having order descending subqueries =
     ap (λ (q : Query). query_of q) (rolls-Query' (record { top = top; distinct = distinct; star = star; items = items; aliases = aliases; into = into; names = names; condition = condition; keys = keys; rollup = rollup; having = having; order = order; descending = descending; subqueries = subqueries })) ∙ ap (λ (qs : Queries). query.query (record { top = option_map pos top; distinct = distinct; star = star; items = items_of items; aliases = items_of aliases; into = option_map placed_of into; names = placed_all names; condition = option_map test_of condition; keys = trees_of keys; rollup = rollup; having = option_map test_of having; order = trees_of order; descending = descending }) qs) (queries_list subqueries)

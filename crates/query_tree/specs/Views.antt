@@ -54,7 +54,7 @@ abbrev mutual
   else_of (Some' p e) = otherwise.an_else (tree_of e)
 
 abbrev pub when_of : When → model.Tree × model.Tree
-when_of w = (tree_of w.test , tree_of w.value)
+when_of w = (tree_of w.test, tree_of w.value)
 
 -- each comparison has the number of its sign
 abbrev pub number_of : Compare → ℤ

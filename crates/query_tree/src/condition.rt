@@ -11,16 +11,57 @@ use std::alloc::{AllocError, Global};
 /// A condition; `at` is the place of its first token, its own outer parentheses included.
 #[derive(Drop)]
 pub enum Cond {
-    Or { at: u32, left: Box<Cond>, right: Box<Cond> },
-    And { at: u32, left: Box<Cond>, right: Box<Cond> },
-    Not { at: u32, inner: Box<Cond> },
-    Compare { at: u32, how: Compare, left: Expr, right: Expr },
-    IsNull { at: u32, value: Expr, negated: bool },
-    Like { at: u32, value: Expr, pattern: Placed, negated: bool },
-    Between { at: u32, value: Expr, low: Expr, high: Expr, negated: bool },
-    InList { at: u32, value: Expr, items: ExprList, negated: bool },
+    Or {
+        at: u32,
+        left: Box<Cond>,
+        right: Box<Cond>,
+    },
+    And {
+        at: u32,
+        left: Box<Cond>,
+        right: Box<Cond>,
+    },
+    Not {
+        at: u32,
+        inner: Box<Cond>,
+    },
+    Compare {
+        at: u32,
+        how: Compare,
+        left: Expr,
+        right: Expr,
+    },
+    IsNull {
+        at: u32,
+        value: Expr,
+        negated: bool,
+    },
+    Like {
+        at: u32,
+        value: Expr,
+        pattern: Placed,
+        negated: bool,
+    },
+    Between {
+        at: u32,
+        value: Expr,
+        low: Expr,
+        high: Expr,
+        negated: bool,
+    },
+    InList {
+        at: u32,
+        value: Expr,
+        items: ExprList,
+        negated: bool,
+    },
     /// `subquery` is the number of the subquery, from 0 in the order of the text.
-    InQuery { at: u32, value: Expr, subquery: usize, negated: bool },
+    InQuery {
+        at: u32,
+        value: Expr,
+        subquery: usize,
+        negated: bool,
+    },
 }
 
 impl Cond {
@@ -50,12 +91,68 @@ impl Cond {
             Cond::Or { at: _, left, right } => Cond::Or { at, left, right },
             Cond::And { at: _, left, right } => Cond::And { at, left, right },
             Cond::Not { at: _, inner } => Cond::Not { at, inner },
-            Cond::Compare { at: _, how, left, right } => Cond::Compare { at, how, left, right },
-            Cond::IsNull { at: _, value, negated } => Cond::IsNull { at, value, negated },
-            Cond::Like { at: _, value, pattern, negated } => Cond::Like { at, value, pattern, negated },
-            Cond::Between { at: _, value, low, high, negated } => Cond::Between { at, value, low, high, negated },
-            Cond::InList { at: _, value, items, negated } => Cond::InList { at, value, items, negated },
-            Cond::InQuery { at: _, value, subquery, negated } => Cond::InQuery { at, value, subquery, negated },
+            Cond::Compare {
+                at: _,
+                how,
+                left,
+                right,
+            } => Cond::Compare {
+                at,
+                how,
+                left,
+                right,
+            },
+            Cond::IsNull {
+                at: _,
+                value,
+                negated,
+            } => Cond::IsNull { at, value, negated },
+            Cond::Like {
+                at: _,
+                value,
+                pattern,
+                negated,
+            } => Cond::Like {
+                at,
+                value,
+                pattern,
+                negated,
+            },
+            Cond::Between {
+                at: _,
+                value,
+                low,
+                high,
+                negated,
+            } => Cond::Between {
+                at,
+                value,
+                low,
+                high,
+                negated,
+            },
+            Cond::InList {
+                at: _,
+                value,
+                items,
+                negated,
+            } => Cond::InList {
+                at,
+                value,
+                items,
+                negated,
+            },
+            Cond::InQuery {
+                at: _,
+                value,
+                subquery,
+                negated,
+            } => Cond::InQuery {
+                at,
+                value,
+                subquery,
+                negated,
+            },
         }
     }
 

@@ -16,19 +16,50 @@ use std::alloc::{AllocError, Global};
 #[derive(Drop)]
 #[cycle(tree)]
 pub enum Expr {
-    Integer { at: u32, value: i64 },
-    Real { at: u32, value: Real },
-    Text { at: u32, value: Text },
-    Null { at: u32 },
+    Integer {
+        at: u32,
+        value: i64,
+    },
+    Real {
+        at: u32,
+        value: Real,
+    },
+    Text {
+        at: u32,
+        value: Text,
+    },
+    Null {
+        at: u32,
+    },
     /// `TIMESTAMP('value', 'pattern')`.
-    Timestamp { at: u32, value: Placed, pattern: Placed },
-    Word { at: u32, name: Text },
-    Call { at: u32, name: Text, arguments: ExprList },
+    Timestamp {
+        at: u32,
+        value: Placed,
+        pattern: Placed,
+    },
+    Word {
+        at: u32,
+        name: Text,
+    },
+    Call {
+        at: u32,
+        name: Text,
+        arguments: ExprList,
+    },
     /// `COUNT(*)`.
-    CountAll { at: u32 },
+    CountAll {
+        at: u32,
+    },
     /// `PROPCOUNT(*)`.
-    PropCountAll { at: u32 },
-    Case { at: u32, subject: Box<Expr>, branches: WhenList, otherwise: Option<Box<Expr>> },
+    PropCountAll {
+        at: u32,
+    },
+    Case {
+        at: u32,
+        subject: Box<Expr>,
+        branches: WhenList,
+        otherwise: Option<Box<Expr>>,
+    },
 }
 
 impl Expr {
@@ -54,19 +85,39 @@ impl Expr {
     pub fn call(at: u32, name: Text, arguments: ExprList) -> Expr
         ensures { tree_of result ≡ tree.Call at name (trees (trees_of arguments)) }
     {
-        Expr::Call { at, name, arguments }
+        Expr::Call {
+            at,
+            name,
+            arguments,
+        }
     }
 
     /// A CASE with its branches.
-    pub fn case(alloc: Global, at: u32, subject: Expr, branches: WhenList, otherwise: Option<Expr>) -> Result<Expr, AllocError>
+    pub fn case(
+        alloc: Global,
+        at: u32,
+        subject: Expr,
+        branches: WhenList,
+        otherwise: Option<Expr>,
+    ) -> Result<Expr, AllocError>
         ensures { IfOk result (λ e. tree_of e ≡ tree.Case at (tree_of subject) (whens (whens_of branches)) (otherwise_of (option_map tree_of otherwise))) }
     {
         let subject = Box::new(alloc, subject)?;
         match otherwise {
-            None => Ok(Expr::Case { at, subject, branches, otherwise: None }),
+            None => Ok(Expr::Case {
+                at,
+                subject,
+                branches,
+                otherwise: None,
+            }),
             Some(value) => {
                 let value = Box::new(alloc, value)?;
-                Ok(Expr::Case { at, subject, branches, otherwise: Some(value) })
+                Ok(Expr::Case {
+                    at,
+                    subject,
+                    branches,
+                    otherwise: Some(value),
+                })
             }
         }
     }

@@ -34,26 +34,21 @@ pub conj-loop-self-init : goal.conj-loop-self-init
 conj-loop-self-init measure c =
     record { so_far = so_far_ref {m = r.conj_rule c.args.asks} (so_far_start refl c.in_ok-test.ensures.is.0); grown = c.in_ok-test.ensures.is.1 }
 
-pub conj-returns-in_err-_and : goal.conj-returns-in_err-_and
-conj-returns-in_err-_and measure c =
-    let p = err_from_is_err_and c.from_residual-in_err-_and.result c.from_residual-in_err-_and.ensures.1 in
-    rw (p.1, p.2) (asks_err (stop_more (is_a class.And) refl refl (sym c.loop-self-test.ensures) c.loop-self.invariant.so_far (stop_map (stop_first refl refl (c.in_err-_and.ensures.exact c.args.left).is))))
-
 pub conj-returns-in_err-right : goal.conj-returns-in_err-right
 conj-returns-in_err-right measure c =
     let p = err_from_is_err_and c.from_residual-in_err-right.result c.from_residual-in_err-right.ensures.1 in
-    rw (p.1, p.2) (asks_err (stop_more (is_a class.And) refl refl (sym c.loop-self-test.ensures) c.loop-self.invariant.so_far (stop_map (stop_second refl (c.in_ok-_and.ensures.exact c.args.left).is c.in_err-right.ensures.is))))
+    rw (p.1, p.2) (asks_err (stop_more (is_a class.And) refl refl (sym c.loop-self-test.ensures) c.loop-self.invariant.so_far c.in_err-right.ensures.is))
 
 pub conj-loop-self-preserved : goal.conj-loop-self-preserved
 conj-loop-self-preserved measure c =
     record {
-      so_far = so_far_as (λ vs. ap (λ x. and_of x vs) (and_made c.loop-self.test c.in_ok-right.right c.join_and.new.before c.loop-self.invariant.grown c.in_ok-right.ensures.is.1 c.in_ok-join_and.ensures.test)) (so_far_more (is_a class.And) refl refl (sym c.loop-self-test.ensures) (reads_behind refl (c.in_ok-_and.ensures.exact c.args.left).is c.in_ok-right.ensures.is.0) c.loop-self.invariant.so_far);
+      so_far = so_far_as (λ vs. ap (λ x. and_of x vs) (and_made c.loop-self.test c.in_ok-right.right c.join_and.new.before c.loop-self.invariant.grown c.in_ok-right.ensures.is.1 c.in_ok-join_and.ensures.test)) (so_far_more (is_a class.And) refl refl (sym c.loop-self-test.ensures) c.in_ok-right.ensures.is.0 c.loop-self.invariant.so_far);
       grown = grown_as c.in_ok-join_and.ensures.numbers (grown_both c.loop-self.invariant.grown c.in_ok-right.ensures.is.1);
     }
 
 pub conj-loop-self-smaller : goal.conj-loop-self-smaller
 conj-loop-self-smaller measure c =
-    seen_shorter {f = behind (a class.And) (neg c.args.asks)} _ _ refl (reads_behind refl (c.in_ok-_and.ensures.exact c.args.left).is c.in_ok-right.ensures.is.0)
+    seen_shorter {f = behind (a class.And) (neg c.args.asks)} _ _ refl c.in_ok-right.ensures.is.0
 
 pub conj-returns : goal.conj-returns
 conj-returns measure c =
@@ -68,67 +63,98 @@ pub cond-loop-self-init : goal.cond-loop-self-init
 cond-loop-self-init measure c =
     record { so_far = so_far_ref {m = r.cond_rule c.args.asks} (so_far_start refl c.in_ok-test.ensures.is.0); grown = c.in_ok-test.ensures.is.1 }
 
-pub cond-returns-in_err-_or : goal.cond-returns-in_err-_or
-cond-returns-in_err-_or measure c =
-    let p = err_from_is_err_and c.from_residual-in_err-_or.result c.from_residual-in_err-_or.ensures.1 in
-    rw (p.1, p.2) (asks_err (stop_more (is_a class.Or) refl refl (sym c.loop-self-test.ensures) c.loop-self.invariant.so_far (stop_map (stop_first refl refl (c.in_err-_or.ensures.exact c.args.left).is))))
-
 pub cond-returns-in_err-right : goal.cond-returns-in_err-right
 cond-returns-in_err-right measure c =
     let p = err_from_is_err_and c.from_residual-in_err-right.result c.from_residual-in_err-right.ensures.1 in
-    rw (p.1, p.2) (asks_err (stop_more (is_a class.Or) refl refl (sym c.loop-self-test.ensures) c.loop-self.invariant.so_far (stop_map (stop_second refl (c.in_ok-_or.ensures.exact c.args.left).is c.in_err-right.ensures.is))))
+    rw (p.1, p.2) (asks_err (stop_more (is_a class.Or) refl refl (sym c.loop-self-test.ensures) c.loop-self.invariant.so_far c.in_err-right.ensures.is))
 
 pub cond-loop-self-preserved : goal.cond-loop-self-preserved
 cond-loop-self-preserved measure c =
     record {
-      so_far = so_far_as (λ vs. ap (λ x. or_of x vs) (or_made c.loop-self.test c.in_ok-right.right c.join_or.new.before c.loop-self.invariant.grown c.in_ok-right.ensures.is.1 c.in_ok-join_or.ensures.test)) (so_far_more (is_a class.Or) refl refl (sym c.loop-self-test.ensures) (reads_behind refl (c.in_ok-_or.ensures.exact c.args.left).is c.in_ok-right.ensures.is.0) c.loop-self.invariant.so_far);
+      so_far = so_far_as (λ vs. ap (λ x. or_of x vs) (or_made c.loop-self.test c.in_ok-right.right c.join_or.new.before c.loop-self.invariant.grown c.in_ok-right.ensures.is.1 c.in_ok-join_or.ensures.test)) (so_far_more (is_a class.Or) refl refl (sym c.loop-self-test.ensures) c.in_ok-right.ensures.is.0 c.loop-self.invariant.so_far);
       grown = grown_as c.in_ok-join_or.ensures.numbers (grown_both c.loop-self.invariant.grown c.in_ok-right.ensures.is.1);
     }
 
 pub cond-loop-self-smaller : goal.cond-loop-self-smaller
 cond-loop-self-smaller measure c =
-    seen_shorter {f = behind (a class.Or) (conj c.args.asks)} _ _ refl (reads_behind refl (c.in_ok-_or.ensures.exact c.args.left).is c.in_ok-right.ensures.is.0)
+    seen_shorter {f = behind (a class.Or) (conj c.args.asks)} _ _ refl c.in_ok-right.ensures.is.0
 
 pub cond-returns : goal.cond-returns
 cond-returns measure c =
     asks_ok (so_far_end (is_a class.Or) refl refl (sym c.loop-self-test.ensures) c.loop-self.invariant.so_far) c.loop-self.invariant.grown
 
-pub neg-returns-in_err-token : goal.neg-returns-in_err-token
-neg-returns-in_err-token measure c =
+pub or_conj-returns-in_err-_or : goal.or_conj-returns-in_err-_or
+or_conj-returns-in_err-_or measure c =
     let p = err_from_is_err_and c.from_residual.result c.from_residual.ensures.1 in
-    rw (p.1, p.2) (asks_err (stop_ref {m = r.neg_rule c.args.asks} (stop_left (is_a class.Not) refl refl (sym c.if-next_is.ensures) (stop_map (c.in_err-token.ensures.err _ _ refl)))))
+    rw (p.1, p.2) (asks_err (stop_map (stop_first refl refl (c.in_err-_or.ensures.exact c.args.left).is)))
 
-pub neg-returns-in_err-inner : goal.neg-returns-in_err-inner
-neg-returns-in_err-inner measure c =
-    let p = err_from_is_err_and c.from_residual-in_err-inner.result c.from_residual-in_err-inner.ensures.1 in
-    rw (p.1, p.2) (asks_err (stop_ref {m = r.neg_rule c.args.asks} (stop_left (is_a class.Not) refl refl (sym c.if-next_is.ensures) (stop_map (stop_nest c.in_ok-token.ensures.ok.some c.in_ok-token.ensures.ok.reads c.in_err-inner.ensures.is)))))
+pub or_conj-returns-in_err-right : goal.or_conj-returns-in_err-right
+or_conj-returns-in_err-right measure c =
+    let p = err_from_is_err_and c.from_residual-in_err-right.result c.from_residual-in_err-right.ensures.1 in
+    rw (p.1, p.2) (asks_err (stop_map (stop_second refl (c.in_ok-_or.ensures.exact c.args.left).is c.in_err-right.ensures.is)))
+
+pub or_conj-returns : goal.or_conj-returns
+or_conj-returns measure c =
+    asks_ok (reads_behind refl (c.in_ok-_or.ensures.exact c.args.left).is c.in_ok-right.ensures.is.0) c.in_ok-right.ensures.is.1
+
+pub and_neg-returns-in_err-_and : goal.and_neg-returns-in_err-_and
+and_neg-returns-in_err-_and measure c =
+    let p = err_from_is_err_and c.from_residual.result c.from_residual.ensures.1 in
+    rw (p.1, p.2) (asks_err (stop_map (stop_first refl refl (c.in_err-_and.ensures.exact c.args.left).is)))
+
+pub and_neg-returns-in_err-right : goal.and_neg-returns-in_err-right
+and_neg-returns-in_err-right measure c =
+    let p = err_from_is_err_and c.from_residual-in_err-right.result c.from_residual-in_err-right.ensures.1 in
+    rw (p.1, p.2) (asks_err (stop_map (stop_second refl (c.in_ok-_and.ensures.exact c.args.left).is c.in_err-right.ensures.is)))
+
+pub and_neg-returns : goal.and_neg-returns
+and_neg-returns measure c =
+    asks_ok (reads_behind refl (c.in_ok-_and.ensures.exact c.args.left).is c.in_ok-right.ensures.is.0) c.in_ok-right.ensures.is.1
 
 pub neg-returns-then-next_is : goal.neg-returns-then-next_is
 neg-returns-then-next_is measure c =
-    asks_as (ap (λ (x : model.Test). record { test = x; asked = _ }) c.in_ok-test.ensures.test) (reads_ref {m = r.neg_rule c.args.asks} (reads_left (is_a class.Not) refl refl (sym c.if-next_is.ensures) (reads_map (reads_nest c.in_ok-token.ensures.ok.some c.in_ok-token.ensures.ok.reads c.in_ok-inner.ensures.is.0)))) (grown_as c.in_ok-test.ensures.numbers c.in_ok-inner.ensures.is.1)
-
-pub neg-returns-in_err-token-2 : goal.neg-returns-in_err-token-2
-neg-returns-in_err-token-2 measure c =
-    let p = err_from_is_err_and c.from_residual-in_err-token-2.result c.from_residual-in_err-token-2.ensures.1 in
-    rw (p.1, p.2) (asks_err (stop_ref {m = r.neg_rule c.args.asks} (stop_right (is_a class.Not) refl refl (sym c.if-next_is.ensures) (stop_left (is_a class.Open) refl refl (sym c.if-next_is-2.ensures) (stop_map (c.in_err-token-2.ensures.err _ _ refl))))))
-
-pub neg-returns-in_err-inner-2 : goal.neg-returns-in_err-inner-2
-neg-returns-in_err-inner-2 measure c =
-    let p = err_from_is_err_and c.from_residual-in_err-inner-2.result c.from_residual-in_err-inner-2.ensures.1 in
-    rw (p.1, p.2) (asks_err (stop_ref {m = r.neg_rule c.args.asks} (stop_right (is_a class.Not) refl refl (sym c.if-next_is.ensures) (stop_left (is_a class.Open) refl refl (sym c.if-next_is-2.ensures) (stop_map (stop_nest c.in_ok-token-2.ensures.ok.some c.in_ok-token-2.ensures.ok.reads (stop_map (stop_first refl refl c.in_err-inner-2.ensures.is))))))))
-
-pub neg-returns-in_err-_close : goal.neg-returns-in_err-_close
-neg-returns-in_err-_close measure c =
-    let p = err_from_is_err_and c.from_residual-in_err-_close.result c.from_residual-in_err-_close.ensures.1 in
-    rw (p.1, p.2) (asks_err (stop_ref {m = r.neg_rule c.args.asks} (stop_right (is_a class.Not) refl refl (sym c.if-next_is.ensures) (stop_left (is_a class.Open) refl refl (sym c.if-next_is-2.ensures) (stop_map (stop_nest c.in_ok-token-2.ensures.ok.some c.in_ok-token-2.ensures.ok.reads (stop_map (stop_second refl c.in_ok-inner-2.ensures.is.0 (c.in_err-_close.ensures.exact (c.args.left - 1)).is))))))))
+    asks_same (λ v x. reads_ref {m = r.neg_rule c.args.asks} (reads_left (is_a class.Not) refl refl (sym c.if-next_is.ensures) x)) (λ e x. stop_ref {m = r.neg_rule c.args.asks} (stop_left (is_a class.Not) refl refl (sym c.if-next_is.ensures) x)) c.negated.ensures
 
 pub neg-returns-then-next_is-2 : goal.neg-returns-then-next_is-2
 neg-returns-then-next_is-2 measure c =
-    asks_as (ap (λ (x : model.Test). record { test = x; asked = _ }) c.moved.ensures.test) (reads_ref {m = r.neg_rule c.args.asks} (reads_right (is_a class.Not) refl refl (sym c.if-next_is.ensures) (reads_left (is_a class.Open) refl refl (sym c.if-next_is-2.ensures) (reads_map (reads_nest c.in_ok-token-2.ensures.ok.some c.in_ok-token-2.ensures.ok.reads (reads_before refl c.in_ok-inner-2.ensures.is.0 (c.in_ok-_close.ensures.exact (c.args.left - 1)).is)))))) (grown_as c.moved.ensures.numbers c.in_ok-inner-2.ensures.is.1)
+    asks_same (λ v x. reads_ref {m = r.neg_rule c.args.asks} (reads_right (is_a class.Not) refl refl (sym c.if-next_is.ensures) (reads_left (is_a class.Open) refl refl (sym c.if-next_is-2.ensures) x))) (λ e x. stop_ref {m = r.neg_rule c.args.asks} (stop_right (is_a class.Not) refl refl (sym c.if-next_is.ensures) (stop_left (is_a class.Open) refl refl (sym c.if-next_is-2.ensures) x))) c.nested.ensures
 
 pub neg-returns : goal.neg-returns
 neg-returns measure c =
     asks_same (λ v x. reads_ref {m = r.neg_rule c.args.asks} (reads_right (is_a class.Not) refl refl (sym c.if-next_is.ensures) (reads_right (is_a class.Open) refl refl (sym c.if-next_is-2.ensures) x))) (λ e x. stop_ref {m = r.neg_rule c.args.asks} (stop_right (is_a class.Not) refl refl (sym c.if-next_is.ensures) (stop_right (is_a class.Open) refl refl (sym c.if-next_is-2.ensures) x))) c.test.ensures
+
+pub negated-returns-in_err-token : goal.negated-returns-in_err-token
+negated-returns-in_err-token measure c =
+    let p = err_from_is_err_and c.from_residual.result c.from_residual.ensures.1 in
+    rw (p.1, p.2) (asks_err (stop_map (c.in_err-token.ensures.err _ _ refl)))
+
+pub negated-returns-in_err-inner : goal.negated-returns-in_err-inner
+negated-returns-in_err-inner measure c =
+    let p = err_from_is_err_and c.from_residual-in_err-inner.result c.from_residual-in_err-inner.ensures.1 in
+    rw (p.1, p.2) (asks_err (stop_map (stop_nest c.in_ok-token.ensures.ok.some c.in_ok-token.ensures.ok.reads c.in_err-inner.ensures.is)))
+
+pub negated-returns : goal.negated-returns
+negated-returns measure c =
+    asks_as (ap (λ (x : model.Test). record { test = x; asked = _ }) c.in_ok-test.ensures.test) (reads_map (reads_nest c.in_ok-token.ensures.ok.some c.in_ok-token.ensures.ok.reads c.in_ok-inner.ensures.is.0)) (grown_as c.in_ok-test.ensures.numbers c.in_ok-inner.ensures.is.1)
+
+pub nested-returns-in_err-token : goal.nested-returns-in_err-token
+nested-returns-in_err-token measure c =
+    let p = err_from_is_err_and c.from_residual.result c.from_residual.ensures.1 in
+    rw (p.1, p.2) (asks_err (stop_map (c.in_err-token.ensures.err _ _ refl)))
+
+pub nested-returns-in_err-inner : goal.nested-returns-in_err-inner
+nested-returns-in_err-inner measure c =
+    let p = err_from_is_err_and c.from_residual-in_err-inner.result c.from_residual-in_err-inner.ensures.1 in
+    rw (p.1, p.2) (asks_err (stop_map (stop_nest c.in_ok-token.ensures.ok.some c.in_ok-token.ensures.ok.reads (stop_map (stop_first refl refl c.in_err-inner.ensures.is)))))
+
+pub nested-returns-in_err-_close : goal.nested-returns-in_err-_close
+nested-returns-in_err-_close measure c =
+    let p = err_from_is_err_and c.from_residual-in_err-_close.result c.from_residual-in_err-_close.ensures.1 in
+    rw (p.1, p.2) (asks_err (stop_map (stop_nest c.in_ok-token.ensures.ok.some c.in_ok-token.ensures.ok.reads (stop_map (stop_second refl c.in_ok-inner.ensures.is.0 (c.in_err-_close.ensures.exact (c.args.left - 1)).is)))))
+
+pub nested-returns : goal.nested-returns
+nested-returns measure c =
+    asks_as (ap (λ (x : model.Test). record { test = x; asked = _ }) c.moved.ensures.test) (reads_map (reads_nest c.in_ok-token.ensures.ok.some c.in_ok-token.ensures.ok.reads (reads_before refl c.in_ok-inner.ensures.is.0 (c.in_ok-_close.ensures.exact (c.args.left - 1)).is))) (grown_as c.moved.ensures.numbers c.in_ok-inner.ensures.is.1)
 
 pub test-returns-in_err-value : goal.test-returns-in_err-value
 test-returns-in_err-value measure c =

@@ -20,26 +20,38 @@ decreases-tail l = 16 * l.left + 2
 abbrev pub decreases-test : goal.decreases-test
 decreases-test l = 16 * l.left + 3
 
+abbrev pub decreases-negated : goal.decreases-negated
+decreases-negated l = 16 * l.left + 4
+
+abbrev pub decreases-nested : goal.decreases-nested
+decreases-nested l = 16 * l.left + 5
+
 abbrev pub decreases-neg : goal.decreases-neg
-decreases-neg l = 16 * l.left + 4
+decreases-neg l = 16 * l.left + 6
+
+abbrev pub decreases-and_neg : goal.decreases-and_neg
+decreases-and_neg l = 16 * l.left + 7
 
 abbrev pub decreases-conj : goal.decreases-conj
-decreases-conj l = 16 * l.left + 5
+decreases-conj l = 16 * l.left + 8
+
+abbrev pub decreases-or_conj : goal.decreases-or_conj
+decreases-or_conj l = 16 * l.left + 9
 
 abbrev pub decreases-cond : goal.decreases-cond
-decreases-cond l = 16 * l.left + 6
+decreases-cond l = 16 * l.left + 10
 
 abbrev pub decreases-where_part : goal.decreases-where_part
-decreases-where_part l = 16 * l.left + 7
+decreases-where_part l = 16 * l.left + 11
 
 abbrev pub decreases-subquery : goal.decreases-subquery
-decreases-subquery l = 16 * l.left + 8
+decreases-subquery l = 16 * l.left + 12
 
 abbrev pub decreases-any_set : goal.decreases-any_set
-decreases-any_set l = 16 * l.left + 9
+decreases-any_set l = 16 * l.left + 13
 
 abbrev pub decreases-set : goal.decreases-set
-decreases-set l = 16 * l.left + 10
+decreases-set l = 16 * l.left + 14
 
 abbrev pub invariant-conj-loop-self : goal.invariant-conj-loop-self
 invariant-conj-loop-self l = record {

@@ -35,7 +35,7 @@ returns-in_err-star c =
 
 pub returns-then-next_is : goal.returns-then-next_is
 returns-then-next_is c =
-    given_as (ap (λ is. (Some c.in_ok-star.star.now.at , map item_of is)) c.new-items.ensures) (reads_left (is_a class.Star) refl refl (sym c.if-next_is.ensures) (reads_map (c.in_ok-star.ensures.exact c.args.left).is))
+    given_as (ap (λ is. (Some c.in_ok-star.star.now.at, map item_of is)) c.new-items.ensures) (reads_left (is_a class.Star) refl refl (sym c.if-next_is.ensures) (reads_map (c.in_ok-star.ensures.exact c.args.left).is))
 
 pub returns-in_err-items : goal.returns-in_err-items
 returns-in_err-items c =
