@@ -7,12 +7,23 @@
 
 mod fault;
 mod keyword;
+mod length;
+mod lexer;
+mod numbers;
+mod piece;
+mod starts;
 mod symbol;
 mod token;
 mod tokens;
+mod words;
 
 pub use fault::LexFault;
 pub use keyword::Keyword;
+pub use length::{LONGEST_QUERY, TooLong, check_length};
+pub use lexer::lex;
 pub use symbol::Symbol;
 pub use token::{Token, TokenKind};
 pub use tokens::Tokens;
+
+#[cfg(test)]
+mod tests;

@@ -1,0 +1,12 @@
+pub mod Numbering
+pub mod Quoting
+pub mod Finding
+pub mod Boundaries
+pub mod Fields
+pub mod Naming
+pub mod Signs
+pub mod Starting
+pub mod Deciding
+pub mod Reading
+pub mod Advancing
+pub mod Ending
