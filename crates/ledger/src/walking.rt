@@ -86,3 +86,70 @@ fn walk_body<D: Disk>(
     check_payload(disk, ledger, &mut reader)?;
     Ok(length)
 }
+/// Looks at the pair at a place of a ledger of so many bytes: there is none where its gate is closed.
+fn walk_pair<D: Disk>(disk: &mut D, ledger: &Name, place: u64, size: u64) -> Result<Option<LastEntry>, LedgerRefused>
+    requires low { size ≤ 2 ^ 62 }
+    requires within { place + 2 ≤ size }
+    ensures walks { (file : List ℕ) → Holds (D.state disk.old) ledger.now file → size ≡ length file → MatchResult result (FindsPair (drop place file) place) (RefusedPair (drop place file) place) }
+    ensures low { IfOk result (λ found. IfSome found (λ last. (last.pair ≡ place) × (last.payload ≡ place + 10) × (place + 12 + last.length ≤ size))) }
+    ensures rests { Rests (D.state disk.old) (D.state disk.new) }
+    ensures reason { HasReason (D.faults disk.old) (D.faults disk.new) result }
+{
+    let mut pair = [0; 2];
+    EntryReader::new(place, size).take(disk, ledger, &mut pair)?;
+    if pair[0] != OPEN {
+        return Ok(None);
+    }
+    let length = walk_body(disk, ledger, place + 2, size)?;
+    Ok(Some(LastEntry {
+        pair: place,
+        payload: place + 10,
+        length,
+        done: pair[1] == DONE,
+    }))
+}
+
+/// Walks over the pairs behind the mark of a ledger of so many bytes.
+fn walk_pairs<D: Disk>(disk: &mut D, ledger: &Name, size: u64) -> Result<End, LedgerRefused>
+    requires low { size ≤ 2 ^ 62 }
+    requires some { 18 < size }
+    ensures walks { (file : List ℕ) → Holds (D.state disk.old) ledger.now file → size ≡ length file → take 16 file ≡ mark → MatchResult result (IsEnd file) (RefusedLedger file) }
+    ensures rests { Rests (D.state disk.old) (D.state disk.new) }
+    ensures reason { HasReason (D.faults disk.old) (D.faults disk.new) result }
+{
+    let mut end = End {
+        entries: 0,
+        last: None,
+        pair: 16,
+    };
+    while let Some(found) = walk_pair(disk, ledger, end.pair, size)? {
+        end = End {
+            entries: end.entries + 1,
+            last: Some(found),
+            pair: found.payload + found.length,
+        };
+    }
+    Ok(end)
+}
+
+/// Walks over a ledger, and says where it ends. A ledger of at most 18 bytes has no entries.
+pub fn walk<D: Disk>(disk: &mut D, ledger: &Name) -> Result<End, LedgerRefused>
+    ensures walks { (file : List ℕ) → Holds (D.state disk.old) ledger.now file → MatchResult result (IsEnd file) (RefusedLedger file) }
+    ensures rests { Rests (D.state disk.old) (D.state disk.new) }
+    ensures reason { HasReason (D.faults disk.old) (D.faults disk.new) result }
+{
+    let size = disk.length(ledger)?;
+    if size <= 18 {
+        return Ok(End {
+            entries: 0,
+            last: None,
+            pair: 16,
+        });
+    }
+    let mut mark = [0; 16];
+    EntryReader::new(0, size).take(disk, ledger, &mut mark)?;
+    if mark != MARK {
+        return Err(damaged(0));
+    }
+    walk_pairs(disk, ledger, size)
+}
