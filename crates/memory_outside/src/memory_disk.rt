@@ -70,6 +70,7 @@ impl MemoryDisk {
         ensures ok { OnOk result (Adds (disk_schedule self.old) (disk_schedule self.new) call) }
         ensures err { OnErr result (IsSame (disk_schedule self.old) (disk_schedule self.new)) }
         ensures files { KeepsFiles self.old self.new }
+        ensures faults { disk_faults self.new ≡ disk_faults self.old }
     {
         self.schedule.fail(call)
     }
@@ -79,6 +80,7 @@ impl MemoryDisk {
         ensures stop { disk_stop self.new ≡ Some (min ((disk_schedule self.old).calls + calls) (2 ^ 64 - 1)) }
         ensures schedule { disk_schedule self.new ≡ disk_schedule self.old }
         ensures files { KeepsFiles self.old self.new }
+        ensures faults { disk_faults self.new ≡ disk_faults self.old }
     {
         self.stop = Some(self.schedule.calls.saturating_add(calls));
     }
@@ -93,6 +95,7 @@ impl MemoryDisk {
         ensures stop { OnOk result (disk_stop self.new ≡ None) }
         ensures err { OnErr result (KeepsFiles self.old self.new × (disk_stop self.new ≡ disk_stop self.old)) }
         ensures schedule { disk_schedule self.new ≡ disk_schedule self.old }
+        ensures faults { disk_faults self.new ≡ disk_faults self.old }
     {
         let image = image_of(
             self.alloc,
