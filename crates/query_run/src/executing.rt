@@ -50,6 +50,7 @@ fn first_writer<F: Shape + Drop, P: Picker + Drop>(
     Ok(Writer {
         shape,
         picker,
+        values: ValueList::new(alloc),
         row: ValueList::new(alloc),
         buffer,
         taken: 0,

@@ -16,7 +16,7 @@ pub trait Picker {
     /// The output row that a record gives, if it gives one.
     ghost picks: { Self → Found → Option (List Value) };
 
-    /// Makes the output row of a record in `row`, and tells whether there is one.
+    /// Makes the output row of a record in `row`, and tells whether there is one. `values` is room for the record's own values.
     fn pick(
         &self,
         alloc: Global,
@@ -25,6 +25,7 @@ pub trait Picker {
         columns: &Option<Columns>,
         line: &[u8],
         fields: &Fields,
+        values: &mut ValueList,
         row: &mut ValueList,
     ) -> Result<bool, AllocError>
         requires { number < 2 ^ 63 }
@@ -46,6 +47,7 @@ impl Picker for EveryRow {
         columns: &Option<Columns>,
         line: &[u8],
         fields: &Fields,
+        _values: &mut ValueList,
         row: &mut ValueList,
     ) -> Result<bool, AllocError> {
         make_row(alloc, identity, number, line, fields, row)?;

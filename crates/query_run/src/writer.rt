@@ -8,7 +8,9 @@ use lp_values::{Bytes, ValueList};
 pub struct Writer<F, P> {
     pub shape: F,
     pub picker: P,
-    /// The row at hand.
+    /// Room for the values of the record at hand.
+    pub values: ValueList,
+    /// The output row at hand.
     pub row: ValueList,
     /// The end of the text, which isn't written yet.
     pub buffer: Bytes,

@@ -37,6 +37,7 @@ impl<F: Shape + Drop, P: Picker + Drop, S: Sink> Taker<S> for Writer<F, P> {
             columns,
             line,
             fields,
+            &mut self.values,
             &mut self.row,
         );
         match picked {

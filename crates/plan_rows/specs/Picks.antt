@@ -1,0 +1,47 @@
+-- What a plan makes of a record.
+use Rattle.std.specs.Prelude.{ℕ, ◌+◌, Bool, true, false, pos, List, [], ◌∷◌, get_or, Option, Some, None}
+use Rattle.std.specs.List.{slice_get}
+use Rattle.lp_model.specs.Reading.{Slots}
+use Rattle.lp_values.specs.declared.value.Value.{Value}
+use Rattle.lp_values.specs.declared.value.Value.TheVariants.{Null, Int, Text}
+use Rattle.log_reading.specs.Found.{Found}
+use Rattle.slot_reading.specs.declared.reading.Reading.{Reading}
+use Rattle.slot_reading.specs.Slots.{value_of}
+use Rattle.query_types.specs.declared.meaning.Meaning.{Meaning}
+use Rattle.query_types.specs.Conditions.{Filter}
+use Rattle.row_engine.specs.Rows.{keeps, selected_in}
+
+abbrev pub held : Option (Option (List ℕ)) → Option (List ℕ)
+held None = None
+held (Some slot) = slot
+
+-- the field at a place, none where the record lacks it
+abbrev pub slot_at : Slots → ℕ → Option (List ℕ)
+slot_at slots k = held (slice_get slots k)
+
+-- the values of a record's fields from a place on, each read as its column is; a field that the record lacks is NULL
+abbrev pub fields_read : List Reading → Slots → ℕ → List Value
+fields_read [] slots at = []
+fields_read (reading ∷ readings) slots at = value_of reading (slot_at slots at) ∷ fields_read readings slots (at + 1)
+
+-- the row of a record: its log, its number, and its fields
+abbrev pub table_row : List Reading → Found → List Value
+table_row readings found = Text found.identity ∷ Int (pos found.row.number) ∷ fields_read readings found.row.slots 0
+
+abbrev pub if_kept : Bool → List Value → Option (List Value)
+if_kept true row = Some row
+if_kept false row = None
+
+-- the output row of a record, if its condition is Yes
+abbrev pub plan_picks : List Reading → List Meaning → Option Filter → Found → Option (List Value)
+plan_picks readings items condition found = let row = table_row readings found in if_kept (keeps condition row) (selected_in row items)
+
+-- a value where it is used, else NULL
+abbrev pub if_used : Bool → Value → Value
+if_used true value = value
+if_used false value = Null
+
+-- a row from a place on, with NULL for each value that isn't used
+abbrev pub masked : List Bool → List Value → ℕ → List Value
+masked used [] at = []
+masked used (value ∷ values) at = if_used (get_or used at false) value ∷ masked used values (at + 1)

@@ -1,0 +1,11 @@
+//! A plan as a picker of rows: a record's fields are read into the values of the table's row, and the plan makes of them an
+//! output row or nothing.
+//!
+//! To the crate above: [`PlanPicker`] picks exactly what `specs::Picks` says of the record's whole row, though it reads
+//! only the columns that the plan uses.
+#![tactic(auto)]
+
+mod picking;
+mod row;
+
+pub use picking::{PlanPicker, ReadingList};

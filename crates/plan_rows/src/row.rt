@@ -1,0 +1,97 @@
+// The row of a record, as far as a plan uses it.
+ghost use Rattle.std.specs.Prelude.{◌≡◌, ◌<◌, ◌+◌, ◌^◌, ◌∷◌, ◌++◌, [], false, get_or, pos, OnOk, IfOk, option_copied, option_map};
+ghost use Rattle.line_input.specs.Taken.{slots_of, slot_bytes};
+ghost use Rattle.slot_reading.specs.Slots.{value_of};
+ghost use Rattle.plan_rows.specs.Picks.{fields_read, held, if_used, masked, table_row};
+ghost use Rattle.lp_values.specs.declared.value.Value.TheVariants as V;
+
+use crate::ReadingList;
+use line_input::{Fields, Slot};
+use lp_outside::Name;
+use lp_values::{Text, Value, ValueList};
+use query_types::Plan;
+use slot_reading::{Reading, read_slot};
+use std::alloc::{AllocError, Global};
+
+// The value of a field, where it is used.
+fn field_value(
+    alloc: Global,
+    used: bool,
+    reading: &Reading,
+    line: &[u8],
+    slot: Option<&Slot>,
+) -> Result<Value, AllocError>
+    ensures { IfOk result (λ value. value ≡ if_used used (value_of reading.now (held (option_map (slot_bytes line.now) (option_copied slot))))) }
+{
+    if !used {
+        return Ok(Value::Null);
+    }
+    match slot {
+        None => read_slot(alloc, reading, None),
+        Some(slot) => read_slot(alloc, reading, slot.bytes(line)),
+    }
+}
+
+// The log's name, where it is used.
+fn name_value(alloc: Global, used: bool, name: &Name) -> Result<Value, AllocError>
+    ensures { IfOk result (λ value. value ≡ if_used used (V.Text name.now)) }
+{
+    if used {
+        Ok(Value::Text(Text::from_str(alloc, name.as_str())?))
+    } else {
+        Ok(Value::Null)
+    }
+}
+
+// The record's number, where it is used.
+fn number_value(used: bool, number: u64) -> Value
+    requires { number < 2 ^ 63 }
+    ensures { result ≡ if_used used (V.Int (pos number)) }
+{
+    if used {
+        Value::Int(number as i64)
+    } else {
+        Value::Null
+    }
+}
+
+// Adds the values of the fields that are used.
+fn add_fields(
+    alloc: Global,
+    plan: &Plan,
+    readings: &ReadingList,
+    line: &[u8],
+    fields: &Fields,
+    values: &mut ValueList,
+) -> Result<(), AllocError>
+    ensures { OnOk result (values.new ≡ values.old ++ masked plan.now.used (fields_read readings.now (slots_of line.now fields.now) 0) 2) }
+{
+    let mut index = 0;
+    for reading in readings.as_slice() {
+        let used = plan.uses(index + 2);
+        let value = field_value(alloc, used, reading, line, fields.get(index))?;
+        values.push(value)?;
+        index += 1;
+    }
+    Ok(())
+}
+
+/// Puts a record's row into `values`, with NULL for each column that the plan doesn't use.
+pub fn read_row(
+    alloc: Global,
+    plan: &Plan,
+    readings: &ReadingList,
+    identity: &Name,
+    number: u64,
+    line: &[u8],
+    fields: &Fields,
+    values: &mut ValueList,
+) -> Result<(), AllocError>
+    requires { number < 2 ^ 63 }
+    ensures { OnOk result (values.new ≡ masked plan.now.used (V.Text identity.now ∷ V.Int (pos number) ∷ fields_read readings.now (slots_of line.now fields.now) 0) 0) }
+{
+    values.clear();
+    values.push(name_value(alloc, plan.uses(0), identity)?)?;
+    values.push(number_value(plan.uses(1), number))?;
+    add_fields(alloc, plan, readings, line, fields, values)
+}

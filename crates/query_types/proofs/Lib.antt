@@ -1,0 +1,6 @@
+mod Answering
+mod Lists
+mod Parts
+mod Steps
+mod Using
+mod Whole

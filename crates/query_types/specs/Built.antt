@@ -1,0 +1,60 @@
+-- Which queries can be run so far: those without a call, TIMESTAMP, CASE, LIKE, subqueries, TOP, DISTINCT, groups, an order, and an INTO file.
+use Rattle.std.specs.Prelude.{Bool, true, false, not, ◌&&◌, List, [], ◌∷◌, codes, Option, Some, None}
+use Rattle.std.specs.List.{list_all}
+use Rattle.std.specs.Option.{is_none}
+use Rattle.std.specs.Str.{str_eq_ignore_ascii_case}
+use Rattle.grammar.specs.Trees.{Tree, Trees, no_trees, more_trees, Test, Item, Placed, Parts, Query}
+use Rattle.grammar.specs.Trees.{Tree as tree}
+use Rattle.grammar.specs.Trees.{Test as test}
+use Rattle.grammar.specs.Trees.{Query as query}
+
+abbrev pub is_plain : Tree → Bool
+is_plain (tree.Integer at value) = true
+is_plain (tree.Real at value) = true
+is_plain (tree.Text at value) = true
+is_plain (tree.Null at) = true
+is_plain (tree.Timestamp at value pattern) = false
+is_plain (tree.Word at name) = true
+is_plain (tree.Call at name arguments) = false
+is_plain (tree.CountAll at) = false
+is_plain (tree.PropCountAll at) = false
+is_plain (tree.Case at subject branches otherwise) = false
+
+abbrev pub are_plain : Trees → Bool
+are_plain no_trees = true
+are_plain (more_trees e es) = is_plain e && are_plain es
+
+abbrev pub is_plain_test : Test → Bool
+is_plain_test (test.Or at a b) = is_plain_test a && is_plain_test b
+is_plain_test (test.And at a b) = is_plain_test a && is_plain_test b
+is_plain_test (test.Not at a) = is_plain_test a
+is_plain_test (test.Compare at sign left right) = is_plain left && is_plain right
+is_plain_test (test.IsNull at value negated) = is_plain value
+is_plain_test (test.Like at value pattern negated) = false
+is_plain_test (test.Between at value low high negated) = is_plain value && is_plain low && is_plain high
+is_plain_test (test.InList at value items negated) = is_plain value && are_plain items
+is_plain_test (test.InQuery at value negated) = false
+
+abbrev pub is_plain_where : Option Test → Bool
+is_plain_where None = true
+is_plain_where (Some condition) = is_plain_test condition
+
+abbrev pub are_plain_items : List Item → Bool
+are_plain_items items = list_all (λ item. is_plain item.value) items
+
+-- no INTO, or INTO STDOUT
+abbrev pub is_standard : Option Placed → Bool
+is_standard None = true
+is_standard (Some name) = str_eq_ignore_ascii_case name.text (codes "STDOUT")
+
+abbrev pub has_none : {A : Type 0} → List A → Bool
+has_none [] = true
+has_none (x ∷ xs) = false
+
+-- the parts of a query that can be run
+abbrev pub are_built : Parts → Bool
+are_built parts = is_none parts.top && not parts.distinct && are_plain_items parts.items && are_plain_items parts.aliases && is_standard parts.into
+    && is_plain_where parts.condition && has_none parts.keys && is_none parts.having && has_none parts.order
+
+abbrev pub is_built : Query → Bool
+is_built (query.query parts subqueries) = are_built parts

@@ -1,0 +1,6 @@
+pub mod Meanings
+pub mod Conditions
+pub mod Names
+pub mod Parts
+pub mod Planned
+pub mod Built

@@ -1,0 +1,209 @@
+// What conditions mean where aliases are in force.
+ghost use Rattle.std.specs.Prelude.{◌≡◌, List, map, IfOk};
+ghost use Rattle.grammar.specs.Trees.{Test as test};
+ghost use Rattle.grammar.specs.Trees.{trees_of as listed};
+ghost use Rattle.query_tree.specs.Views.{tree_of, trees_of, test_of, number_of};
+ghost use Rattle.query_types.specs.Meanings.{Answers};
+ghost use Rattle.query_types.specs.Meanings.{fits as kinds_fit};
+ghost use Rattle.query_types.specs.Conditions.{either, both, opposite, filter_of, fitting, all_fitting, filtered};
+
+use crate::alias::Alias;
+use crate::expressions::meant;
+use crate::{Condition, Meaning, MeaningList, TableColumns, TypeFault};
+use lp_values::{Compare, Kind};
+use query_tree::{Cond, Expr, ExprList};
+use std::alloc::{AllocError, Global};
+
+// Whether two kinds fit: where they are equal, one is Any, or both are numbers.
+fn fits(left: Kind, right: Kind) -> bool
+    ensures { result ≡ kinds_fit left right }
+{
+    match (left, right) {
+        (Kind::Any, _) | (_, Kind::Any) => true,
+        (Kind::Integer | Kind::Real, Kind::Integer | Kind::Real) => true,
+        (Kind::Text, Kind::Text) => true,
+        (Kind::Stamp, Kind::Stamp) => true,
+        _ => false,
+    }
+}
+
+// A right side, whose kind has to fit.
+fn fitting(
+    alloc: Global,
+    table: &TableColumns,
+    aliases: &[Alias],
+    kind: Kind,
+    right: &Expr,
+) -> Result<Meaning, TypeFault>
+    ensures { Answers (λ meaning. meaning) result (fitting table.now aliases.now kind (tree_of right.now)) }
+{
+    let meaning = meant(alloc, table, aliases, right)?;
+    if fits(kind, meaning.kind(table)) {
+        Ok(meaning)
+    } else {
+        Err(TypeFault::KindMismatch { at: right.place() })
+    }
+}
+
+// The values of an IN.
+fn all_fitting(
+    alloc: Global,
+    table: &TableColumns,
+    aliases: &[Alias],
+    kind: Kind,
+    items: &ExprList,
+) -> Result<MeaningList, TypeFault>
+    ensures { Answers (λ meanings. meanings) result (all_fitting table.now aliases.now kind (listed (trees_of items.now))) }
+{
+    let mut meanings = MeaningList::new(alloc);
+    for item in &items.items {
+        let meaning = fitting(alloc, table, aliases, kind, item)?;
+        meanings.push(meaning)?;
+    }
+    Ok(meanings)
+}
+
+// A comparison of two sides.
+fn compared(
+    alloc: Global,
+    table: &TableColumns,
+    aliases: &[Alias],
+    how: Compare,
+    left: &Expr,
+    right: &Expr,
+) -> Result<Condition, TypeFault>
+    ensures { Answers filter_of result (filtered table.now aliases.now (test.Compare 0 (number_of how) (tree_of left.now) (tree_of right.now))) }
+{
+    let left = meant(alloc, table, aliases, left)?;
+    let right = fitting(alloc, table, aliases, left.kind(table), right)?;
+    Ok(Condition::Compare { how, left, right })
+}
+
+// A test between two values.
+fn between(
+    alloc: Global,
+    table: &TableColumns,
+    aliases: &[Alias],
+    value: &Expr,
+    low: &Expr,
+    high: &Expr,
+    negated: bool,
+) -> Result<Condition, TypeFault>
+    ensures { Answers filter_of result (filtered table.now aliases.now (test.Between 0 (tree_of value.now) (tree_of low.now) (tree_of high.now) negated)) }
+{
+    let value = meant(alloc, table, aliases, value)?;
+    let kind = value.kind(table);
+    let low = fitting(alloc, table, aliases, kind, low)?;
+    let high = fitting(alloc, table, aliases, kind, high)?;
+    Ok(Condition::Between {
+        value,
+        low,
+        high,
+        negated,
+    })
+}
+
+// A test among values.
+fn within(
+    alloc: Global,
+    table: &TableColumns,
+    aliases: &[Alias],
+    value: &Expr,
+    items: &ExprList,
+    negated: bool,
+) -> Result<Condition, TypeFault>
+    ensures { Answers filter_of result (filtered table.now aliases.now (test.InList 0 (tree_of value.now) (listed (trees_of items.now)) negated)) }
+{
+    let value = meant(alloc, table, aliases, value)?;
+    let items = all_fitting(alloc, table, aliases, value.kind(table), items)?;
+    Ok(Condition::Within {
+        value,
+        items,
+        negated,
+    })
+}
+
+// The first or the second.
+fn or(alloc: Global, left: Condition, right: Condition) -> Result<Condition, AllocError>
+    ensures { IfOk result (λ condition. filter_of condition ≡ either (filter_of left) (filter_of right)) }
+{
+    let left = Box::new(alloc, left)?;
+    let right = Box::new(alloc, right)?;
+    Ok(Condition::Or(left, right))
+}
+
+// The first and the second.
+fn and(alloc: Global, left: Condition, right: Condition) -> Result<Condition, AllocError>
+    ensures { IfOk result (λ condition. filter_of condition ≡ both (filter_of left) (filter_of right)) }
+{
+    let left = Box::new(alloc, left)?;
+    let right = Box::new(alloc, right)?;
+    Ok(Condition::And(left, right))
+}
+
+// Not the condition.
+fn not(alloc: Global, inner: Condition) -> Result<Condition, AllocError>
+    ensures { IfOk result (λ condition. filter_of condition ≡ opposite (filter_of inner)) }
+{
+    let inner = Box::new(alloc, inner)?;
+    Ok(Condition::Not(inner))
+}
+
+/// What a condition means, or its first fault from the left.
+pub fn filtered(
+    alloc: Global,
+    table: &TableColumns,
+    aliases: &[Alias],
+    test: &Cond,
+) -> Result<Condition, TypeFault>
+    ensures { Answers filter_of result (filtered table.now aliases.now (test_of test.now)) }
+{
+    match test {
+        Cond::Or { at: _, left, right } => {
+            let left = filtered(alloc, table, aliases, left)?;
+            let right = filtered(alloc, table, aliases, right)?;
+            Ok(or(alloc, left, right)?)
+        }
+        Cond::And { at: _, left, right } => {
+            let left = filtered(alloc, table, aliases, left)?;
+            let right = filtered(alloc, table, aliases, right)?;
+            Ok(and(alloc, left, right)?)
+        }
+        Cond::Not { at: _, inner } => {
+            let inner = filtered(alloc, table, aliases, inner)?;
+            Ok(not(alloc, inner)?)
+        }
+        Cond::Compare {
+            at: _,
+            how,
+            left,
+            right,
+        } => compared(alloc, table, aliases, *how, left, right),
+        Cond::IsNull {
+            at: _,
+            value,
+            negated,
+        } => {
+            let value = meant(alloc, table, aliases, value)?;
+            Ok(Condition::IsNull {
+                value,
+                negated: *negated,
+            })
+        }
+        Cond::Between {
+            at: _,
+            value,
+            low,
+            high,
+            negated,
+        } => between(alloc, table, aliases, value, low, high, *negated),
+        Cond::InList {
+            at: _,
+            value,
+            items,
+            negated,
+        } => within(alloc, table, aliases, value, items, *negated),
+        Cond::Like { at, .. } => Err(TypeFault::UnknownFunction { at: *at }),
+        Cond::InQuery { at, .. } => Err(TypeFault::UnknownFunction { at: *at }),
+    }
+}

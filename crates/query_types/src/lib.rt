@@ -1,0 +1,28 @@
+//! What a query means over a table: its names replaced by columns, its kinds judged, its faults found in their order.
+//!
+//! To the crates above: [`plan`] answers exactly the plan that `specs::Planned` gives a query and a table, or exactly the
+//! first fault of its clauses, with its place. A plan names no column: it holds places in the row, constants, and the
+//! condition over them, so nothing is looked up while rows go by. Calls, groups and orders aren't built yet.
+#![tactic(auto)]
+
+mod alias;
+mod built;
+mod condition;
+mod conditions;
+mod expressions;
+mod fault;
+mod meaning;
+mod naming;
+mod planning;
+mod plans;
+mod selecting;
+mod table;
+mod using_columns;
+
+pub use built::is_built;
+pub use condition::Condition;
+pub use fault::TypeFault;
+pub use meaning::{Meaning, MeaningList};
+pub use planning::plan;
+pub use plans::{KindList, Plan, UsedList};
+pub use table::{NamedKind, NamedKinds, TableColumns};

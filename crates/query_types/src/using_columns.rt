@@ -1,0 +1,95 @@
+// Which columns of a table a query uses.
+ghost use Rattle.std.specs.Prelude.{◌≡◌, ◌||◌, IfOk, option_map};
+ghost use Rattle.query_types.specs.Conditions.{filter_of, is_column, are_column, mentions};
+ghost use Rattle.query_types.specs.Planned.{is_mentioned, used_from};
+
+use crate::{Condition, Meaning, MeaningList, TableColumns, UsedList};
+use std::alloc::{AllocError, Global};
+
+// Whether a meaning is the column at a place.
+fn is_column(index: usize, meaning: &Meaning) -> bool
+    ensures { result ≡ is_column index meaning.now }
+{
+    match meaning {
+        Meaning::Column(place) => *place == index,
+        Meaning::Other => false,
+        Meaning::Constant(_) => false,
+    }
+}
+
+// Whether one of some meanings is the column at a place.
+fn are_column(index: usize, meanings: &MeaningList) -> bool
+    ensures { result ≡ are_column index meanings.now }
+{
+    meanings
+        .as_slice()
+        .iter()
+        .any(|meaning| is_column(index, meaning))
+}
+
+// Whether a condition has the column at a place.
+fn mentions(index: usize, condition: &Condition) -> bool
+    ensures { result ≡ mentions index (filter_of condition.now) }
+{
+    match condition {
+        Condition::Or(left, right) => mentions(index, left) || mentions(index, right),
+        Condition::And(left, right) => mentions(index, left) || mentions(index, right),
+        Condition::Not(inner) => mentions(index, inner),
+        Condition::Compare {
+            how: _,
+            left,
+            right,
+        } => is_column(index, left) || is_column(index, right),
+        Condition::IsNull { value, negated: _ } => is_column(index, value),
+        Condition::Between {
+            value,
+            low,
+            high,
+            negated: _,
+        } => is_column(index, value) || is_column(index, low) || is_column(index, high),
+        Condition::Within {
+            value,
+            items,
+            negated: _,
+        } => is_column(index, value) || are_column(index, items),
+    }
+}
+
+// Whether WHERE has the column at a place.
+fn is_mentioned(index: usize, condition: &Option<Condition>) -> bool
+    ensures { result ≡ is_mentioned index (option_map filter_of condition.now) }
+{
+    match condition {
+        None => false,
+        Some(condition) => mentions(index, condition),
+    }
+}
+
+// Whether an alias of USING, an item or WHERE means the column at a place.
+fn is_used(
+    index: usize,
+    aliased: &MeaningList,
+    items: &MeaningList,
+    condition: &Option<Condition>,
+) -> bool
+    ensures { result ≡ (are_column index aliased.now || are_column index items.now || is_mentioned index (option_map filter_of condition.now)) }
+{
+    are_column(index, aliased) || are_column(index, items) || is_mentioned(index, condition)
+}
+
+/// For each column of a table whether an alias of USING, an item or WHERE means it.
+pub fn used_columns(
+    alloc: Global,
+    table: &TableColumns,
+    aliased: &MeaningList,
+    items: &MeaningList,
+    condition: &Option<Condition>,
+) -> Result<UsedList, AllocError>
+    ensures { IfOk result (λ used. used ≡ used_from 0 table.now.columns aliased.now items.now (option_map filter_of condition.now)) }
+{
+    let mut used = UsedList::new(alloc);
+    for index in 0..table.columns.len() {
+        used.push(is_used(index, aliased, items, condition))?;
+    }
+    Ok(used)
+}

@@ -1,0 +1,12 @@
+//! The values of a plan in a row: whether WHERE keeps the row, and what SELECT makes of it.
+//!
+//! To the crate above: [`passes`] tells exactly whether the condition's three-valued truth is Yes, and [`select_row`] makes
+//! exactly the values of the output columns. Nothing is copied to compare, and only what is selected is copied.
+#![tactic(auto)]
+
+mod conditions;
+mod selecting;
+mod values;
+
+pub use conditions::passes;
+pub use selecting::select_row;
