@@ -26,7 +26,7 @@ fn truth_of(test: bool) -> Truth
 
 // Whether a value is one of some meanings: the OR of the equalities.
 fn among(row: &ValueList, sought: Option<&Value>, items: &MeaningList) -> Truth
-    ensures { result ≡ among row.now (unwrap_or (option_copied sought) Null) items.now }
+    ensures { result ≡ among row.now (unwrap_or (option_copied sought.entry) Null) items.now }
 {
     let mut truth = Truth::No;
     for item in items.as_slice() {
@@ -37,7 +37,7 @@ fn among(row: &ValueList, sought: Option<&Value>, items: &MeaningList) -> Truth
 
 // Whether a value lies between two others.
 fn between(value: Option<&Value>, low: Option<&Value>, high: Option<&Value>) -> Truth
-    ensures { let v = unwrap_or (option_copied value) Null in result ≡ both (comparison Compare.MoreEqual v (unwrap_or (option_copied low) Null)) (comparison Compare.LessEqual v (unwrap_or (option_copied high) Null)) }
+    ensures { let v = unwrap_or (option_copied value.entry) Null in result ≡ both (comparison Compare.MoreEqual v (unwrap_or (option_copied low.entry) Null)) (comparison Compare.LessEqual v (unwrap_or (option_copied high.entry) Null)) }
 {
     and(
         compared(Compare::MoreEqual, value, low),

@@ -31,7 +31,7 @@ pub fn copied(alloc: Global, row: &ValueList, meaning: &Meaning) -> Result<Value
 
 /// Compares two values, of which `None` stands for NULL.
 pub fn compared(how: Compare, left: Option<&Value>, right: Option<&Value>) -> Truth
-    ensures { result ≡ compared how (unwrap_or (option_copied left) Null) (unwrap_or (option_copied right) Null) }
+    ensures { result ≡ compared how (unwrap_or (option_copied left.entry) Null) (unwrap_or (option_copied right.entry) Null) }
 {
     match (left, right) {
         (Some(left), Some(right)) => compare(how, left, right),
@@ -41,7 +41,7 @@ pub fn compared(how: Compare, left: Option<&Value>, right: Option<&Value>) -> Tr
 
 /// Whether a value is NULL, for which `None` stands too.
 pub fn is_null(value: Option<&Value>) -> bool
-    ensures { result ≡ is_null (unwrap_or (option_copied value) Null) }
+    ensures { result ≡ is_null (unwrap_or (option_copied value.entry) Null) }
 {
     match value {
         None | Some(Value::Null) => true,
