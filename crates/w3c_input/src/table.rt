@@ -55,6 +55,12 @@ pub(crate) fn place_of(name: &str) -> Option<usize>
     ensures place { result ≡ place_of name.now }
     ensures within { IfSome result (λ place. place < 22) }
 {
+    place_by_length(name)
+}
+
+fn place_by_length(name: &str) -> Option<usize>
+    ensures { result ≡ place_among (places_of_length (length name.now)) name.now }
+{
     match name.len() {
         4 => place_of_4(name),
         6 => place_of_6(name),
