@@ -1,7 +1,7 @@
 -- The fields of a row that have been met.
-use Rattle.std.proofs.Common.{◌≡◌, ℕ, ◌+◌, ◌-◌, ◌<◌, ◌≤◌, Bool, true, false, cond, ◌==◌, List, [], ◌∷◌, ◌++◌, length, take, drop, replicate, get_or, set, Option, Some, None, option_map, refl, sym, ap, ◌∙◌, subst, inl, inr, arith, rules, tests}
-use Rattle.std.proofs.lemmas.Bool.{cases_Bool, cases_eq, false_from_ne_true, eqb-true}
-use Rattle.std.proofs.lemmas.List.{append-nil, append_assoc, length_push, length-append, length-set, length-replicate, get_or-replicate, get_or-set_same, get_or-set_other, take_more, take_all, length-take-le}
+use Rattle.std.proofs.Common.{◌≡◌, ℕ, suc, ◌+◌, ◌<◌, ◌≤◌, Bool, true, false, cond, ◌==◌, eq-eqb, map, option_and_then, List, [], ◌∷◌, ◌++◌, length, take, drop, replicate, get_or, Option, Some, None, option_map, refl, sym, ap, ◌∙◌, subst, inl, inr, arith, rules, tests}
+use Rattle.std.proofs.lemmas.Bool.{cases_Bool}
+use Rattle.std.proofs.lemmas.List.{append_assoc, length_push, length-set, length-replicate, get_or-replicate, get_or-set_same, get_or-set_other, take_more, length-take-le}
 use Rattle.std.proofs.lemmas.List.Folds.{find-append}
 use Rattle.std.specs.List.{find, zip}
 use Rattle.std.specs.Option.{option_or}
@@ -10,11 +10,12 @@ use Rattle.line_input.specs.declared.extent.Extent.{Extent}
 use Rattle.line_input.specs.declared.gap.Gap.TheVariants.{Blanks}
 use Rattle.line_input.specs.Parts.{is_gap, IsNextPart}
 use Rattle.line_input.specs.Taken.{part_of}
+use Rattle.lp_model.specs.Reading.{Slots, rows}
 use Rattle.slot_reading.specs.Names.{is_same_name}
-use Rattle.w3c_input.specs.Lines.{Column, fields_in, field_named}
+use Rattle.w3c_input.specs.Lines.{Column, fields_in, field_named, slot_of, slots_of, row_reading}
 use Rattle.w3c_input.specs.Places.{place_of, no_extent, extent_field, with_part, HoldsFields}
 use Rattle.w3c_input.specs.Table.{logged_names}
-use Rattle.w3c_input.proofs.TableLemmas.{place_of-named, place_of-some, place_of-none, length-logged_names}
+use Rattle.w3c_input.proofs.TableLemmas.{place_of-named, place_of-some, length-logged_names}
 
 -- ---- one column more
 
@@ -127,26 +128,25 @@ found_more line names at count extents name part found more e next =
         (HoldsFields-more line (zip (take count names) found.fields) extents name part (omega (arith, next.some)) found.holds);
     }
 
--- the row has fewer fields than there are columns
-pub found_short : (line : List ℕ) (names : List (List ℕ)) (at count : ℕ) (extents : List Extent) → Found line names at count extents → count < length names → fields_in (drop at line) ≡ []
-    → length (fields_in line) ≢ length names
-found_short line names at count extents found more none = λ e.
-    let all : fields_in line ≡ found.fields = found.parts ∙ (ap (λ t. found.fields ++ t) none ∙ append-nil found.fields) in
-    absurd (omega (arith, ap length all, found.many, e))
+-- ---- the row
 
--- the row has more fields
-pub found_long : (line : List ℕ) (names : List (List ℕ)) (at count : ℕ) (extents : List Extent) (part : Extent) → Found line names at count extents → count ≡ length names → IsNextPart (is_gap Blanks) line at part
-    → length (fields_in line) ≢ length names
-found_long line names at count extents part found whole next = λ e.
-    let rest : List (List ℕ) = fields_in (drop part.to line) in
-    let all : fields_in line ≡ found.fields ++ (part_of line part.from part.to ∷ rest) = found.parts ∙ ap (λ t. found.fields ++ t) next.parts in
-    absurd (omega (arith, ap length all, length-append found.fields (part_of line part.from part.to ∷ rest), found.many, e))
+map_same : {X Y Z : Type 0} (f : X → Z) (g : Y → Z) (xs : List X) (ys : List Y) (d : X) (e : Y) → length xs ≡ length ys → ((k : ℕ) → k < length xs → f (get_or xs k d) ≡ g (get_or ys k e)) → map f xs ≡ map g ys
+map_same f g [] [] d e same at = refl
+map_same f g [] (y ∷ ys) d e same at = absurd (omega arith)
+map_same f g (x ∷ xs) [] d e same at = absurd (omega arith)
+map_same f g (x ∷ xs) (y ∷ ys) d e same at =
+    let first : f x ≡ g y = at 0 (omega arith) in
+    let rest : map f xs ≡ map g ys = map_same f g xs ys d e (omega arith) (λ k within. at (suc k) (omega arith)) in
+    cc
 
--- it has as many
-pub found_all : (line : List ℕ) (names : List (List ℕ)) (at count : ℕ) (extents : List Extent) → Found line names at count extents → count ≡ length names → fields_in (drop at line) ≡ []
-    → (length (fields_in line) ≡ length names) × HoldsFields line (zip names (fields_in line)) extents
-found_all line names at count extents found whole none =
-    let all : fields_in line ≡ found.fields = found.parts ∙ (ap (λ t. found.fields ++ t) none ∙ append-nil found.fields) in
-    let names_met : take count names ≡ names = take_all count names (omega arith) in
-    (omega (arith, ap length all, found.many),
-     subst (λ (f : List (List ℕ)). HoldsFields line (zip names f) extents) (sym all) (subst (λ (n : List (List ℕ)). HoldsFields line (zip n found.fields) extents) names_met found.holds))
+slots_held : (line : List ℕ) (columns : List Column) (extents : List Extent) → HoldsFields line columns extents → map (λ extent. option_and_then slot_of (extent_field line extent)) extents ≡ slots_of columns
+slots_held line columns extents holds =
+    map_same (λ extent. option_and_then slot_of (extent_field line extent)) (λ name. option_and_then slot_of (field_named columns name)) extents logged_names no_extent [] (omega (arith, holds.size, length-logged_names))
+    (λ k within. ap (option_and_then slot_of) (holds.fields k (omega (arith, holds.size))))
+
+-- the row is what the line is
+pub row_held : (line : List ℕ) (names : List (List ℕ)) (extents : List Extent) (found : List Slots) → length (fields_in line) ≡ length names → HoldsFields line (zip names (fields_in line)) extents
+    → found ≡ map (λ extent. option_and_then slot_of (extent_field line extent)) extents ∷ [] → rows found ≡ row_reading (fields_in line) (Some names)
+row_held line names extents found many holds e =
+    let same : (length (fields_in line) == length names) ≡ true = eq-eqb (length (fields_in line)) (length names) many in
+    rw same (ap rows (e ∙ ap (λ slots. slots ∷ []) (slots_held line (zip names (fields_in line)) extents holds)))

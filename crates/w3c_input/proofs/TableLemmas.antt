@@ -1,14 +1,17 @@
 -- The places of names in the table.
-use Rattle.std.proofs.Common.{◌≡◌, ℕ, suc, zero, ◌+◌, ◌-◌, ◌<◌, ◌≤◌, Bool, true, false, cond, ◌&&◌, ◌||◌, ◌==◌, List, [], ◌∷◌, map, length, filter, get_or, nat_eq, Option, Some, None, option_map, refl, sym, ap, ◌∙◌, subst, inl, inr, arith, rules, tests}
-use Rattle.std.proofs.lemmas.Bool.{cases_Bool, false≢true, false_from_ne_true, and_parts, eqb-true}
+use Rattle.std.proofs.Common.{◌≡◌, ℕ, suc, zero, ◌+◌, ◌<◌, Bool, true, false, ◌&&◌, ◌||◌, ◌==◌, List, [], ◌∷◌, map, length, filter, get_or, nat_eq, Option, Some, None, option_map, slice_get, codes, refl, sym, ap, ◌∙◌, subst, inl, inr, arith, rules, tests}
+use Rattle.std.proofs.lemmas.Bool.{cases_Bool, and_parts, eqb-true}
 use Rattle.std.specs.List.{find, enumerate_from}
 use Rattle.std.specs.Char.{to_ascii_lowercase}
 use Rattle.std.specs.Cmp.Lexicographic.{pointwise}
 use Rattle.std.specs.Prelude.{◌≢◌, IfSome}
 use Rattle.slot_reading.specs.Names.{is_same_name}
-use Rattle.slot_reading.proofs.NameLemmas.{same_spelling, is_same_name-spelled, other_length}
-use Rattle.w3c_input.specs.Table.{logged_names}
-use Rattle.w3c_input.specs.Places.{Place, places, place_among, place_of, places_of_length}
+use Rattle.slot_reading.proofs.NameLemmas.{same_spelling, other_length}
+use Rattle.lp_time.specs.Patterns.{pieces_from}
+use Rattle.slot_reading.specs.declared.reading.Reading.{Reading}
+use Rattle.slot_reading.specs.declared.reading.Reading.TheVariants as R
+use Rattle.w3c_input.specs.Table.{Field, logged_fields, logged_names, reading_of}
+use Rattle.w3c_input.specs.Places.{Place, places, place_among, place_of, places_of_length, reading_at, reading_by}
 
 -- ---- the places of names of one length
 
@@ -158,3 +161,70 @@ place_of-within name = within (place_of name) refl
     within : (r : Option ℕ) → place_of name ≡ r → IfSome r (λ place. place < 22)
     within None e = tt
     within (Some place) e = omega (arith, (place_of-some name place e).0, length-logged_names)
+
+-- ---- how fields are read
+
+pub date_reading : reading_by (codes "yyyy-MM-dd") ≡ reading_at 0
+unfolding reading_at pieces_from
+date_reading = refl
+
+pub time_reading : reading_by (codes "hh:mm:ss") ≡ reading_at 1
+unfolding reading_at pieces_from
+time_reading = refl
+
+names_of : List Field → List (List ℕ)
+names_of fields = map (λ (field : Field). field.name) fields
+
+find_other : (name : List ℕ) (first : Field) (fields : List Field) → is_same_name name first.name ≡ false
+    → find (λ (field : Field). is_same_name name field.name) (first ∷ fields) ≡ find (λ (field : Field). is_same_name name field.name) fields
+find_other name first fields other = rw other refl
+
+found_field : (name : List ℕ) (from : ℕ) (fields : List Field) (place : ℕ) → place_among (enumerate_from from (names_of fields)) name ≡ Some place
+    → (k : ℕ) × ((place ≡ from + k) × (find (λ (field : Field). is_same_name name field.name) fields ≡ slice_get fields k))
+unfolding names_of
+found_field name from [] place e = absurd cc
+found_field name from (first ∷ fields) place e =
+    elim (cases_Bool (is_same_name name first.name)) [
+      | inl same ↦ let there : place ≡ from = let h = place_among-first name first.name from (names_of fields) same in cc in (0, (omega arith, rw same refl))
+      | inr other ↦
+        let more = found_field name (from + 1) fields place (sym (place_among-other name first.name from (names_of fields) other) ∙ e) in
+        (suc more.0, (omega (arith, more.1.0), find_other name first fields other ∙ more.1.1))
+    ]
+
+lost_field : (name : List ℕ) (from : ℕ) (fields : List Field) → place_among (enumerate_from from (names_of fields)) name ≡ None → find (λ (field : Field). is_same_name name field.name) fields ≡ None
+unfolding names_of
+lost_field name from [] e = refl
+lost_field name from (first ∷ fields) e =
+    elim (cases_Bool (is_same_name name first.name)) [
+      | inl same ↦ let h = place_among-first name first.name from (names_of fields) same in absurd cc
+      | inr other ↦ find_other name first fields other ∙ (lost_field name (from + 1) fields (sym (place_among-other name first.name from (names_of fields) other) ∙ e))
+    ]
+
+-- how the field of another name than the first two is read
+other_reading : List ℕ → Option Reading
+other_reading name = option_map (λ (field : Field). field.reading) (find (λ (field : Field). is_same_name name field.name) logged_fields)
+
+reading_of-other : (name : List ℕ) → is_same_name name (codes "LogFilename") ≡ false → is_same_name name (codes "LogRow") ≡ false → reading_of name ≡ other_reading name
+unfolding reading_of other_reading
+reading_of-other name no_log no_row = rw (no_log, no_row) refl
+
+pub reading_of-some : (name : List ℕ) (place : ℕ) → is_same_name name (codes "LogFilename") ≡ false → is_same_name name (codes "LogRow") ≡ false → Some place ≡ place_of name → reading_at place ≡ reading_of name
+unfolding reading_at place_of places logged_names other_reading names_of
+reading_of-some name place no_log no_row e =
+    let found = found_field name 0 logged_fields place (sym e) in
+    let at : place ≡ found.0 = omega (arith, found.1.0) in
+    ap (λ k. option_map (λ (field : Field). field.reading) (slice_get logged_fields k)) at
+    ∙ (ap (option_map (λ (field : Field). field.reading)) (sym found.1.1) ∙ sym (reading_of-other name no_log no_row))
+
+pub reading_of-none : (name : List ℕ) → is_same_name name (codes "LogFilename") ≡ false → is_same_name name (codes "LogRow") ≡ false → None ≡ place_of name → None ≡ reading_of name
+unfolding place_of places logged_names other_reading names_of
+reading_of-none name no_log no_row e =
+    ap (option_map (λ (field : Field). field.reading)) (sym (lost_field name 0 logged_fields (sym e))) ∙ sym (reading_of-other name no_log no_row)
+
+pub log_reading : (name : List ℕ) → is_same_name name (codes "LogFilename") ≡ true → Some R.Text ≡ reading_of name
+unfolding reading_of
+log_reading name is = rw is refl
+
+pub row_reading : (name : List ℕ) → is_same_name name (codes "LogFilename") ≡ false → is_same_name name (codes "LogRow") ≡ true → Some R.Integer ≡ reading_of name
+unfolding reading_of
+row_reading name no_log is = rw (no_log, is) refl

@@ -1,5 +1,5 @@
 -- Lines of logs in the extended log file format of the W3C.
-use Rattle.std.specs.Prelude.{ℕ, Bool, true, false, not, ◌&&◌, ◌||◌, ◌==◌, List, [], ◌∷◌, length, map, take, drop, reverse, codes, nat_lt, if◌then◌else◌, Option, Some, None, option_map, option_and_then, is_some}
+use Rattle.std.specs.Prelude.{ℕ, Bool, false, not, ◌&&◌, ◌||◌, ◌==◌, List, [], ◌∷◌, length, map, take, drop, reverse, codes, nat_lt, if◌then◌else◌, Option, Some, None, option_map, option_and_then, is_some}
 use Rattle.std.specs.List.{find, zip, list_all}
 use Rattle.std.specs.Str.Lossy.{utf8_lossy}
 use Rattle.lp_model.specs.Reading.{Columns, Slots, Format, Reading, passed, bad, rows}

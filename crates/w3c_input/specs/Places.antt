@@ -1,10 +1,13 @@
 -- The places of fields in the table, and where a row's fields stand in its line.
-use Rattle.std.specs.Prelude.{◌≡◌, ◌<◌, ◌==◌, ℕ, List, [], ◌∷◌, length, filter, slice_get, slice_set as set, slice_index_or as get_or, if◌then◌else◌, Option, Some, None, option_map}
+use Rattle.std.specs.Prelude.{◌≡◌, ◌<◌, ◌==◌, ℕ, List, [], length, filter, slice_get, slice_set as set, slice_index_or as get_or, if◌then◌else◌, Option, Some, None, option_map}
+use Rattle.std.specs.Result.{result_ok}
+use Rattle.lp_time.specs.Patterns.{pattern_in}
 use Rattle.std.specs.List.{find, enumerate_from}
 use Rattle.line_input.specs.declared.extent.Extent.{Extent}
 use Rattle.line_input.specs.Taken.{part_of}
 use Rattle.slot_reading.specs.Names.{is_same_name}
 use Rattle.slot_reading.specs.declared.reading.Reading.{Reading}
+use Rattle.slot_reading.specs.declared.reading.Reading.TheVariants.{By}
 use Rattle.w3c_input.specs.Lines.{Column, field_named}
 use Rattle.w3c_input.specs.Table.{Field, logged_fields, logged_names}
 
@@ -25,6 +28,10 @@ place_of name = place_among places name
 -- the places of the names of so many bytes
 unfoldable pub places_of_length : ℕ → List Place
 places_of_length size = filter (λ place. length place.1 == size) places
+
+-- by a pattern
+abbrev pub reading_by : List ℕ → Option Reading
+reading_by text = option_map By (result_ok (pattern_in text))
 
 -- how the field at a place is read
 unfoldable pub reading_at : ℕ → Option Reading

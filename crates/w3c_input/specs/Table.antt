@@ -1,5 +1,5 @@
 -- The fields of IIS logs.
-use Rattle.std.specs.Prelude.{◌≡◌, ℕ, List, [], ◌∷◌, map, drop, codes, Result, Ok, Err, Option, option_map}
+use Rattle.std.specs.Prelude.{ℕ, List, [], ◌∷◌, map, codes, Result, Ok, Err, Option, option_map}
 use Rattle.std.specs.List.{find}
 use Rattle.lp_time.specs.Patterns.{pattern_in}
 use Rattle.lp_time.specs.declared.piece.Piece.{Piece}

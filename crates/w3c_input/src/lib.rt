@@ -9,6 +9,8 @@ mod fields;
 mod reader;
 mod row;
 mod table;
+#[cfg(test)]
+mod tests;
 
 pub use reader::IisW3c;
 pub use table::{iis_names, iis_reading};

@@ -1,5 +1,5 @@
 // Logs in the extended log file format of the W3C, line by line.
-ghost use Rattle.std.specs.Prelude.{◌≡◌, ◌+◌, ◌<◌, ◌^◌, true, false, drop, OnOk, OnErr, IfOk, Some, None, if◌then◌else◌};
+ghost use Rattle.std.specs.Prelude.{◌≡◌, ◌+◌, ◌<◌, ◌^◌, true, false, drop, List, ℕ, OnOk, OnErr, IfOk, Some, None, if◌then◌else◌};
 ghost use Rattle.line_input.specs.Taken.{reading_in};
 ghost use Rattle.lp_model.specs.Reading.{passed, bad};
 ghost use Rattle.w3c_input.specs.Lines.{names_columns, names_of, is_too_many, is_directive, is_of_spaces, w3c_reading, w3c_lines};
@@ -35,7 +35,7 @@ fn take_names(
     text: &[u8],
 ) -> Result<Taken, AllocError>
     requires { standing.old.lines < 2 ^ 63 }
-    ensures reading { IfOk result (λ taken. reading_in text.now taken ≡ (if is_too_many (names_of text.now) then bad else passed)) }
+    ensures reading { IfOk result (λ taken. (line : List ℕ) → reading_in line taken ≡ (if is_too_many (names_of text.now) then bad else passed)) }
     ensures lines { OnOk result (standing.new.lines ≡ standing.old.lines + 1) }
     ensures columns { OnOk result (standing.new.columns ≡ (if is_too_many (names_of text.now) then standing.old.columns else Some (names_of text.now))) }
     ensures err { OnErr result (standing.new ≡ standing.old) }

@@ -2,7 +2,7 @@
 ghost use Rattle.std.specs.Prelude.{◌≡◌, ◌<◌, map, IfSome, length, slice_get, Some};
 ghost use Rattle.slot_reading.specs.Names.{is_same_name};
 ghost use Rattle.w3c_input.specs.Table.{Field, iis_fields, logged_names, reading_of, pattern_of};
-ghost use Rattle.w3c_input.specs.Places.{place_of, place_among, places_of_length, reading_at};
+ghost use Rattle.w3c_input.specs.Places.{place_of, place_among, places_of_length, reading_at, reading_by};
 
 use lp_time::Pattern;
 use slot_reading::{Reading, is_same_name};
@@ -211,19 +211,22 @@ fn place_of_15(name: &str) -> Option<usize>
 }
 
 // How the field at a place is read.
+#[tactic(auto, unfolding(crate::specs::Places::reading_at))]
 fn reading_at(place: usize) -> Option<Reading>
-    requires { place < 22 }
     ensures { result ≡ reading_at place }
 {
     match place {
         0 => by("yyyy-MM-dd"),
         1 => by("hh:mm:ss"),
-        7 | 11..=16 => Some(Reading::Integer),
-        _ => Some(Reading::Text),
+        7 | 11 | 12 | 13 | 14 | 15 | 16 => Some(Reading::Integer),
+        2 | 3 | 4 | 5 | 6 | 8 | 9 | 10 | 17 | 18 | 19 | 20 | 21 => Some(Reading::Text),
+        _ => None,
     }
 }
 
-fn by(pattern: &str) -> Option<Reading> {
+fn by(pattern: &str) -> Option<Reading>
+    ensures { result ≡ reading_by pattern.now }
+{
     Some(Reading::By(Pattern::read(pattern).ok()?))
 }
 
@@ -237,5 +240,8 @@ pub fn iis_reading(name: &str) -> Option<Reading>
     if is_same_name(name, "LogRow") {
         return Some(Reading::Integer);
     }
-    reading_at(place_of(name)?)
+    match place_of(name) {
+        Some(place) => reading_at(place),
+        None => None,
+    }
 }

@@ -1,7 +1,7 @@
 use Rattle.std.proofs.Common.{◌+◌, sym, ap, subst, List, ◌∙◌}
 use Rattle.line_input.specs.declared.extent.Extent.{Extent}
 use Rattle.w3c_input.specs.Places.{place_of, with_part}
-use Rattle.w3c_input.proofs.Columns.{Found, found_more, found_short, found_long, found_all}
+use Rattle.w3c_input.proofs.Columns.{Found, found_more}
 use Rattle.w3c_input.proofs.fields.find_fields.Goals as goal
 
 pub loop-name-preserved : goal.loop-name-preserved
