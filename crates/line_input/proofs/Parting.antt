@@ -46,7 +46,7 @@ front_split gap (b ∷ bs) =
     elim (cases_Bool (gap b)) [
       | inl e ↦ (slice_split gap bs, (rw e refl, rw (e, e) refl))
       | inr e ↦ let more = front_split gap bs in
-        (more.0, (rw (e, one_more, more.1.0) refl, rw (e, one_more) more.1.1))
+          (more.0, (rw (e, one_more, more.1.0) refl, rw (e, one_more) more.1.1))
     ]
 
 first_kept : (gap : ℕ → Bool) (text : List ℕ) (rest : List (List ℕ)) (part : List ℕ) → 0 < length part → filter is_filled rest ≡ filter is_filled (slice_split gap (drop (position_or_len gap text) text))
@@ -82,7 +82,7 @@ next_part_some gap line at from size e same some within =
     let there = behind gap line at from e in
     let cut : (from + size) - from ≡ size = omega arith in
     let first : parts_by gap (drop from line) ≡ take size (drop from line) ∷ parts_by gap (drop size (drop from line)) =
-        subst (λ (n : ℕ). parts_by gap (drop from line) ≡ take n (drop from line) ∷ parts_by gap (drop n (drop from line))) (sym same) (parts_by-first gap (drop from line) (omega arith)) in
+    subst (λ (n : ℕ). parts_by gap (drop from line) ≡ take n (drop from line) ∷ parts_by gap (drop n (drop from line))) (sym same) (parts_by-first gap (drop from line) (omega arith)) in
     record {
       after = omega arith;
       some = omega arith;

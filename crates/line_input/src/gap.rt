@@ -27,9 +27,9 @@ impl Gap {
         }
     }
 
-    // How many bytes at the front part a line.
+    /// How many bytes at the front part a line.
     #[inline]
-    fn gap_length(self, bytes: &[u8]) -> usize
+    pub fn gap_length(self, bytes: &[u8]) -> usize
         ensures length { result ≡ prefix_len (is_gap self) bytes.now }
         ensures fits { result ≤ length bytes.now }
     {
@@ -43,9 +43,9 @@ impl Gap {
         count
     }
 
-    // How many bytes at the front part no line.
+    /// How many bytes at the front part no line.
     #[inline]
-    fn part_length(self, bytes: &[u8]) -> usize
+    pub fn part_length(self, bytes: &[u8]) -> usize
         ensures length { result ≡ position_or_len (is_gap self) bytes.now }
         ensures fits { result ≤ length bytes.now }
     {

@@ -5,7 +5,6 @@ use Rattle.lp_values.specs.declared.part.Part.TheVariants.{Date, Time, Both}
 use Rattle.lp_values.specs.declared.value.Value.{Value}
 use Rattle.lp_values.specs.declared.value.Value.TheVariants.{Null, Stamp}
 use Rattle.lp_values.specs.Moments.{second_of_day}
-
 use Rattle.slot_reading.specs.Existing.{is_stamp, IsStamp-tested}
 
 -- the stamp, where the test says that there is one

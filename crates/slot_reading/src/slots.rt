@@ -68,7 +68,11 @@ fn clf_value(bytes: &[u8]) -> Value
 
 /// The value of a field: NULL where the log has none, or where its bytes don't read. Bytes that are no UTF-8 are no
 /// numbers and no times; in a text they are repaired.
-pub fn read_slot(alloc: Global, reading: &Reading, bytes: Option<&[u8]>) -> Result<Value, AllocError>
+pub fn read_slot(
+    alloc: Global,
+    reading: &Reading,
+    bytes: Option<&[u8]>,
+) -> Result<Value, AllocError>
     ensures { IfOk result (λ value. value ≡ value_of reading.now (option_map (λ s. s.now) bytes.entry)) }
 {
     let Some(bytes) = bytes else {

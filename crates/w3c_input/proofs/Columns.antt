@@ -8,11 +8,11 @@ use Rattle.std.specs.Option.{option_or}
 use Rattle.std.specs.Prelude.{◌≢◌}
 use Rattle.line_input.specs.declared.extent.Extent.{Extent}
 use Rattle.line_input.specs.declared.gap.Gap.TheVariants.{Blanks}
-use Rattle.line_input.specs.Parts.{is_gap, IsNextPart}
+use Rattle.line_input.specs.Parts.{is_gap, field_of, IsNextPart}
 use Rattle.line_input.specs.Taken.{part_of}
 use Rattle.lp_model.specs.Reading.{Slots, rows}
 use Rattle.slot_reading.specs.Names.{is_same_name}
-use Rattle.w3c_input.specs.Lines.{Column, fields_in, field_named, slot_of, slots_of, row_reading}
+use Rattle.w3c_input.specs.Lines.{Column, fields_in, field_named, slots_of, row_reading}
 use Rattle.w3c_input.specs.Places.{place_of, no_extent, extent_field, with_part, HoldsFields}
 use Rattle.w3c_input.specs.Table.{logged_names}
 use Rattle.w3c_input.proofs.TableLemmas.{place_of-named, place_of-some, length-logged_names}
@@ -55,12 +55,12 @@ same_field : (line : List ℕ) (extents : List Extent) (part : Extent) (k : ℕ)
 same_field line extents part k before within some e =
     elim (cases_Bool ((get_or extents k no_extent).to == 0)) [
       | inl none ↦
-        let filled : (part.to == 0) ≡ false = search (rules, tests) in
-        let nothing : before ≡ None = sym e ∙ rw none refl in
-        rw (none, get_or-set_same extents k part no_extent within, filled, nothing) refl
+          let filled : (part.to == 0) ≡ false = search (rules, tests) in
+          let nothing : before ≡ None = sym e ∙ rw none refl in
+          rw (none, get_or-set_same extents k part no_extent within, filled, nothing) refl
       | inr met ↦
-        let something : before ≡ Some (part_of line (get_or extents k no_extent).from (get_or extents k no_extent).to) = sym e ∙ rw met refl in
-        rw (met, met, something) refl
+          let something : before ≡ Some (part_of line (get_or extents k no_extent).from (get_or extents k no_extent).to) = sym e ∙ rw met refl in
+          rw (met, met, something) refl
     ]
 
 HoldsFields-more : (line : List ℕ) (columns : List Column) (extents : List Extent) (name : List ℕ) (part : Extent) → 0 < part.to → HoldsFields line columns extents
@@ -118,14 +118,14 @@ found_more line names at count extents name part found more e next =
     let field : List ℕ = part_of line part.from part.to in
     let met : length (take count names) ≡ length found.fields = omega (arith, length-take-le count names (omega arith), found.many) in
     let columns : zip (take (count + 1) names) (found.fields ++ field ∷ []) ≡ zip (take count names) found.fields ++ (name, field) ∷ [] =
-        ap (λ t. zip t (found.fields ++ field ∷ [])) (take_more names count name more ∙ ap (λ t. take count names ++ t ∷ []) (sym e)) ∙ zip-push (take count names) found.fields name field met in
+    ap (λ t. zip t (found.fields ++ field ∷ [])) (take_more names count name more ∙ ap (λ t. take count names ++ t ∷ []) (sym e)) ∙ zip-push (take count names) found.fields name field met in
     record {
       within = next.within;
       fields = found.fields ++ field ∷ [];
       many = length_push found.fields field ∙ ap (λ n. n + 1) found.many;
       parts = found.parts ∙ (ap (λ t. found.fields ++ t) next.parts ∙ sym (append_assoc found.fields (field ∷ []) (fields_in (drop part.to line))));
       holds = subst (λ (c : List Column). HoldsFields line c (with_part extents (place_of name) part)) (sym columns)
-        (HoldsFields-more line (zip (take count names) found.fields) extents name part (omega (arith, next.some)) found.holds);
+          (HoldsFields-more line (zip (take count names) found.fields) extents name part (omega (arith, next.some)) found.holds);
     }
 
 -- ---- the row
@@ -139,14 +139,14 @@ map_same f g (x ∷ xs) (y ∷ ys) d e same at =
     let rest : map f xs ≡ map g ys = map_same f g xs ys d e (omega arith) (λ k within. at (suc k) (omega arith)) in
     cc
 
-slots_held : (line : List ℕ) (columns : List Column) (extents : List Extent) → HoldsFields line columns extents → map (λ extent. option_and_then slot_of (extent_field line extent)) extents ≡ slots_of columns
+slots_held : (line : List ℕ) (columns : List Column) (extents : List Extent) → HoldsFields line columns extents → map (λ extent. option_and_then field_of (extent_field line extent)) extents ≡ slots_of columns
 slots_held line columns extents holds =
-    map_same (λ extent. option_and_then slot_of (extent_field line extent)) (λ name. option_and_then slot_of (field_named columns name)) extents logged_names no_extent [] (omega (arith, holds.size, length-logged_names))
-    (λ k within. ap (option_and_then slot_of) (holds.fields k (omega (arith, holds.size))))
+    map_same (λ extent. option_and_then field_of (extent_field line extent)) (λ name. option_and_then field_of (field_named columns name)) extents logged_names no_extent [] (omega (arith, holds.size, length-logged_names))
+    (λ k within. ap (option_and_then field_of) (holds.fields k (omega (arith, holds.size))))
 
 -- the row is what the line is
 pub row_held : (line : List ℕ) (names : List (List ℕ)) (extents : List Extent) (found : List Slots) → length (fields_in line) ≡ length names → HoldsFields line (zip names (fields_in line)) extents
-    → found ≡ map (λ extent. option_and_then slot_of (extent_field line extent)) extents ∷ [] → rows found ≡ row_reading (fields_in line) (Some names)
+    → found ≡ map (λ extent. option_and_then field_of (extent_field line extent)) extents ∷ [] → rows found ≡ row_reading (fields_in line) (Some names)
 row_held line names extents found many holds e =
     let same : (length (fields_in line) == length names) ≡ true = eq-eqb (length (fields_in line)) (length names) many in
     rw same (ap rows (e ∙ ap (λ slots. slots ∷ []) (slots_held line (zip names (fields_in line)) extents holds)))

@@ -50,8 +50,8 @@ found_name name from (first ∷ names) place e =
     elim (cases_Bool (is_same_name name first)) [
       | inl same ↦ let there : place ≡ from = let h = place_among-first name first from names same in cc in (0, (omega arith, omega arith, same))
       | inr other ↦
-        let more = found_name name (from + 1) names place (sym (place_among-other name first from names other) ∙ e) in
-        (suc more.0, (omega (arith, more.1.0), omega (arith, more.1.1), more.1.2))
+          let more = found_name name (from + 1) names place (sym (place_among-other name first from names other) ∙ e) in
+          (suc more.0, (omega (arith, more.1.0), omega (arith, more.1.1), more.1.2))
     ]
 
 -- a name that isn't found stands nowhere
@@ -187,8 +187,8 @@ found_field name from (first ∷ fields) place e =
     elim (cases_Bool (is_same_name name first.name)) [
       | inl same ↦ let there : place ≡ from = let h = place_among-first name first.name from (names_of fields) same in cc in (0, (omega arith, rw same refl))
       | inr other ↦
-        let more = found_field name (from + 1) fields place (sym (place_among-other name first.name from (names_of fields) other) ∙ e) in
-        (suc more.0, (omega (arith, more.1.0), find_other name first fields other ∙ more.1.1))
+          let more = found_field name (from + 1) fields place (sym (place_among-other name first.name from (names_of fields) other) ∙ e) in
+          (suc more.0, (omega (arith, more.1.0), find_other name first fields other ∙ more.1.1))
     ]
 
 lost_field : (name : List ℕ) (from : ℕ) (fields : List Field) → place_among (enumerate_from from (names_of fields)) name ≡ None → find (λ (field : Field). is_same_name name field.name) fields ≡ None

@@ -3,7 +3,7 @@ use Rattle.std.specs.Prelude.{ℕ, Bool, false, not, ◌&&◌, ◌||◌, ◌==�
 use Rattle.std.specs.List.{find, zip, list_all}
 use Rattle.std.specs.Str.Lossy.{utf8_lossy}
 use Rattle.lp_model.specs.Reading.{Columns, Slots, Format, Reading, passed, bad, rows}
-use Rattle.line_input.specs.Parts.{parts_by, is_gap}
+use Rattle.line_input.specs.Parts.{parts_by, is_gap, field_of}
 use Rattle.line_input.specs.declared.gap.Gap.TheVariants.{Spaces, Blanks}
 use Rattle.slot_reading.specs.Names.{is_same_name}
 use Rattle.w3c_input.specs.Table.{logged_names}
@@ -55,19 +55,9 @@ Column = List ℕ × List ℕ
 abbrev pub field_named : List Column → List ℕ → Option (List ℕ)
 field_named columns name = option_map (λ column. column.1) (find (λ column. is_same_name column.0 name) columns)
 
--- a field that is `-` alone
-abbrev pub is_dash : List ℕ → Bool
-is_dash [] = false
-is_dash (b ∷ []) = b == 45
-is_dash (b ∷ c ∷ bs) = false
-
--- a field that is `-` is none
-abbrev pub slot_of : List ℕ → Option (List ℕ)
-slot_of field = if is_dash field then None else Some field
-
 -- the fields of the table, in its order
 abbrev pub slots_of : List Column → Slots
-slots_of columns = map (λ name. option_and_then slot_of (field_named columns name)) logged_names
+slots_of columns = map (λ name. option_and_then field_of (field_named columns name)) logged_names
 
 -- a row has as many fields as there are columns in force
 abbrev pub row_reading : List (List ℕ) → Option Columns → Reading

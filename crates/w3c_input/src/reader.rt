@@ -29,11 +29,7 @@ fn is_of_spaces(line: &[u8]) -> bool
 }
 
 // Takes the names that a line sets; too many make the line bad.
-fn take_names(
-    alloc: Global,
-    standing: &mut Standing,
-    text: &[u8],
-) -> Result<Taken, AllocError>
+fn take_names(alloc: Global, standing: &mut Standing, text: &[u8]) -> Result<Taken, AllocError>
     requires { standing.old.lines < 2 ^ 63 }
     ensures reading { IfOk result (λ taken. (line : List ℕ) → reading_in line taken ≡ (if is_too_many (names_of text.now) then bad else passed)) }
     ensures lines { OnOk result (standing.new.lines ≡ standing.old.lines + 1) }
@@ -53,11 +49,7 @@ fn take_names(
 }
 
 // What a line is that names no columns.
-fn take_other(
-    alloc: Global,
-    columns: &Option<Columns>,
-    line: &[u8],
-) -> Result<Taken, AllocError>
+fn take_other(alloc: Global, columns: &Option<Columns>, line: &[u8]) -> Result<Taken, AllocError>
     requires { names_columns line.now ≡ false }
     ensures { IfOk result (λ taken. reading_in line.now taken ≡ w3c_reading line.now columns.now) }
 {

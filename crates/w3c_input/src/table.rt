@@ -97,22 +97,14 @@ fn place_of_4(name: &str) -> Option<usize>
 fn place_of_6(name: &str) -> Option<usize>
     ensures { result ≡ place_among (places_of_length 6) name.now }
 {
-    if is(name, "s-port") {
-        Some(7)
-    } else {
-        None
-    }
+    if is(name, "s-port") { Some(7) } else { None }
 }
 
 #[tactic(auto, unfolding(crate::specs::Places::places_of_length, crate::specs::Places::places, crate::specs::Table::logged_names))]
 fn place_of_7(name: &str) -> Option<usize>
     ensures { result ≡ place_among (places_of_length 7) name.now }
 {
-    if is(name, "cs-host") {
-        Some(18)
-    } else {
-        None
-    }
+    if is(name, "cs-host") { Some(18) } else { None }
 }
 
 #[tactic(auto, unfolding(crate::specs::Places::places_of_length, crate::specs::Places::places, crate::specs::Table::logged_names))]

@@ -43,7 +43,10 @@ fn columns_change_midway(rt: HostRuntime) -> Result<(), Fail> {
             b"2001-01-01 00:00:02 /b",
         ],
     )?;
-    assert!(rt; told.as_slice() == b"-\n2001-01-01|00:00:01|~|~|~|~|~|~|~|/a|~|~|~|~|10|~|~|~|~|~|~|~|\n-\n2001-01-01|00:00:02|~|~|~|~|~|~|~|/b|~|~|~|~|~|~|~|~|~|~|~|~|\n");
+    assert!(rt;
+        told.as_slice()
+            == b"-\n2001-01-01|00:00:01|~|~|~|~|~|~|~|/a|~|~|~|~|10|~|~|~|~|~|~|~|\n-\n2001-01-01|00:00:02|~|~|~|~|~|~|~|/b|~|~|~|~|~|~|~|~|~|~|~|~|\n".as_slice()
+    );
     Ok(())
 }
 
@@ -112,10 +115,12 @@ fn names_may_be_too_many(rt: HostRuntime) -> Result<(), Fail> {
         line.add(b" x")?;
     }
     let most = of_two(rt.alloc(), b"#Fields: date", line.as_slice())?;
-    assert!(rt; most.as_slice() == b"-\n-\n");
+    assert!(rt; most.as_slice() == b"-\n-\n".as_slice());
     line.add(b" x")?;
     let told = told(rt.alloc(), &[b"#Fields: date", line.as_slice(), b"a"])?;
-    assert!(rt; told.as_slice() == b"-\n!\na|~|~|~|~|~|~|~|~|~|~|~|~|~|~|~|~|~|~|~|~|~|\n");
+    assert!(rt;
+        told.as_slice() == b"-\n!\na|~|~|~|~|~|~|~|~|~|~|~|~|~|~|~|~|~|~|~|~|~|\n".as_slice()
+    );
     Ok(())
 }
 
@@ -139,7 +144,10 @@ fn every_field_is_read(rt: HostRuntime) -> Result<(), Fail> {
         ("", None),
     ];
     for (name, want) in cases {
-        assert!(rt; iis_reading(name).map(|reading| reading.kind()) == want, "{name}");
+        assert!(rt;
+            iis_reading(name).map(|reading| reading.kind()) == want,
+            "{name}"
+        );
     }
     Ok(())
 }

@@ -11,7 +11,7 @@ returns-in_ok-row_at-in-Some c =
     let line = c.args.line.now in
     record {
       reading = row_held line c.args.names.now c.in-Some.extents (map (slots_of line) c.in_ok-row_at-in-Some.field-0)
-        (subst (λ (names : List (List ℕ)). length (fields_in line) ≡ length names) c.as_slice.ensures c.in-Some.ensures.0)
-        (subst (λ (names : List (List ℕ)). HoldsFields line (zip names (fields_in line)) c.in-Some.extents) c.as_slice.ensures c.in-Some.ensures.1)
-        c.in_ok-row_at-in-Some.ensures;
+          (subst (λ (names : List (List ℕ)). length (fields_in line) ≡ length names) c.as_slice.ensures c.in-Some.ensures.0)
+          (subst (λ (names : List (List ℕ)). HoldsFields line (zip names (fields_in line)) c.in-Some.extents) c.as_slice.ensures c.in-Some.ensures.1)
+          c.in_ok-row_at-in-Some.ensures;
     }
