@@ -1,0 +1,3 @@
+pub mod StampLemmas
+pub mod Texts
+pub mod NameLemmas

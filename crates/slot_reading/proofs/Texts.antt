@@ -1,0 +1,16 @@
+-- Bytes that are a text, and bytes that aren't.
+use Rattle.std.proofs.Common.{◌≡◌, ℕ, Bool, true, false, List, Option, Some, None, refl, sym, ap, ◌∙◌, inl, inr}
+use Rattle.std.proofs.lemmas.Bool.{cases_Bool}
+use Rattle.std.proofs.lemmas.Str.{is_utf8-from_IsUtf8, IsUtf8-from_is_utf8}
+use Rattle.std.specs.Str.{IsUtf8, is_utf8}
+use Rattle.slot_reading.specs.Slots.{text_in}
+
+pub text_in-utf8 : (bytes text : List ℕ) → text ≡ bytes → IsUtf8 bytes → Some text ≡ text_in bytes
+text_in-utf8 bytes text same utf8 = let told = is_utf8-from_IsUtf8 bytes utf8 in rw told (ap Some same)
+
+pub text_in-other : (bytes : List ℕ) → ¬ (IsUtf8 bytes) → None ≡ text_in bytes
+text_in-other bytes other =
+    elim (cases_Bool (is_utf8 bytes)) [
+      | inl e ↦ absurd (other (IsUtf8-from_is_utf8 bytes e))
+      | inr e ↦ rw e refl
+    ]

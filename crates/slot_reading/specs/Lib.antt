@@ -1,0 +1,4 @@
+pub mod Existing
+pub mod Stamps
+pub mod Slots
+pub mod Names

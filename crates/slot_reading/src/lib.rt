@@ -1,0 +1,13 @@
+//! Fields of a log as values.
+//!
+//! A crate above may rely on the exact value of each field: `read_slot` answers it for each way in which a column is read.
+//! `specs` has the definitions.
+#![tactic(auto)]
+
+mod names;
+mod reading;
+mod slots;
+
+pub use names::is_same_name;
+pub use reading::Reading;
+pub use slots::read_slot;

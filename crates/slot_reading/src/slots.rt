@@ -1,0 +1,88 @@
+// The value that a field is.
+ghost use Rattle.std.specs.Prelude.{◌≡◌, IfOk, MatchOption, option_map, option_and_then};
+ghost use Rattle.std.specs.Str.{is_utf8};
+ghost use Rattle.slot_reading.specs.Slots.{text_in, value_in, value_of, or_null};
+ghost use Rattle.slot_reading.specs.Stamps.{stamp_value};
+ghost use Rattle.lp_values.specs.Readings.{integer_in, real_in};
+ghost use Rattle.lp_time.specs.Readings.{seconds_in, part_of};
+ghost use Rattle.lp_time.specs.CommonLog.{clf_seconds};
+
+use crate::Reading;
+use lp_time::{Pattern, clf_stamp, read_stamp};
+use lp_values::{Text, Value, read_integer, read_real};
+use std::alloc::{AllocError, Global};
+
+fn text_in(bytes: &[u8]) -> Option<&str>
+    ensures { option_map (λ s. s.now) result ≡ text_in bytes.now }
+{
+    match str::from_utf8(bytes) {
+        Ok(text) => Some(text),
+        Err(_) => None,
+    }
+}
+
+fn integer_value(bytes: &[u8]) -> Value
+    ensures { result ≡ value_in Reading.Integer bytes.now }
+{
+    match text_in(bytes) {
+        Some(text) => match read_integer(text) {
+            Some(number) => Value::Int(number),
+            None => Value::Null,
+        },
+        None => Value::Null,
+    }
+}
+
+fn real_value(bytes: &[u8]) -> Value
+    ensures { result ≡ value_in Reading.Real bytes.now }
+{
+    match text_in(bytes) {
+        Some(text) => match read_real(text) {
+            Some(number) => Value::Real(number),
+            None => Value::Null,
+        },
+        None => Value::Null,
+    }
+}
+
+fn stamp_value(pattern: &Pattern, bytes: &[u8]) -> Value
+    ensures { result ≡ value_in (Reading.By pattern.now) bytes.now }
+{
+    match text_in(bytes) {
+        Some(text) => match read_stamp(pattern, text) {
+            Some(stamp) => Value::Stamp(stamp),
+            None => Value::Null,
+        },
+        None => Value::Null,
+    }
+}
+
+fn clf_value(bytes: &[u8]) -> Value
+    ensures { result ≡ value_in Reading.Clf bytes.now }
+{
+    match clf_stamp(bytes) {
+        Some(stamp) => Value::Stamp(stamp),
+        None => Value::Null,
+    }
+}
+
+/// The value of a field: NULL where the log has none, or where its bytes don't read. Bytes that are no UTF-8 are no
+/// numbers and no times; in a text they are repaired.
+pub fn read_slot(
+    alloc: Global,
+    reading: &Reading,
+    bytes: Option<&[u8]>,
+) -> Result<Value, AllocError>
+    ensures { IfOk result (λ value. value ≡ value_of reading.now (option_map (λ s. s.now) bytes.entry)) }
+{
+    let Some(bytes) = bytes else {
+        return Ok(Value::Null);
+    };
+    match reading {
+        Reading::Integer => Ok(integer_value(bytes)),
+        Reading::Real => Ok(real_value(bytes)),
+        Reading::Text => Ok(Value::Text(Text::read(alloc, bytes)?)),
+        Reading::By(pattern) => Ok(stamp_value(pattern, bytes)),
+        Reading::Clf => Ok(clf_value(bytes)),
+    }
+}

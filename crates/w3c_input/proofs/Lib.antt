@@ -1,0 +1,4 @@
+pub mod TableLemmas
+pub mod Columns
+pub mod Directives
+pub mod Carrying
