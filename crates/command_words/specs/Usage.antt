@@ -1,5 +1,5 @@
 -- Which words are refused, and why.
-use Rattle.std.specs.Prelude.{ℕ, ◌≡◌, ◌⊎◌, ◌<◌, Bool, true, false, not, ◌&&◌, List, length, take, slice_get, is_some, if◌then◌else◌, Option, Some, None, option_map, option_and_then, Result, Ok, Err, position}
+use Rattle.std.specs.Prelude.{ℕ, ◌≡◌, ◌⊎◌, ◌<◌, Bool, true, false, ◌&&◌, List, length, take, slice_get, if◌then◌else◌, Option, Some, None, option_map, option_and_then, Result, Ok, Err, position}
 use Rattle.std.specs.Bool.{⊤}
 use Rattle.std.specs.List.{list_any}
 use Rattle.std.specs.Option.{option_or}

@@ -1,5 +1,5 @@
 -- What the text of each kind of value means; none where it is no such value.
-use Rattle.std.specs.Prelude.{ℕ, Bool, true, false, not, ◌&&◌, ◌==◌, nat_le, List, [], ◌∷◌, ◌++◌, codes, is_none, if◌then◌else◌, ℤ, pos, negsuc, Option, Some, None, option_and_then}
+use Rattle.std.specs.Prelude.{ℕ, Bool, true, false, not, ◌&&◌, ◌==◌, nat_le, List, [], ◌∷◌, ◌++◌, codes, is_none, if◌then◌else◌, Option, Some, None, option_and_then}
 use Rattle.std.specs.Result.{result_ok}
 use Rattle.lp_outside.specs.NameFault.{name_fault}
 use Rattle.lp_time.specs.Patterns.{pattern_in}

@@ -1,5 +1,5 @@
 -- Words: an option is `-name:value`, and any other word is the query.
-use Rattle.std.specs.Prelude.{ℕ, Bool, false, not, ◌&&◌, List, [], ◌∷◌, ◌==◌, find, filter, unwrap_or, Option, Some, None, option_map}
+use Rattle.std.specs.Prelude.{ℕ, Bool, false, not, ◌&&◌, List, [], ◌∷◌, ◌==◌, find, filter, unwrap_or, Option, option_map}
 use Rattle.std.specs.List.{list_any, before_first, after_first}
 use Rattle.command_words.specs.declared.setting.Setting.{Setting}
 use Rattle.command_words.specs.declared.setting.TheConstants.{SETTINGS}

@@ -75,8 +75,13 @@ impl InputFormat {
 fn last_part(name: &[u8]) -> &[u8]
     ensures { result.now ≡ last_part name.now }
 {
-    let count = name.iter().rev().take_while(|byte| **byte != b'/').count();
-    &name[name.len() - count..]
+    let mut start = 0;
+    for place in 0..name.len() {
+        if name[place] == b'/' {
+            start = place + 1;
+        }
+    }
+    &name[start..]
 }
 
 fn input_of_part(part: &[u8]) -> InputFormat
