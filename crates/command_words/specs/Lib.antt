@@ -1,6 +1,7 @@
 pub mod Texts
 pub mod Formats
 pub mod Numbers
+pub mod Separators
 pub mod Values
 pub mod Settings
 pub mod Words

@@ -1,5 +1,5 @@
 -- What words ask for: of each option the value of the word that gives it, or else its default.
-use Rattle.std.specs.Prelude.{ℕ, ◌≡◌, Bool, true, List, codes, unwrap_or, Option, Some, None, option_and_then}
+use Rattle.std.specs.Prelude.{ℕ, ◌≡◌, ◌≤◌, Bool, true, List, codes, IfSome, unwrap_or, Option, Some, None, option_and_then}
 use Rattle.std.specs.Option.{option_or}
 use Rattle.lp_time.specs.declared.piece.Piece.{Piece}
 use Rattle.output_formats.specs.declared.csv.Headers.{Headers}
@@ -14,6 +14,7 @@ use Rattle.command_words.specs.declared.modes.FileMode.TheVariants as F
 use Rattle.command_words.specs.declared.spec.Spec.{Spec}
 use Rattle.command_words.specs.Formats.{input_in, output_in}
 use Rattle.command_words.specs.Values.{switch_in, rotation_in, headers_in, separator_in, errors_in, rows_in, lines_in, mode_in, pattern_of, name_in, ledger_in}
+use Rattle.command_words.specs.Separators.{IsSeparator}
 use Rattle.command_words.specs.Words.{given, options_in, query_in}
 
 -- `-i`; none where the first FROM name decides
@@ -95,3 +96,11 @@ pub record IsAsked (words : List (List ℕ)) (spec : Spec) : Type 0 where
   pub tpl : spec.tpl ≡ template_of words
   pub words_given : spec.words ≡ options_in words
   pub query : spec.query ≡ query_in words
+
+-- its numbers and separators lie within the table's ranges
+pub record IsInRange (spec : Spec) : Type 0 where
+  pub errors : IfSome spec.errors (λ count. count ≤ 2147483647)
+  pub dt_lines : IfSome spec.dt_lines (λ count. count ≤ 1000)
+  pub rtp : IfSome spec.rtp (λ count. (1 ≤ count) × (count ≤ 10000))
+  pub separator : IsSeparator spec.separator
+  pub out_separator : IsSeparator spec.out_separator

@@ -1,5 +1,5 @@
 -- Which words are refused, and why.
-use Rattle.std.specs.Prelude.{ℕ, ◌≡◌, ◌⊎◌, ◌<◌, Bool, true, false, ◌&&◌, List, length, take, slice_get, if◌then◌else◌, Option, Some, None, option_map, option_and_then, Result, Ok, Err, position}
+use Rattle.std.specs.Prelude.{ℕ, ◌≡◌, ◌⊎◌, ◌<◌, Bool, true, false, ◌&&◌, List, length, take, slice_get, if◌then◌else◌, Option, Some, None, option_map, option_and_then, Result, Ok, Err, position, codes}
 use Rattle.std.specs.Bool.{⊤}
 use Rattle.std.specs.List.{list_any}
 use Rattle.std.specs.Option.{option_or}
@@ -85,3 +85,13 @@ abbrev pub IfUsage : Result Spec SpecFault → (UsageFault → Type 0) → Type 
 IfUsage (Ok spec) P = ⊤
 IfUsage (Err (T.Usage fault)) P = P fault
 IfUsage (Err T.Memory) P = ⊤
+
+-- the words that tell of it
+abbrev pub usage_text : UsageKind → List ℕ
+usage_text U.NoQuery = codes "no query"
+usage_text U.SecondQuery = codes "second query"
+usage_text U.UnknownOption = codes "unknown option"
+usage_text U.Repeated = codes "repeated option"
+usage_text U.BadValue = codes "bad value"
+usage_text U.NeedsCheckpoint = codes "needs -iCheckpoint"
+usage_text U.NeedsTemplate = codes "needs -tpl"

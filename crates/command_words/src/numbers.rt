@@ -1,5 +1,5 @@
 // The numbers that values are.
-ghost use Rattle.std.specs.Prelude.{◌≡◌, option_and_then};
+ghost use Rattle.std.specs.Prelude.{◌≡◌, ◌≤◌, option_and_then, IfSome};
 ghost use Rattle.command_words.specs.Numbers.{starts_with_plus, without_minus, number_in, count_of, limit_of};
 
 use lp_values::read_integer;
@@ -32,7 +32,8 @@ pub fn number_in(text: &str) -> Option<i64>
 }
 
 fn count_of(low: u32, high: u32, number: i64) -> Option<u32>
-    ensures { result ≡ count_of low high number }
+    ensures value { result ≡ count_of low high number }
+    ensures in_range { IfSome result (λ count. (low ≤ count) × (count ≤ high)) }
 {
     if i64::from(low) <= number && number <= i64::from(high) {
         Some(number as u32)
@@ -42,7 +43,8 @@ fn count_of(low: u32, high: u32, number: i64) -> Option<u32>
 }
 
 fn limit_of(low: u32, high: u32, number: i64) -> Option<Option<u32>>
-    ensures { result ≡ limit_of low high number }
+    ensures value { result ≡ limit_of low high number }
+    ensures in_range { IfSome result (λ limit. IfSome limit (λ count. (low ≤ count) × (count ≤ high))) }
 {
     if number == -1 {
         Some(None)
@@ -55,7 +57,8 @@ fn limit_of(low: u32, high: u32, number: i64) -> Option<Option<u32>>
 
 /// A number of a range.
 pub fn count_in(low: u32, high: u32, text: &str) -> Option<u32>
-    ensures { result ≡ option_and_then (count_of low high) (number_in text.now) }
+    ensures value { result ≡ option_and_then (count_of low high) (number_in text.now) }
+    ensures in_range { IfSome result (λ count. (low ≤ count) × (count ≤ high)) }
 {
     match number_in(text) {
         Some(number) => count_of(low, high, number),
@@ -65,7 +68,8 @@ pub fn count_in(low: u32, high: u32, text: &str) -> Option<u32>
 
 /// A number of a range, or -1 for no limit.
 pub fn limit_in(low: u32, high: u32, text: &str) -> Option<Option<u32>>
-    ensures { result ≡ option_and_then (limit_of low high) (number_in text.now) }
+    ensures value { result ≡ option_and_then (limit_of low high) (number_in text.now) }
+    ensures in_range { IfSome result (λ limit. IfSome limit (λ count. (low ≤ count) × (count ≤ high))) }
 {
     match number_in(text) {
         Some(number) => limit_of(low, high, number),

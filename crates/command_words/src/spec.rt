@@ -75,12 +75,13 @@ fn refusal_of(words: &[Text]) -> Option<UsageFault>
 }
 
 impl Spec {
-    ghost use Rattle.command_words.specs.Table.{IsAsked};
+    ghost use Rattle.command_words.specs.Table.{IsAsked, IsInRange};
     ghost use Rattle.command_words.specs.Usage.{IfUsage};
 
     /// Reads the words of the command line, without the program's name.
     pub fn read(alloc: Global, words: &TextList) -> Result<Spec, SpecFault>
         ensures ok { IfOk result (IsAsked words.now) }
+        ensures in_range { IfOk result IsInRange }
         ensures fine { OnOk result (AreFine words.now) }
         ensures usage { IfUsage result (IsRefused words.now) }
     {
@@ -93,7 +94,8 @@ impl Spec {
 
     // What words ask for.
     fn asked(alloc: Global, words: &[Text]) -> Result<Spec, AllocError>
-        ensures { IfOk result (IsAsked words.now) }
+        ensures ok { IfOk result (IsAsked words.now) }
+        ensures in_range { IfOk result IsInRange }
     {
         let options = options_in(alloc, words)?;
         let query = query_in(alloc, words)?;

@@ -1,7 +1,8 @@
 // What words ask for: of each option the value of the word that gives it, or else its default.
-ghost use Rattle.std.specs.Prelude.{◌≡◌, Some, Ok, codes};
+ghost use Rattle.std.specs.Prelude.{◌≡◌, ◌≤◌, Some, Ok, codes, IfSome};
 ghost use Rattle.lp_time.specs.Patterns.{pattern_in};
 ghost use Rattle.command_words.specs.Table.{input_of, output_of, errors_of, stats_of, checkpoint_of, rotation_of, header_row_of, sample_lines_of, time_format_of, separator_of, rows_to_page_of, headers_of, out_separator_of, file_mode_of, template_of};
+ghost use Rattle.command_words.specs.Separators.{IsSeparator};
 
 use crate::values::{
     errors_in, headers_in, ledger_in, lines_in, mode_in, name_in, pattern_of, rotation_in, rows_in,
@@ -33,7 +34,8 @@ pub fn output_of(words: &[Text]) -> Option<OutputFormat>
 }
 
 pub fn errors_of(words: &[Text]) -> Option<u32>
-    ensures { result ≡ errors_of words.now }
+    ensures value { result ≡ errors_of words.now }
+    ensures in_range { IfSome result (λ count. count ≤ 2147483647) }
 {
     match given(words, Setting::Errors) {
         Some(text) => errors_in(text).unwrap_or(None),
@@ -78,7 +80,8 @@ pub fn header_row_of(words: &[Text]) -> bool
 }
 
 pub fn sample_lines_of(words: &[Text]) -> Option<u32>
-    ensures { result ≡ sample_lines_of words.now }
+    ensures value { result ≡ sample_lines_of words.now }
+    ensures in_range { IfSome result (λ count. count ≤ 1000) }
 {
     match given(words, Setting::SampleLines) {
         Some(text) => lines_in(text),
@@ -111,7 +114,8 @@ pub fn time_format_of(words: &[Text]) -> Pattern
 }
 
 pub fn separator_of(words: &[Text]) -> u8
-    ensures { result ≡ separator_of words.now }
+    ensures value { result ≡ separator_of words.now }
+    ensures in_range { IsSeparator result }
 {
     match given(words, Setting::Separator) {
         Some(text) => separator_in(text).unwrap_or(b'\t'),
@@ -120,7 +124,8 @@ pub fn separator_of(words: &[Text]) -> u8
 }
 
 pub fn rows_to_page_of(words: &[Text]) -> Option<u32>
-    ensures { result ≡ rows_to_page_of words.now }
+    ensures value { result ≡ rows_to_page_of words.now }
+    ensures in_range { IfSome result (λ count. (1 ≤ count) × (count ≤ 10000)) }
 {
     match given(words, Setting::RowsToPage) {
         Some(text) => rows_in(text).unwrap_or(Some(10)),
@@ -138,7 +143,8 @@ pub fn headers_of(words: &[Text]) -> Headers
 }
 
 pub fn out_separator_of(words: &[Text]) -> u8
-    ensures { result ≡ out_separator_of words.now }
+    ensures value { result ≡ out_separator_of words.now }
+    ensures in_range { IsSeparator result }
 {
     match given(words, Setting::OutSeparator) {
         Some(text) => separator_in(text).unwrap_or(b'\t'),

@@ -1,6 +1,6 @@
 // Why words are refused.
-ghost use Rattle.std.specs.Prelude.{◌≡◌, MatchOption, codes};
-ghost use Rattle.command_words.specs.Usage.{setting_fault, word_fault, EachFits, IsFirstFault};
+ghost use Rattle.std.specs.Prelude.{◌≡◌, MatchOption};
+ghost use Rattle.command_words.specs.Usage.{setting_fault, word_fault, EachFits, IsFirstFault, usage_text};
 
 use crate::Setting;
 use crate::word::{any_gives, any_query, is_option, setting_of, value_in};
@@ -30,6 +30,23 @@ pub enum UsageKind {
 pub struct UsageFault {
     pub word: u32,
     pub kind: UsageKind,
+}
+
+impl UsageKind {
+    /// The words that tell of it.
+    pub fn as_str(self) -> &'static str
+        ensures { result.now ≡ usage_text self }
+    {
+        match self {
+            UsageKind::NoQuery => "no query",
+            UsageKind::SecondQuery => "second query",
+            UsageKind::UnknownOption => "unknown option",
+            UsageKind::Repeated => "repeated option",
+            UsageKind::BadValue => "bad value",
+            UsageKind::NeedsCheckpoint => "needs -iCheckpoint",
+            UsageKind::NeedsTemplate => "needs -tpl",
+        }
+    }
 }
 
 fn setting_fault(before: &[Text], word: &str, setting: Option<Setting>) -> Option<UsageKind>

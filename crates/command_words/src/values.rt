@@ -1,6 +1,7 @@
 // What the text of each kind of value means.
-ghost use Rattle.std.specs.Prelude.{◌≡◌};
+ghost use Rattle.std.specs.Prelude.{◌≡◌, ◌≤◌, IfSome};
 ghost use Rattle.command_words.specs.Values.{switch_in, rotation_in, headers_in, character_in, separator_in, mode_of, mode_in, pattern_of, name_in, ledger_in, errors_in, rows_in, lines_in};
+ghost use Rattle.command_words.specs.Separators.{IsSeparator};
 
 use crate::numbers::{count_in, limit_in};
 use crate::text::same_text;
@@ -48,7 +49,8 @@ pub fn headers_in(text: &str) -> Option<Headers>
 }
 
 fn character_in(text: &[u8]) -> Option<u8>
-    ensures { result ≡ character_in text.now }
+    ensures value { result ≡ character_in text.now }
+    ensures in_range { IfSome result IsSeparator }
 {
     match text {
         [byte] if *byte >= 0x21 && *byte <= 0x7E && *byte != b'"' => Some(*byte),
@@ -57,7 +59,8 @@ fn character_in(text: &[u8]) -> Option<u8>
 }
 
 pub fn separator_in(text: &str) -> Option<u8>
-    ensures { result ≡ separator_in text.now }
+    ensures value { result ≡ separator_in text.now }
+    ensures in_range { IfSome result IsSeparator }
 {
     if same_text(text.as_bytes(), b"tab") {
         Some(b'\t')
@@ -69,19 +72,22 @@ pub fn separator_in(text: &str) -> Option<u8>
 }
 
 pub fn errors_in(text: &str) -> Option<Option<u32>>
-    ensures { result ≡ errors_in text.now }
+    ensures value { result ≡ errors_in text.now }
+    ensures in_range { IfSome result (λ limit. IfSome limit (λ count. count ≤ 2147483647)) }
 {
     limit_in(0, 2_147_483_647, text)
 }
 
 pub fn rows_in(text: &str) -> Option<Option<u32>>
-    ensures { result ≡ rows_in text.now }
+    ensures value { result ≡ rows_in text.now }
+    ensures in_range { IfSome result (λ limit. IfSome limit (λ count. (1 ≤ count) × (count ≤ 10000))) }
 {
     limit_in(1, 10_000, text)
 }
 
 pub fn lines_in(text: &str) -> Option<u32>
-    ensures { result ≡ lines_in text.now }
+    ensures value { result ≡ lines_in text.now }
+    ensures in_range { IfSome result (λ count. count ≤ 1000) }
 {
     count_in(0, 1_000, text)
 }
