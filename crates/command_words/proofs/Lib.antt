@@ -1,0 +1,4 @@
+pub mod Parts
+pub mod LastPart
+pub mod Few
+pub mod Places

@@ -1,0 +1,9 @@
+pub mod Texts
+pub mod Formats
+pub mod Numbers
+pub mod Separators
+pub mod Values
+pub mod Settings
+pub mod Words
+pub mod Table
+pub mod Usage
