@@ -1,5 +1,5 @@
 -- A row with NULL for what isn't used gives a plan the same as the whole row.
-use Rattle.std.proofs.Common.{◌≡◌, ℕ, zero, suc, ◌+◌, ◌<◌, ◌≤◌, length, Bool, true, false, ◌||◌, ◌==◌, List, [], ◌∷◌, map, get_or, Option, Some, None, refl, ap, ap₂, subst, arith, rules, option_map}
+use Rattle.std.proofs.Common.{◌≡◌, ℕ, zero, suc, ◌+◌, ◌<◌, ◌≤◌, length, Bool, true, false, ◌||◌, ◌==◌, List, [], ◌∷◌, map, get_or, Option, Some, None, refl, sym, ◌∙◌, ap, ap₂, subst, arith, rules, option_map}
 use Rattle.lp_values.specs.declared.value.Value.{Value}
 use Rattle.lp_values.specs.declared.value.Value.TheVariants.{Null}
 use Rattle.lp_values.specs.declared.comparison.Compare.TheVariants as how
@@ -11,7 +11,10 @@ use Rattle.query_types.specs.Conditions.{Filter, either, both, opposite, compare
 use Rattle.query_types.specs.Planned.{is_mentioned}
 use Rattle.row_engine.specs.Rows.{value_in, among, truth_in, keeps, selected_in, is_null, turned, is_yes}
 use Rattle.query_types.specs.Planned.{Covers}
-use Rattle.plan_rows.specs.Picks.{if_used, masked}
+use Rattle.lp_model.specs.Reading.{Slots}
+use Rattle.log_reading.specs.Found.{Found}
+use Rattle.slot_reading.specs.declared.reading.Reading.{Reading}
+use Rattle.plan_rows.specs.Picks.{fields_read, if_kept, if_used, masked, plan_picks, table_row}
 
 or_left : (a b : Bool) → a ≡ true → (a || b) ≡ true
 or_left a b is = rw is refl
@@ -82,3 +85,31 @@ keeps_masked used row items (Some f) fits c = ap is_yes (truth_masked used row f
 pub items_masked : (used : List Bool) (row : List Value) (items : List Meaning) (condition : Option Filter) → length row ≤ length used → Covers used items condition
     → selected_in (masked used row 0) items ≡ selected_in row items
 items_masked used row items condition fits c = selected_masked used row items (λ k w h. c.item k (omega arith) h)
+
+fields_length : (readings : List Reading) (slots : Slots) (at : ℕ) → length (fields_read readings slots at) ≡ length readings
+fields_length [] slots at = refl
+fields_length (reading ∷ readings) slots at = ap suc (fields_length readings slots (at + 1))
+
+row_fits : (readings : List Reading) (found : Found) (used : List Bool) → length readings + 2 ≤ length used → length (table_row readings found) ≤ length used
+row_fits readings found used fits = let size = fields_length readings found.row.slots 0 in omega arith
+
+-- a record whose row isn't kept
+pub picks_none : (used : List Bool) (readings : List Reading) (items : List Meaning) (condition : Option Filter) (found : Found) (values : List Value)
+    → length readings + 2 ≤ length used → Covers used items condition → values ≡ masked used (table_row readings found) 0 → keeps condition values ≡ false
+    → None ≡ plan_picks readings items condition found
+picks_none used readings items condition found values fits covers values_is kept =
+    let row = table_row readings found in
+    let same = keeps_masked used row items condition (row_fits readings found used fits) covers in
+    let is : keeps condition row ≡ false = sym same ∙ ap (keeps condition) (sym values_is) ∙ kept in
+    sym (ap (λ (b : Bool). if_kept b (selected_in row items)) is)
+
+-- a record whose row is kept
+pub picks_some : (used : List Bool) (readings : List Reading) (items : List Meaning) (condition : Option Filter) (found : Found) (values out : List Value)
+    → length readings + 2 ≤ length used → Covers used items condition → values ≡ masked used (table_row readings found) 0 → keeps condition values ≡ true
+    → out ≡ selected_in values items → Some out ≡ plan_picks readings items condition found
+picks_some used readings items condition found values out fits covers values_is kept out_is =
+    let row = table_row readings found in
+    let size = row_fits readings found used fits in
+    let is : keeps condition row ≡ true = sym (keeps_masked used row items condition size covers) ∙ ap (keeps condition) (sym values_is) ∙ kept in
+    let same : out ≡ selected_in row items = out_is ∙ ap (λ v. selected_in v items) values_is ∙ items_masked used row items condition size covers in
+    ap Some same ∙ sym (ap (λ (b : Bool). if_kept b (selected_in row items)) is)

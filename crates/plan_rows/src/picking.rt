@@ -26,17 +26,6 @@ pub struct PlanPicker {
     ghost fits: { length readings + 2 ≤ length plan.used },
 }
 
-impl PlanPicker {
-    pub fn new(plan: Plan, readings: ReadingList) -> Self
-        requires covers { Covers plan.used plan.items (option_map filter_of plan.condition) }
-        requires fits { length readings + 2 ≤ length plan.used }
-        ensures plan { result.plan ≡ plan }
-        ensures readings { result.readings ≡ readings }
-    {
-        PlanPicker { plan, readings }
-    }
-}
-
 impl Picker for PlanPicker {
     ghost picks = { λ s. plan_picks s.readings s.plan.items (option_map filter_of s.plan.condition) };
 

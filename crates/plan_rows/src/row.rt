@@ -21,7 +21,7 @@ fn field_value(
     line: &[u8],
     slot: Option<&Slot>,
 ) -> Result<Value, AllocError>
-    ensures { IfOk result (λ value. value ≡ if_used used (value_of reading.now (held (option_map (slot_bytes line.now) (option_copied slot))))) }
+    ensures { IfOk result (λ value. value ≡ if_used used (value_of reading.now (held (option_map (slot_bytes line.now) (option_copied slot.entry))))) }
 {
     if !used {
         return Ok(Value::Null);
