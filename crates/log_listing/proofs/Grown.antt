@@ -1,7 +1,8 @@
 -- What texts list stays while the logs grow.
-use Rattle.std.proofs.Common.{◌≡◌, ◌<◌, ◌≤◌, ◌⊎◌, ◌↔◌, ℕ, List, [], ◌∷◌, ◌++◌, length, Option, Some, None, IsSome, IsSomeAnd, MatchOption, Contains, refl, sym, ap, ◌∙◌, subst, inl, inr, arith, append_assoc}
+use Rattle.std.proofs.Common.{◌≡◌, ◌<◌, ◌≤◌, ◌⊎◌, ◌↔◌, ℕ, List, [], ◌∷◌, ◌++◌, length, take, drop, get_or, ◌+◌, Option, Some, None, IsSome, IsSomeAnd, MatchOption, Contains, refl, sym, ap, ◌∙◌, subst, inl, inr, arith, append_assoc}
 use Rattle.std.specs.List.{AllZip}
-use Rattle.std.proofs.lemmas.List.{append-nil}
+use Rattle.std.proofs.lemmas.Bool.{false≢true}
+use Rattle.std.proofs.lemmas.List.{append-nil, take_more, take-append-drop, drop_more}
 use Rattle.lp_model.specs.Outside.{Folder, Begins, Grows, OnlyGrow, Told}
 use Rattle.lp_outside.specs.Matching.{AreMatches}
 use Rattle.log_listing.specs.declared.fault.ListFault.{ListFault}
@@ -18,14 +19,14 @@ told_grown (Some x) None P keeps grow h = absurd grow
 told_grown (Some x) (Some y) P keeps grow h = keeps x y grow h
 
 stays : (a b : Option (List ℕ)) → MatchOption a (b ≡ None) (λ old. IsSomeAnd b (λ new. Begins old new)) → IsSome a → IsSome b
-stays None b h is = absurd is
+stays None b h is = absurd (false≢true is)
 stays (Some x) None h is = absurd h
-stays (Some x) (Some y) h is = tt
+stays (Some x) (Some y) h is = refl
 
 was_there : (a b : Option (List ℕ)) → MatchOption a (b ≡ None) (λ old. IsSomeAnd b (λ new. Begins old new)) → IsSome b → IsSome a
-was_there None None h is = absurd is
+was_there None None h is = absurd (false≢true is)
 was_there None (Some y) h is = absurd (cc)
-was_there (Some x) b h is = tt
+was_there (Some x) b h is = refl
 
 matches_grown : (pattern : List ℕ) (names : List (List ℕ)) (x y : Folder) → Grows x y → AreMatches x pattern names → AreMatches y pattern names
 matches_grown pattern names x y grow m = record {
@@ -97,4 +98,25 @@ lists_more told texts text before names l a = record {
   found = l.found ++ a.found ∷ [];
   each = each_more told text a.found texts l.found l.each a.gives;
   all = a.all ∙ ap (λ ns. with_names ns a.found) l.all ∙ sym (ap firsts (joined_push l.found a.found) ∙ firsts-append (joined l.found) a.found);
+}
+
+-- a turn of the loop over texts
+pub lists_step : (before now : Option Folder) (texts : List (List ℕ)) (i : ℕ) (text shown : List ℕ) (names more : List (List ℕ)) → i < length texts → text ≡ get_or texts i text → shown ≡ text
+    → OnlyGrow before now → Lists before (take i texts) names → Adds now shown names more → Lists now (take (i + 1) texts) more
+lists_step before now texts i text shown names more within is same grow so_far adds =
+    let grown : take (i + 1) texts ≡ take i texts ++ shown ∷ [] = take_more texts i text within ∙ ap (λ t. take i texts ++ t ∷ []) (sym (same ∙ is)) in
+    subst (λ (ts : List (List ℕ)). Lists now ts more) (sym grown) (lists_more now (take i texts) shown names more (lists_grown before now (take i texts) names grow so_far) adds)
+
+-- the list stops at a text
+pub stops_step : (before now : Option Folder) (texts : List (List ℕ)) (i : ℕ) (text shown : List ℕ) (names : List (List ℕ)) (fault : ListFault) → i < length texts → text ≡ get_or texts i text → shown ≡ text
+    → OnlyGrow before now → Lists before (take i texts) names → length names ≤ most_logs → StopsAt now shown names fault → Stops now texts fault
+stops_step before now texts i text shown names fault within is same grow so_far few stops = record {
+  front = take i texts;
+  text = shown;
+  back = drop (i + 1) texts;
+  split = sym (take-append-drop i texts) ∙ ap (λ t. take i texts ++ t) (drop_more texts i text within ∙ ap (λ t. t ∷ drop (i + 1) texts) (sym (same ∙ is)));
+  before = names;
+  lists = lists_grown before now (take i texts) names grow so_far;
+  few = few;
+  stops = stops;
 }

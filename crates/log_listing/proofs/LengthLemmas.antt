@@ -1,7 +1,8 @@
 -- Lengths of logs that grow.
-use Rattle.std.proofs.Common.{◌≡◌, ◌≢◌, ◌<◌, ◌≤◌, ◌^◌, ◌+◌, ℕ, zero, suc, Bool, true, List, [], ◌∷◌, ◌++◌, length, map, get_or, Option, Some, None, IsSome, Contains, bytes_eq, option_map, unwrap_or, refl, sym, ap, ◌∙◌, subst, inl, inr, arith}
+use Rattle.std.proofs.Common.{◌≡◌, ◌≢◌, ◌<◌, ◌≤◌, ◌^◌, ◌+◌, ℕ, zero, suc, Bool, true, List, [], ◌∷◌, ◌++◌, length, map, take, get_or, Option, Some, None, IsSome, Contains, bytes_eq, option_map, unwrap_or, refl, sym, ap, ◌∙◌, subst, inl, inr, arith}
 use Rattle.std.specs.List.{All, AllZip, list_any}
-use Rattle.std.proofs.lemmas.List.{map-append}
+use Rattle.std.proofs.lemmas.Bool.{false≢true}
+use Rattle.std.proofs.lemmas.List.{map-append, take_more}
 use Rattle.std.proofs.lemmas.List.Elements.{All-push, All-weaker, Contains-get_or, Contains-append_cases}
 use Rattle.lp_model.specs.Outside.{Folder, OnlyGrow, Told, bytes_in}
 use Rattle.lp_model.proofs.Pieces.{length_grown, there_grown}
@@ -43,7 +44,7 @@ one_of_at name other zero within is = sym is
 one_of_at name other (suc k) within is = absurd (omega arith)
 
 one_of : (name other : List ℕ) → Contains (name ∷ []) other → other ≡ name
-one_of name other (k, (within, is)) = one_of_at name other k within is
+one_of name other (k, within, is) = one_of_at name other k within is
 
 -- one of some names is gone
 pub gone_among : (told : Option Folder) (names : List (List ℕ)) (place : ℕ) (name : List ℕ) (fault : ListFault) → place < length names → name ≡ get_or names place name → IsGone told (name ∷ []) fault → IsGone told names fault
@@ -55,7 +56,7 @@ gone_among told names place name F.Memory within is gone = tt
 
 -- a log that is listed is there
 there_in : (files : Folder) (texts : List (List ℕ)) (found : List (List (List ℕ))) (name : List ℕ) → AllZip (Gives (Some files)) texts found → Contains (joined found) name → IsSome (files name)
-there_in files [] [] name h (k, (within, is)) = absurd (omega arith)
+there_in files [] [] name h (k, within, is) = absurd (omega arith)
 there_in files [] (f ∷ found) name h here = absurd h
 there_in files (t ∷ texts) [] name h here = absurd h
 there_in files (t ∷ texts) (f ∷ found) name h here = elim (Contains-append_cases f (joined found) name here) [
@@ -75,7 +76,7 @@ refused_stopped told texts F.Logs s = tt
 refused_stopped told texts F.Memory s = tt
 
 none_there : (file : Option (List ℕ)) → file ≡ None → IsSome file → ⊥
-none_there None e is = is
+none_there None e is = false≢true is
 none_there (Some bytes) e is = absurd (cc)
 
 -- a listed log is gone only where the logs don't tell their files
@@ -86,3 +87,11 @@ refused_gone (Some files) texts names (F.NoSuchLog name) l gone = absurd (none_t
 refused_gone told texts names F.TooManyLogs l gone = absurd gone
 refused_gone told texts names F.Logs l gone = tt
 refused_gone told texts names F.Memory l gone = tt
+
+-- a turn of the loop over names
+pub lengths_step : (before mid now : Option Folder) (names : List (List ℕ)) (i : ℕ) (name : List ℕ) (logs pushed : List NameLength) (log : NameLength) → i < length names → name ≡ get_or names i name → log.name ≡ name
+    → OnlyGrow mid now → OnlyGrow before now → AreLengths before mid (take i names) logs → IsLengthNow now name log.length → log.length ≤ 2 ^ 46 → pushed ≡ logs ++ log ∷ [] → AreLengths before now (take (i + 1) names) pushed
+lengths_step before mid now names i name logs pushed log within is named grow whole so_far here small push =
+    let more : take (i + 1) names ≡ take i names ++ log.name ∷ [] = take_more names i name within ∙ ap (λ n. take i names ++ n ∷ []) (sym (named ∙ is)) in
+    let all = lengths_more before mid now (take i names) logs log grow whole so_far (subst (λ (n : List ℕ). IsLengthNow now n log.length) (sym named) here) small in
+    subst (λ (ls : List NameLength). AreLengths before now (take (i + 1) names) ls) (sym push) (subst (λ (ns : List (List ℕ)). AreLengths before now ns (logs ++ log ∷ [])) (sym more) all)
