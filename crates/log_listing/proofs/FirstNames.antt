@@ -1,12 +1,11 @@
 -- Names at their first places, one more at a time.
-use Rattle.std.proofs.Common.{◌≡◌, ℕ, ◌+◌, ◌<◌, ◌≤◌, Bool, true, false, not, cond, ◌||◌, List, [], ◌∷◌, ◌++◌, length, filter, fold, take, drop, get_or, Contains, bytes_eq, refl, sym, ap, ◌∙◌, subst, inl, inr, arith, append_assoc, length-append}
-use Rattle.std.specs.List.{list_any}
+use Rattle.std.proofs.Common.{◌≡◌, ℕ, ◌+◌, ◌<◌, ◌≤◌, Bool, true, false, not, cond, ◌||◌, List, [], ◌∷◌, ◌++◌, length, filter, take, drop, get_or, Contains, bytes_eq, refl, sym, ap, ◌∙◌, subst, inl, inr, arith, append_assoc, length-append}
 use Rattle.std.specs.BTreeSet.{BTreeSet, contains}
 use Rattle.std.specs.Cmp.Lexicographic.{slice_cmp, nat_list_eq_equiv}
 use Rattle.std.proofs.lemmas.Map.Views.{Contains-from_any, list_any-from_Contains}
 use Rattle.std.specs.Ordering.{nat_cmp, is_eq}
 use Rattle.std.proofs.lemmas.Bool.{cases_Bool, both_ways, not-true}
-use Rattle.std.proofs.lemmas.List.{append-nil, take-append-drop, take_more}
+use Rattle.std.proofs.lemmas.List.{append-nil, take-append-drop}
 use Rattle.std.proofs.lemmas.List.Sums.{fold_more}
 use Rattle.std.proofs.lemmas.List.Folds.{list_any-append}
 use Rattle.std.proofs.lemmas.Map.Text.{is_eq-slice_cmp}
@@ -26,9 +25,9 @@ swapped : (a b : Name) → bytes_eq a b ≡ bytes_eq b a
 swapped a b = elim (cases_Bool (bytes_eq a b)) [
   | inl e ↦ e ∙ sym (is_same b a (sym (same_is a b e)))
   | inr e ↦ elim (cases_Bool (bytes_eq b a)) [
-      | inl f ↦ absurd (both_ways (bytes_eq a b) e (is_same a b (sym (same_is b a f))))
-      | inr f ↦ e ∙ sym f
-    ]
+    | inl f ↦ absurd (both_ways (bytes_eq a b) e (is_same a b (sym (same_is b a f))))
+    | inr f ↦ e ∙ sym f
+  ]
 ]
 
 -- names other than one

@@ -1,5 +1,5 @@
 -- What texts list stays while the logs grow.
-use Rattle.std.proofs.Common.{◌≡◌, ◌<◌, ◌≤◌, ◌⊎◌, ◌↔◌, ℕ, List, [], ◌∷◌, ◌++◌, length, take, drop, get_or, ◌+◌, Option, Some, None, IsSome, IsSomeAnd, MatchOption, Contains, refl, sym, ap, ◌∙◌, subst, inl, inr, arith, append_assoc}
+use Rattle.std.proofs.Common.{◌≡◌, ◌<◌, ◌≤◌, ℕ, List, [], ◌∷◌, ◌++◌, length, take, drop, get_or, ◌+◌, Option, Some, None, IsSome, IsSomeAnd, MatchOption, refl, sym, ap, ◌∙◌, subst, append_assoc}
 use Rattle.std.specs.List.{AllZip}
 use Rattle.std.proofs.lemmas.Bool.{false≢true}
 use Rattle.std.proofs.lemmas.List.{append-nil, take_more, take-append-drop, drop_more}
@@ -8,7 +8,7 @@ use Rattle.lp_outside.specs.Matching.{AreMatches}
 use Rattle.log_listing.specs.declared.fault.ListFault.{ListFault}
 use Rattle.log_listing.specs.declared.fault.ListFault.TheVariants as F
 use Rattle.log_listing.specs.Firsts.{firsts, joined, with_names}
-use Rattle.log_listing.specs.Listed.{Gives, Lists, Adds, AddsTooMany, IsMissing, StopsAt, Stops, most_logs}
+use Rattle.log_listing.specs.Listed.{Gives, Lists, Adds, IsMissing, StopsAt, Stops, most_logs}
 use Rattle.log_listing.proofs.FirstNames.{firsts-append}
 
 -- a fact that stays in a folder that grows stays as far as the logs tell
@@ -33,7 +33,7 @@ matches_grown pattern names x y grow m = record {
   ordered = m.ordered;
   each = λ name. (
     (λ here. let both = (m.each name).0 here in (stays (x name) (y name) (grow name) both.0, both.1)),
-    (λ both. (m.each name).1 (was_there (x name) (y name) (grow name) both.0, both.1))
+    (λ both. (m.each name).1 (was_there (x name) (y name) (grow name) both.0, both.1)),
   );
 }
 

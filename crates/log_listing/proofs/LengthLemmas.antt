@@ -1,18 +1,17 @@
 -- Lengths of logs that grow.
-use Rattle.std.proofs.Common.{◌≡◌, ◌≢◌, ◌<◌, ◌≤◌, ◌^◌, ◌+◌, ℕ, zero, suc, Bool, true, List, [], ◌∷◌, ◌++◌, length, map, take, get_or, Option, Some, None, IsSome, Contains, bytes_eq, option_map, unwrap_or, refl, sym, ap, ◌∙◌, subst, inl, inr, arith}
-use Rattle.std.specs.List.{All, AllZip, list_any}
+use Rattle.std.proofs.Common.{◌≡◌, ◌<◌, ◌≤◌, ◌^◌, ◌+◌, ℕ, zero, suc, List, [], ◌∷◌, ◌++◌, length, take, get_or, Option, Some, None, IsSome, Contains, option_map, unwrap_or, refl, sym, ap, ◌∙◌, subst, inl, inr, arith}
+use Rattle.std.specs.List.{AllZip}
 use Rattle.std.proofs.lemmas.Bool.{false≢true}
 use Rattle.std.proofs.lemmas.List.{map-append, take_more}
 use Rattle.std.proofs.lemmas.List.Elements.{All-push, All-weaker, Contains-get_or, Contains-append_cases}
-use Rattle.lp_model.specs.Outside.{Folder, OnlyGrow, Told, bytes_in}
+use Rattle.lp_model.specs.Outside.{Folder, OnlyGrow, bytes_in}
 use Rattle.lp_model.proofs.Pieces.{length_grown, there_grown}
-use Rattle.lp_outside.specs.Matching.{AreMatches}
 use Rattle.log_listing.specs.declared.fault.ListFault.{ListFault}
 use Rattle.log_listing.specs.declared.fault.ListFault.TheVariants as F
 use Rattle.log_listing.specs.declared.lengths.NameLength.{NameLength}
-use Rattle.log_listing.specs.Firsts.{firsts, joined}
+use Rattle.log_listing.specs.Firsts.{joined}
 use Rattle.log_listing.specs.Listed.{Gives, Lists, Stops, IsRefused}
-use Rattle.log_listing.specs.Lengths.{IsLength, IsLengthNow, AreLengths, IsGone, names_in}
+use Rattle.log_listing.specs.Lengths.{IsLength, IsLengthNow, AreLengths, IsGone}
 use Rattle.log_listing.proofs.FirstNames.{in_joined}
 
 size_is : (count : ℕ) (file : Option (List ℕ)) → Some count ≡ option_map length file → length (unwrap_or file []) ≡ count

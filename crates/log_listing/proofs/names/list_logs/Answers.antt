@@ -1,7 +1,5 @@
 use Rattle.std.proofs.Common.{ℕ, List, sym, subst}
 use Rattle.std.proofs.lemmas.Result.{IfOk-weaker, IfErr-weaker}
-use Rattle.log_listing.specs.declared.fault.ListFault.{ListFault}
-use Rattle.log_listing.specs.declared.lengths.NameLength.{NameLength}
 use Rattle.log_listing.specs.Lengths.{AreLengths, IsGone, names_in}
 use Rattle.log_listing.specs.Listed.{Lists, IsRefused}
 use Rattle.log_listing.proofs.Grown.{lists_grown}

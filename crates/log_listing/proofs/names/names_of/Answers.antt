@@ -13,8 +13,8 @@ returns-in_err-add_text-clause-stops g c =
     let here = c.in_err-add_text.ensures in
     let items = c.as_slice-text-items.ensures in
     rw p.1 (rw (← items) (subst (λ (fault : ListFault). Stops (g.L.Logs.folder c.add_text.new.logs) c.as_slice-text-items.result.now fault) (sym p.2)
-        (stops_step _ _ c.as_slice-text-items.result.now c.loop-text.text-index c.text-item.result c.as_str.result.now c.loop-text.listing.names c.in_err-add_text.field-0.0
-        c.loop-text-test.true c.text-item.is c.as_str.ensures here.grows so_far.lists so_far.few here.stops)))
+    (stops_step _ _ c.as_slice-text-items.result.now c.loop-text.text-index c.text-item.result c.as_str.result.now c.loop-text.listing.names c.in_err-add_text.field-0.0
+    c.loop-text-test.true c.text-item.is c.as_str.ensures here.grows so_far.lists so_far.few here.stops)))
 
 pub loop-text-preserved : goal.loop-text-preserved
 loop-text-preserved g c =

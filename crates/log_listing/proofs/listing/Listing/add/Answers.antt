@@ -1,5 +1,4 @@
 use Rattle.std.proofs.Common.{◌++◌, ◌∷◌, [], ap, sym, ◌∙◌, List, ℕ}
-use Rattle.std.proofs.lemmas.Bool.{not-false}
 use Rattle.log_listing.proofs.FirstNames.{knows_pushed}
 use Rattle.log_listing.proofs.listing.Listing.add.Goals as goal
 
