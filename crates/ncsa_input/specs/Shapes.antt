@@ -1,5 +1,5 @@
 -- The parts of a line.
-use Rattle.std.specs.Prelude.{ℕ, ◌+◌, ◌==◌, List, [], ◌∷◌, take, drop, if◌then◌else◌, Option, Some, None, option_map, position}
+use Rattle.std.specs.Prelude.{ℕ, ◌+◌, ◌==◌, List, [], ◌∷◌, take, drop, if◌then◌else◌, Option, Some, None, option_map, option_and_then, position}
 use Rattle.std.specs.List.{position_or_len}
 use Rattle.ncsa_input.specs.declared.shape.Shape.{Shape}
 use Rattle.ncsa_input.specs.declared.shape.Shape.TheVariants.{Word, Bracketed, Quoted}
@@ -25,15 +25,18 @@ closing (b ∷ c ∷ bs) =
 abbrev pub taken_word : List ℕ → Taken
 taken_word text = let size = position_or_len (λ b. b == 32) text in if size == 0 then None else Some (take size text, drop size text)
 
+-- what is left of a text behind its first byte, where that is the one that opens a part
+abbrev pub behind : ℕ → List ℕ → Option (List ℕ)
+behind opening [] = None
+behind opening (b ∷ bs) = if b == opening then Some bs else None
+
 -- what stands between `[` and the first `]`
 abbrev pub taken_bracketed : List ℕ → Taken
-taken_bracketed [] = None
-taken_bracketed (b ∷ bs) = if b == 91 then closed_at bs (position (λ c. c == 93) bs) else None
+taken_bracketed text = option_and_then (λ inner. closed_at inner (position (λ b. b == 93) inner)) (behind 91 text)
 
 -- what stands between quotes
 abbrev pub taken_quoted : List ℕ → Taken
-taken_quoted [] = None
-taken_quoted (b ∷ bs) = if b == 34 then closed_at bs (closing bs) else None
+taken_quoted text = option_and_then (λ inner. closed_at inner (closing inner)) (behind 34 text)
 
 -- what a part takes from the front of a text
 unfoldable pub taken : Shape → List ℕ → Taken

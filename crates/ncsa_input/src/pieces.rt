@@ -1,6 +1,6 @@
 // Where the next part of a line stands.
-ghost use Rattle.std.specs.Prelude.{◌≡◌, ◌<◌, ◌≤◌, ◌==◌, ◌+◌, ◌-◌, ◌^◌, None, Some, IfSome, MatchOption, length, drop, position};
-ghost use Rattle.ncsa_input.specs.Shapes.{closing, taken};
+ghost use Rattle.std.specs.Prelude.{◌≡◌, ◌<◌, ◌≤◌, ◌==◌, ◌+◌, ◌-◌, ◌^◌, None, Some, IfSome, MatchOption, length, drop, option_map, position};
+ghost use Rattle.ncsa_input.specs.Shapes.{closing, behind, taken};
 ghost use Rattle.ncsa_input.specs.Pieces.{IsPiece, enclosed};
 ghost use Rattle.ncsa_input.specs.Lines.{behind_spaces};
 
@@ -39,6 +39,14 @@ fn closing(text: &[u8]) -> Option<usize>
     None
 }
 
+// What is left behind the byte that opens a part.
+fn behind(opening: u8, text: &[u8]) -> Option<&[u8]>
+    ensures { option_map (λ s. s.now) result ≡ behind opening text.now }
+{
+    let (first, inner) = text.split_first()?;
+    if *first == opening { Some(inner) } else { None }
+}
+
 // The part inside a byte that opens it and one that closes it.
 fn inside(at: usize, size: usize) -> Piece
     requires { at + size < 2 ^ 64 - 2 }
@@ -71,20 +79,18 @@ fn bracketed(line: &[u8], at: usize) -> Option<Piece>
     requires { at ≤ length line.now }
     ensures { MatchOption result (taken Shape.Bracketed (drop at line.now) ≡ None) (IsPiece Shape.Bracketed line.now at) }
 {
-    match bytes_from(line, at) {
-        [b'[', inner @ ..] => Some(inside(at, bracket(inner)?)),
-        _ => None,
-    }
+    let inner = behind(b'[', bytes_from(line, at))?;
+    let size = bracket(inner)?;
+    Some(inside(at, size))
 }
 
 fn quoted(line: &[u8], at: usize) -> Option<Piece>
     requires { at ≤ length line.now }
     ensures { MatchOption result (taken Shape.Quoted (drop at line.now) ≡ None) (IsPiece Shape.Quoted line.now at) }
 {
-    match bytes_from(line, at) {
-        [b'"', inner @ ..] => Some(inside(at, closing(inner)?)),
-        _ => None,
-    }
+    let inner = behind(b'"', bytes_from(line, at))?;
+    let size = closing(inner)?;
+    Some(inside(at, size))
 }
 
 /// The part of this shape at a place of a line.

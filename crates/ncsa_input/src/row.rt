@@ -33,7 +33,11 @@ fn may_end(parts: usize) -> bool
 fn ended(fields: Fields) -> Option<Fields>
     ensures { result ≡ (if may_end (length fields) then Some fields else None) }
 {
-    if may_end(fields.len()) { Some(fields) } else { None }
+    if may_end(fields.len()) {
+        Some(fields)
+    } else {
+        None
+    }
 }
 
 // The fields of a line; none where it has another form.

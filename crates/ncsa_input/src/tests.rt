@@ -41,7 +41,10 @@ fn lines_are_what_the_rules_say(rt: HostRuntime) -> Result<(), Fail> {
             b"::1 - - [x] \"r\" 200 5 \"http://a/\" \"Mozilla \\\"x\\\" \\\\\"",
             b"::1|~|~|x|r|200|5|http://a/|Mozilla \\\"x\\\" \\\\|~|",
         ),
-        (b"h l u [t] \"r\" s b \"f\" \"a\" \"c\"", b"h|l|u|t|r|s|b|f|a|c|"),
+        (
+            b"h l u [t] \"r\" s b \"f\" \"a\" \"c\"",
+            b"h|l|u|t|r|s|b|f|a|c|",
+        ),
         (b"h  l   u [t]  \"r\" s b", b"h|l|u|t|r|s|b|~|~|~|"),
         // `-` is none, in quotes and brackets too; an empty quoted part is an empty text.
         (b"- - - [-] \"-\" - - \"-\" \"\"", b"~|~|~|~|~|~|~|~||~|"),
@@ -60,7 +63,10 @@ fn lines_are_what_the_rules_say(rt: HostRuntime) -> Result<(), Fail> {
         (b"h\tl u x [t] \"r\" s b", b"h\tl|u|x|t|r|s|b|~|~|~|"),
         (b"h l u\t[t] \"r\" s b", b"!"),
         // Words may hold quotes and brackets.
-        (b"\"h [l u] [t] \"r\" [s \"b", b"\"h|[l|u]|t|r|[s|\"b|~|~|~|"),
+        (
+            b"\"h [l u] [t] \"r\" [s \"b",
+            b"\"h|[l|u]|t|r|[s|\"b|~|~|~|",
+        ),
         // The first `]` ends the time, and a space follows.
         (b"h l u [t]x] \"r\" s b", b"!"),
         (b"h l u [t \"r\" s b", b"!"),
@@ -70,7 +76,10 @@ fn lines_are_what_the_rules_say(rt: HostRuntime) -> Result<(), Fail> {
         (b"h l u [t] \"r\\\" s b", b"!"),
         (b"h l u [t] \"r\\\\\" s b", b"h|l|u|t|r\\\\|s|b|~|~|~|"),
         (b"h l u [t] \"r\"s b", b"!"),
-        (b"h l u [t] \"\\x16\\x03\\x01\" 400 226", b"h|l|u|t|\\x16\\x03\\x01|400|226|~|~|~|"),
+        (
+            b"h l u [t] \"\\x16\\x03\\x01\" 400 226",
+            b"h|l|u|t|\\x16\\x03\\x01|400|226|~|~|~|",
+        ),
         (b"h l u [t] \"r\" s b\r", b"h|l|u|t|r|s|b\r|~|~|~|"),
         (b"h l u [t] r s b", b"!"),
     ];
@@ -95,7 +104,10 @@ fn every_field_is_read(rt: HostRuntime) -> Result<(), Fail> {
         ("cs(Referer)", None),
     ];
     for (name, want) in cases {
-        assert!(rt; ncsa_reading(name).map(|reading| reading.kind()) == want, "{name}");
+        assert!(rt;
+            ncsa_reading(name).map(|reading| reading.kind()) == want,
+            "{name}"
+        );
     }
     Ok(())
 }
