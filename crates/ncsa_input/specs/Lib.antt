@@ -1,0 +1,4 @@
+pub mod Table
+pub mod Shapes
+pub mod Lines
+pub mod Pieces

@@ -1,0 +1,115 @@
+// Where the next part of a line stands.
+ghost use Rattle.std.specs.Prelude.{◌≡◌, ◌<◌, ◌≤◌, ◌==◌, ◌+◌, ◌-◌, ◌^◌, None, Some, IfSome, MatchOption, length, drop, option_map, position};
+ghost use Rattle.ncsa_input.specs.Shapes.{closing, behind, taken};
+ghost use Rattle.ncsa_input.specs.Pieces.{IsPiece, enclosed};
+ghost use Rattle.ncsa_input.specs.Lines.{behind_spaces};
+
+use crate::shape::Shape;
+use line_input::{Extent, Gap};
+use lp_values::bytes_from;
+
+/// Where a part's bytes stand, and where it ends.
+#[derive(Clone, Copy)]
+pub(crate) struct Piece {
+    pub(crate) bytes: Extent,
+    pub(crate) end: usize,
+}
+
+// Where the first `]` stands.
+fn bracket(text: &[u8]) -> Option<usize>
+    ensures place { result ≡ position (λ b. b == 93) text.now }
+    ensures within { IfSome result (λ at. at < length text.now) }
+{
+    text.iter().position(|byte| *byte == b']')
+}
+
+// Where the quote stands that ends a quoted part.
+fn closing(text: &[u8]) -> Option<usize>
+    ensures place { result ≡ closing text.now }
+    ensures within { IfSome result (λ at. at < length text.now) }
+{
+    let mut at = 0;
+    while at < text.len() {
+        match text[at] {
+            b'"' => return Some(at),
+            b'\\' => at += 2,
+            _ => at += 1,
+        }
+    }
+    None
+}
+
+// What is left behind the byte that opens a part.
+fn behind(opening: u8, text: &[u8]) -> Option<&[u8]>
+    ensures { option_map (λ s. s.now) result ≡ behind opening text.now }
+{
+    let (first, inner) = text.split_first()?;
+    if *first == opening { Some(inner) } else { None }
+}
+
+// The part inside a byte that opens it and one that closes it.
+fn inside(at: usize, size: usize) -> Piece
+    requires { at + size < 2 ^ 64 - 2 }
+    ensures { result ≡ enclosed at size }
+{
+    let from = at + 1;
+    let to = from + size;
+    Piece {
+        bytes: Extent { from, to },
+        end: to + 1,
+    }
+}
+
+fn word(line: &[u8], at: usize) -> Option<Piece>
+    requires { at ≤ length line.now }
+    ensures { MatchOption result (taken Shape.Word (drop at line.now) ≡ None) (IsPiece Shape.Word line.now at) }
+{
+    let size = Gap::Spaces.part_length(bytes_from(line, at));
+    if size == 0 {
+        return None;
+    }
+    let to = at + size;
+    Some(Piece {
+        bytes: Extent { from: at, to },
+        end: to,
+    })
+}
+
+fn bracketed(line: &[u8], at: usize) -> Option<Piece>
+    requires { at ≤ length line.now }
+    ensures { MatchOption result (taken Shape.Bracketed (drop at line.now) ≡ None) (IsPiece Shape.Bracketed line.now at) }
+{
+    let inner = behind(b'[', bytes_from(line, at))?;
+    let size = bracket(inner)?;
+    Some(inside(at, size))
+}
+
+fn quoted(line: &[u8], at: usize) -> Option<Piece>
+    requires { at ≤ length line.now }
+    ensures { MatchOption result (taken Shape.Quoted (drop at line.now) ≡ None) (IsPiece Shape.Quoted line.now at) }
+{
+    let inner = behind(b'"', bytes_from(line, at))?;
+    let size = closing(inner)?;
+    Some(inside(at, size))
+}
+
+/// The part of this shape at a place of a line.
+pub(crate) fn piece_at(shape: Shape, line: &[u8], at: usize) -> Option<Piece>
+    requires { at ≤ length line.now }
+    ensures { MatchOption result (taken shape (drop at line.now) ≡ None) (IsPiece shape line.now at) }
+{
+    match shape {
+        Shape::Word => word(line, at),
+        Shape::Bracketed => bracketed(line, at),
+        Shape::Quoted => quoted(line, at),
+    }
+}
+
+/// The place behind one or more spaces.
+pub(crate) fn behind_spaces(line: &[u8], at: usize) -> Option<usize>
+    requires { at ≤ length line.now }
+    ensures { MatchOption result (behind_spaces (drop at line.now) ≡ None) (λ next. (behind_spaces (drop at line.now) ≡ Some (drop next line.now)) × (next ≤ length line.now)) }
+{
+    let size = Gap::Spaces.gap_length(bytes_from(line, at));
+    if size == 0 { None } else { Some(at + size) }
+}
