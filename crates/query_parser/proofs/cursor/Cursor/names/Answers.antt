@@ -1,0 +1,59 @@
+use Rattle.std.proofs.Common.{◌≡◌, ℕ, ◌-◌, ◌<◌, length, map, Bool, true, false, ◌||◌, List, [], ◌∷◌, ◌++◌, Option, Some, None, option_map, Result, Ok, Err, IfOk, refl, sym, ◌∙◌, ap, subst, arith, rules, append_assoc, append-nil}
+use Rattle.std.proofs.lemmas.List.{length-map, map_push}
+use Rattle.std.proofs.lemmas.Result.{err_from_is_err_and}
+use Rattle.grammar.specs.declared.Class.TheVariants as class
+use Rattle.grammar.specs.Classes.{is_a}
+use Rattle.grammar.specs.Trees.{Tree, Token, Placed, and_of, or_of, tested_of, subquery_of}
+use Rattle.grammar.specs.Trees.{Tree as tree}
+use Rattle.grammar.specs.Trees.{Query as query}
+use Rattle.grammar.specs.Trees as model
+use Rattle.grammar.specs.Forms.{Kind as kind}
+use Rattle.grammar.specs.Forms.{Rule as r}
+use Rattle.grammar.specs.Reading.{heads_by, Reads}
+use Rattle.grammar.specs.Rules.{a, behind, is_separator, conj, neg, name, expr}
+use Rattle.grammar.proofs.Answering.{reads_map, reads_seq, reads_behind, reads_before, reads_left, reads_right, reads_absent, reads_present, reads_nest, reads_ref, so_far_start, so_far_as, so_far_more, so_far_end, so_far_map, so_far_ref, reads_alt_left, reads_alt_right}
+use Rattle.query_tree.specs.Tokens.{seen}
+use Rattle.query_tree.specs.Views.{tree_of, placed_of, test_of}
+use Rattle.query_tree.specs.Views as views
+use Rattle.query_tree.proofs.Lists.{query_made}
+use Rattle.grammar.specs.Forms.{Ref, Tok}
+use Rattle.query_parser.specs.Answers.{Gives, Stopped}
+use Rattle.query_parser.specs.Conditions.{condition_with, conditions_with, asked_between, tail_of, range_of, set_of, subquery_with, numbers_in_values, Grown}
+use Rattle.query_parser.specs.declared.tail.Values.TheVariants as v
+use Rattle.query_parser.proofs.Stopping.{stop_map, stop_first, stop_second, stop_left, stop_right, stop_alt_left, stop_alt_right, stop_present, stop_nest, stop_ref, stop_more, given_ok, given_err, given_as, given_same}
+use Rattle.query_parser.proofs.Steps.{reads_as, pushed, seen_shorter}
+use Rattle.query_parser.proofs.Conditioning.{between_none, grown_none, grown_as, grown_both, and_made, or_made, tail_made, grown_one, between_one, plain_same, tested_by, asks_err, asks_ok, asks_as, asks_same, asks_set, plain_numbers, set_apart}
+use Rattle.query_parser.proofs.cursor.Cursor.names.Goals as goal
+
+pub returns-in_err-first : goal.returns-in_err-first
+returns-in_err-first c n =
+    let p = err_from_is_err_and c.from_residual.result c.from_residual.ensures.1 in
+    rw (p.1, p.2) (given_err (stop_map (stop_first refl refl (c.in_err-first.ensures n).is)))
+
+pub loop-self-init : goal.loop-self-init
+loop-self-init c =
+    let made : views.placed_all c.push.new.self ≡ placed_of c.in_ok-first.first ∷ [] = rw (c.in_ok-push.ensures.ok, c.new-items.ensures) refl in
+    λ n. so_far_as (λ vs. ap (λ (l : List Placed). l ++ vs) (sym made)) (so_far_start refl (c.in_ok-first.ensures n).is)
+
+pub returns-in_err-_comma : goal.returns-in_err-_comma
+returns-in_err-_comma c n =
+    let p = err_from_is_err_and c.from_residual-in_err-_comma.result c.from_residual-in_err-_comma.ensures.1 in
+    rw (p.1, p.2) (given_err (stop_more (is_a class.Comma) refl refl (sym c.loop-self-test.ensures) (c.loop-self.invariant n) (stop_map (stop_first refl refl (c.in_err-_comma.ensures.exact n).is))))
+
+pub returns-in_err-item : goal.returns-in_err-item
+returns-in_err-item c n =
+    let p = err_from_is_err_and c.from_residual-in_err-item.result c.from_residual-in_err-item.ensures.1 in
+    rw (p.1, p.2) (given_err (stop_more (is_a class.Comma) refl refl (sym c.loop-self-test.ensures) (c.loop-self.invariant n) (stop_map (stop_second refl (c.in_ok-_comma.ensures.exact n).is (c.in_err-item.ensures n).is))))
+
+pub loop-self-preserved : goal.loop-self-preserved
+loop-self-preserved c =
+    let made : views.placed_all c.push-in-loop-self.new.self ≡ views.placed_all c.loop-self.items ++ (placed_of c.in_ok-item.item ∷ []) = rw c.in_ok-push-2.ensures.ok (map_push placed_of c.loop-self.items.items.items c.in_ok-item.item) in
+    λ n. so_far_as (pushed _ _ _ made) (so_far_more (is_a class.Comma) refl refl (sym c.loop-self-test.ensures) (reads_behind refl (c.in_ok-_comma.ensures.exact n).is (c.in_ok-item.ensures n).is) (c.loop-self.invariant n))
+
+pub loop-self-smaller : goal.loop-self-smaller
+loop-self-smaller c =
+    seen_shorter {f = behind (a class.Comma) name} {n = 0} _ _ refl (reads_behind refl (c.in_ok-_comma.ensures.exact 0).is (c.in_ok-item.ensures 0).is)
+
+pub returns : goal.returns
+returns c n =
+    given_ok (reads_as (append-nil _) (so_far_end (is_a class.Comma) refl refl (sym c.loop-self-test.ensures) (c.loop-self.invariant n)))
