@@ -4,6 +4,7 @@ use Rattle.std.proofs.lemmas.Bool.{false≢true}
 use Rattle.std.proofs.lemmas.List.{map-append}
 use Rattle.grammar.specs.Trees as model
 use Rattle.grammar.specs.Forms.{Kind, Worth, Form, Ref}
+use Rattle.grammar.specs.Forms.{Kind as kind}
 use Rattle.grammar.specs.Forms.{Rule as rule}
 use Rattle.grammar.specs.declared.Class.TheVariants as class
 use Rattle.grammar.specs.Rules.{a}
@@ -16,7 +17,7 @@ use Rattle.query_parser.specs.declared.fault.Stop.{Stop}
 use Rattle.grammar.specs.Trees.{Test as test}
 use Rattle.query_tree.specs.declared.condition.Cond.{Cond}
 use Rattle.query_tree.specs.declared.query.Query.{Query}
-use Rattle.query_tree.specs.Views.{tree_of, test_of, query_of}
+use Rattle.query_tree.specs.Views.{tree_of, test_of, query_of, numbers_in}
 use Rattle.query_parser.specs.declared.tail.Values.{Values}
 use Rattle.query_parser.specs.declared.tail.Values.TheVariants as v
 use Rattle.query_parser.specs.declared.tail.Range.{Range}
@@ -151,6 +152,14 @@ pub tested_all : (old new : List Query) (o : Option Cond) → model.tested_of (c
 tested_all old new None = refl
 tested_all old new (Some c) = refl
 
+abbrev pub with_test : model.Test → List model.Query → model.Condition
+with_test t qs = record { test = t; asked = qs }
+
+-- a condition that is this test of a value
+pub test_made : {asks : Bool} {old new : List Query} (y : Cond) (e : model.Tree) (t : Tail) → test_of y ≡ tested e t → Grown asks old new (numbers_in_tail t)
+    → condition_with y (asked_between old new) ≡ model.test_of e (tail_of t (asked_between old new))
+test_made {asks = asks} {old = old} {new = new} y e t same one = ap (λ (x : model.Test). with_test x (asked_between old new)) same ∙ tail_made asks old new e t one
+
 pub asks_err : {b : Kind} {Y : Type 0} {asks : Bool} {n : ℕ} {f : Form b} {all rest : List Token} {old new : List Query} {view : Y → List model.Query → Worth b} {numbers : Y → List ℕ} {e : Stop}
     → Stopped n f (map seen all) e → Asks asks n f all rest old new view numbers (Err e)
 asks_err one = record { is = one }
@@ -162,6 +171,11 @@ asks_ok one two = record { is = (one, two) }
 pub asks_as : {b : Kind} {Y : Type 0} {asks : Bool} {n : ℕ} {f : Form b} {all rest : List Token} {old new : List Query} {view : Y → List model.Query → Worth b} {numbers : Y → List ℕ} {y : Y} {v : Worth b}
     → view y (asked_between old new) ≡ v → Reads n f (map seen all) v (map seen rest) → Grown asks old new (numbers y) → Asks asks n f all rest old new view numbers (Ok y)
 asks_as {n = n} {f = f} {all = all} {rest = rest} same one two = record { is = (subst (λ x. Reads n f (map seen all) x (map seen rest)) (sym same) one, two) }
+
+-- a condition that is this test
+pub asks_test : {asks : Bool} {n : ℕ} {f : Form kind.condition} {all rest : List Token} {old new : List Query} {y : Cond} {t : model.Test}
+    → test_of y ≡ t → Reads n f (map seen all) (with_test t (asked_between old new)) (map seen rest) → Grown asks old new (numbers_in y) → Asks asks n f all rest old new condition_with numbers_in (Ok y)
+asks_test {old = old} {new = new} same one two = asks_as (ap (λ (x : model.Test). with_test x (asked_between old new)) same) one two
 
 asks_by : {b : Kind} {Y : Type 0} (asks : Bool) (n : ℕ) (f g : Form b) (all rest : List Token) (old new : List Query) (view : Y → List model.Query → Worth b) (numbers : Y → List ℕ) (result : Result Y Stop)
     → ((v : Worth b) → Reads n f (map seen all) v (map seen rest) → Reads n g (map seen all) v (map seen rest)) → ((e : Stop) → Stopped n f (map seen all) e → Stopped n g (map seen all) e)

@@ -1,19 +1,20 @@
 -- From a reader's answer to the whole list of tokens.
-use Rattle.std.proofs.Common.{◌≡◌, ℕ, ◌-◌, ◌+◌, Bool, true, false, List, [], ◌∷◌, ◌++◌, length, drop, map, Option, Some, None, slice_get, zero, Result, Ok, Err, refl, sym, ◌∙◌, ap, subst, suc, arith, length-append}
+use Rattle.std.proofs.Common.{◌≡◌, ℕ, ◌-◌, ◌+◌, ◌≤◌, ◌<◌, Bool, true, false, List, [], ◌∷◌, ◌++◌, length, drop, map, Option, Some, None, slice_get, zero, Result, Ok, Err, refl, sym, ◌∙◌, ap, subst, suc, arith, length-append, append_assoc, append-nil}
+use Rattle.std.proofs.lemmas.List.{append_cancel_left}
 use Rattle.grammar.specs.Trees as model
 use Rattle.grammar.specs.Rules.{query}
-use Rattle.grammar.specs.Reading.{Exact, Outcome, read, failed, Reads}
-use Rattle.grammar.specs.Derivations.{tokens}
-use Rattle.grammar.specs.Whole.{Derives, IsSyntax, IsTooDeep}
-use Rattle.grammar.proofs.Ending.{whole_ok, whole_only, whole_syntax, whole_left, whole_deep}
+use Rattle.grammar.specs.Reading.{Exact, Outcome, read, failed, Reads, Fails}
+use Rattle.grammar.specs.Derivations.{tokens, depth, depth_to}
+use Rattle.grammar.specs.Whole.{Derives, NoneNext}
+use Rattle.grammar.proofs.Agreeing.{no_empty, same_first}
+use Rattle.grammar.proofs.Ending.{whole_ok, whole_only}
+use Rattle.grammar.proofs.Heads.{depth_below}
 use Rattle.query_tree.specs.declared.query.Query.{Query}
 use Rattle.query_tree.specs.Views.{query_of}
 use Rattle.query_lexer.specs.declared.token.Token.{Token as RealToken}
 use Rattle.query_tree.specs.Tokens.{seen}
 use Rattle.query_parser.specs.Answers.{Stops}
-use Rattle.query_parser.specs.Parsed.{IsThis, IsFault, place_in}
-use Rattle.query_parser.specs.declared.fault.ParseFault.{ParseFault}
-use Rattle.query_parser.specs.declared.fault.ParseFault.TheVariants as fault
+use Rattle.query_parser.specs.Parsed.{SyntaxAt, TooDeepAt, place_in}
 
 -- whether an outcome is a value and nothing left
 abbrev Done : Outcome model.Query → model.Query → Type 0
@@ -26,6 +27,12 @@ done_by o v is = subst (λ (x : Outcome model.Query). Done x v) (sym is) refl
 
 not-suc : (n : ℕ) → suc n ≡ 0 → ⊥
 not-suc n is = omega arith
+
+no_token : (t : model.Token) (r : List model.Token) → [] ≡ t ∷ r → ⊥
+no_token t r is = cc
+
+same_token : {t u : model.Token} {r s : List model.Token} → t ∷ r ≡ u ∷ s → t ≡ u
+same_token {t = t} {u = u} {r = r} {s = s} is = same_first t u r s is
 
 no_length : (all : List model.Token) → length all ≡ 0 → all ≡ []
 no_length [] is = refl
@@ -55,21 +62,71 @@ pub left_only : (all rest : List model.Token) (v w : model.Query) → (length re
 left_only all [] v w some one so = some refl
 left_only all (t ∷ rest) v w some one so = done_by (read v (t ∷ rest)) w (whole_only query 64 all (read v (t ∷ rest)) w one so)
 
+-- with what begins as far as the front and no further, the next token is bad
+syntax_next : (all rest : List model.Token) (one : Fails false 64 query all rest) → NoneNext query one.front rest
+syntax_next all [] one = λ d is. one.never d [] tt tt (append-nil (tokens d) ∙ is)
+syntax_next all (t ∷ rest) one = λ so. one.never so.0 [] tt tt (so.1, append-nil (tokens so.0) ∙ so.2 ∙ append_assoc one.front (t ∷ []) so.1)
+
 -- a fault at the first bad token
-pub syntax_is : (all : List model.Token) (count size at : ℕ) → Stops false 64 query all count → at ≡ place_in (drop (length all - count) all) size → IsFault all size (Err (fault.Syntax at))
+pub syntax_is : (all : List model.Token) (count size at : ℕ) → Stops false 64 query all count → at ≡ place_in (drop (length all - count) all) size → SyntaxAt all size at
 syntax_is all count size at is place =
     let one = is.exact.holds in
-    (is.rest, whole_syntax query 64 all is.rest one, place ∙ ap (λ (l : List model.Token). place_in l size) (behind_is all one.front is.rest count one.split is.count_is))
+    record {
+      front = one.front;
+      rest = is.rest;
+      split = one.split;
+      begun = record { way = one.way; more = one.more; begins_so = one.begins_so; within = one.within };
+      none_next = syntax_next all is.rest one;
+      place = place ∙ ap (λ (l : List model.Token). place_in l size) (behind_is all one.front is.rest count one.split is.count_is);
+    }
 
-pub deep_is : (all : List model.Token) (count size at : ℕ) → Stops true 64 query all count → at ≡ place_in (drop (length all - count) all) size → IsFault all size (Err (fault.TooDeep at))
+-- a fault at the token that opens a level too many
+deep_at : (all rest : List model.Token) (size at : ℕ) (one : Fails true 64 query all rest) → at ≡ place_in rest size → TooDeepAt all at
+deep_at all [] size at one place = absurd (no_token one.deeper.0 one.deeper.1 one.deeper.3)
+deep_at all (t ∷ rest) size at one place =
+    let far = one.deeper in
+    let same : far.0 ≡ t = sym (same_token far.3) in
+    record {
+      front = one.front;
+      token = t;
+      rest = rest;
+      split = one.split;
+      way = one.way;
+      more = far.2;
+      begins_so = one.begins_so ∙ ap (λ (x : List model.Token). one.front ++ x) (far.4 ∙ ap (λ (x : model.Token). x ∷ far.2) same);
+      within = one.within;
+      deeper = far.5;
+      none_within = λ d more is held. one.never d [] held tt (more, append-nil (tokens d) ∙ is ∙ append_assoc one.front (t ∷ []) more);
+      place = place;
+    }
+
+pub deep_is : (all : List model.Token) (count size at : ℕ) → Stops true 64 query all count → at ≡ place_in (drop (length all - count) all) size → TooDeepAt all at
 deep_is all count size at is place =
     let one = is.exact.holds in
-    (is.rest, whole_deep query 64 all is.rest one, place ∙ ap (λ (l : List model.Token). place_in l size) (behind_is all one.front is.rest count one.split is.count_is))
+    deep_at all is.rest size at one (place ∙ ap (λ (l : List model.Token). place_in l size) (behind_is all one.front is.rest count one.split is.count_is))
 
-pub left_is : (all rest : List model.Token) (v : model.Query) (count size at : ℕ) → length rest ≡ count → (count ≡ 0 → ⊥) → Reads 64 query all v rest → at ≡ place_in (drop (length all - count) all) size → IsFault all size (Err (fault.Syntax at))
+longer : (front : List model.Token) (t : model.Token) (more : List model.Token) → front ++ (t ∷ more) ≡ front → ⊥
+longer front t more is = no_empty t more (append_cancel_left front (t ∷ more) [] (is ∙ sym (append-nil front)))
+
+left_next : (all : List model.Token) (v : model.Query) (t : model.Token) (rest : List model.Token) (one : Reads 64 query all v (t ∷ rest)) → NoneNext query (tokens one.way) (t ∷ rest)
+left_next all v t rest one = λ so.
+    let text : tokens so.0 ≡ tokens one.way ++ (t ∷ so.1) = so.2 ∙ append_assoc (tokens one.way) (t ∷ []) so.1 in
+    let same = one.only so.0 [] tt (so.1, append-nil (tokens so.0) ∙ text) in
+    longer (tokens one.way) t so.1 (sym text ∙ same.0)
+
+pub left_is : (all rest : List model.Token) (v : model.Query) (count size at : ℕ) → length rest ≡ count → (count ≡ 0 → ⊥) → Reads 64 query all v rest → at ≡ place_in (drop (length all - count) all) size → SyntaxAt all size at
 left_is all [] v count size at same some one place = absurd (some (sym same))
 left_is all (t ∷ rest) v count size at same some one place =
-    (t ∷ rest, whole_left query 64 all v t rest one, place ∙ ap (λ (l : List model.Token). place_in l size) (behind_is all (tokens one.way) (t ∷ rest) count one.split same))
+    let below : depth_to (length (tokens one.way)) one.way ≤ depth one.way = depth_below (length (tokens one.way)) one.way in
+    let held : depth one.way ≤ 64 = one.within in
+    record {
+      front = tokens one.way;
+      rest = t ∷ rest;
+      split = one.split;
+      begun = record { way = one.way; more = []; begins_so = sym (append-nil (tokens one.way)); within = omega arith };
+      none_next = left_next all v t rest one;
+      place = place ∙ ap (λ (l : List model.Token). place_in l size) (behind_is all (tokens one.way) (t ∷ rest) count one.split same);
+    }
 
 none-some : {A : Type 0} {x : A} → None ≡ Some x → ⊥
 none-some is = cc

@@ -5,3 +5,5 @@ pub mod Steps
 pub mod Conditioning
 pub mod Querying
 pub mod Finishing
+pub mod Parsing
+pub mod Unique

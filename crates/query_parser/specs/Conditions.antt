@@ -98,12 +98,17 @@ tested e (t.Compared how b) = test.Compare (model.place_of e) (number_of how) e 
 tested e (t.Null neg) = test.IsNull (model.place_of e) e neg
 tested e (t.Ranged neg r) = tested_range e neg r
 
-abbrev pub subquery_with : Bool → model.Tree → List model.Placed → Option model.Test → model.Query
-subquery_with distinct value names condition = query.query (record {
+-- an expression as the one item
+abbrev pub items_with : model.Tree → List model.Item
+items_with value = record { value = value; alias = None } ∷ []
+
+-- a subquery of its parts
+abbrev pub subquery_with : Bool → List model.Item → List model.Placed → Option model.Test → model.Query
+subquery_with distinct items names condition = query.query (record {
   top = None;
   distinct = distinct;
   star = None;
-  items = record { value = value; alias = None } ∷ [];
+  items = items;
   aliases = [];
   into = None;
   names = names;

@@ -9,8 +9,7 @@ ghost use Rattle.query_parser.specs.Conditions.{Asks, negation, nesting, conditi
 
 use crate::cursor::Cursor;
 use crate::fault::Stop;
-use crate::joining::{join_and, join_or};
-use crate::subquery::subquery_of;
+use crate::subquery::{item_alone, subquery_of};
 use crate::tail::{Range, Tail, Values};
 use grammar::Class;
 use query_tree::{Cond, Query};
@@ -37,8 +36,13 @@ impl<'a> Parser<'a> {
     {
         let mut test = self.conj(asks, left)?;
         while self.cursor.next_is(Class::Or) {
-            let right = self.or_conj(asks, left)?;
-            join_or(self.cursor.alloc, &mut test, right)?;
+            match self.or_conj(asks, left) {
+                Ok(right) => test = Cond::or(self.cursor.alloc, test, right)?,
+                Err(stop) => {
+                    drop(test);
+                    return Err(stop);
+                }
+            }
         }
         Ok(test)
     }
@@ -50,8 +54,13 @@ impl<'a> Parser<'a> {
     {
         let mut test = self.neg(asks, left)?;
         while self.cursor.next_is(Class::And) {
-            let right = self.and_neg(asks, left)?;
-            join_and(self.cursor.alloc, &mut test, right)?;
+            match self.and_neg(asks, left) {
+                Ok(right) => test = Cond::and(self.cursor.alloc, test, right)?,
+                Err(stop) => {
+                    drop(test);
+                    return Err(stop);
+                }
+            }
         }
         Ok(test)
     }
@@ -108,8 +117,13 @@ impl<'a> Parser<'a> {
     {
         let token = self.cursor.open(Class::Open, left)?;
         let inner = self.cond(asks, left - 1)?;
-        let _close = self.cursor.take(Class::Close)?;
-        Ok(inner.moved(token.at))
+        match self.cursor.take(Class::Close) {
+            Ok(_close) => Ok(inner.moved(token.at)),
+            Err(stop) => {
+                drop(inner);
+                Err(stop)
+            }
+        }
     }
 
     /// An expression and what is asked of it.
@@ -204,10 +218,10 @@ impl<'a> Parser<'a> {
         let _select = self.cursor.take(Class::Select)?;
         let distinct = self.cursor.skip(Class::Distinct);
         let value = self.cursor.expr(left)?;
+        let items = item_alone(self.cursor.alloc, value)?;
         let names = self.cursor.from()?;
         let condition = self.where_part(false, left)?;
-        let query = subquery_of(self.cursor.alloc, distinct, value, names, condition)?;
-        Ok(query)
+        Ok(subquery_of(self.cursor.alloc, distinct, items, names, condition))
     }
 
     /// WHERE and its condition, where it stands there.

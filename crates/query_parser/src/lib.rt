@@ -10,7 +10,6 @@ mod conditions;
 mod cursor;
 mod expressions;
 mod fault;
-mod joining;
 mod query;
 mod subquery;
 mod tail;
@@ -21,4 +20,4 @@ mod values;
 mod whole;
 
 pub use fault::ParseFault;
-pub use whole::parse;
+pub use whole::{one_tree, parse};

@@ -143,13 +143,20 @@ impl<'a> Parser<'a> {
     {
         let keys = self.cursor.keys(left)?;
         let having = self.having(left)?;
-        let order = self.cursor.order(left)?;
-        let _semicolon = self.cursor.skip(Class::Semicolon);
-        Ok(Ended {
-            keys,
-            having,
-            order,
-        })
+        match self.cursor.order(left) {
+            Ok(order) => {
+                let _semicolon = self.cursor.skip(Class::Semicolon);
+                Ok(Ended {
+                    keys,
+                    having,
+                    order,
+                })
+            }
+            Err(stop) => {
+                drop(having);
+                Err(stop)
+            }
+        }
     }
 
     /// A query, where no subquery was read before.
@@ -160,9 +167,16 @@ impl<'a> Parser<'a> {
     {
         let selected = self.cursor.selected(left)?;
         let sourced = self.sourced(left)?;
-        let ended = self.ended(left)?;
-        let alloc = self.cursor.alloc;
-        let subqueries = mem::replace(&mut self.subqueries, Vec::new(alloc));
-        Ok(query_of_parts(alloc, selected, sourced, ended, subqueries))
+        match self.ended(left) {
+            Ok(ended) => {
+                let alloc = self.cursor.alloc;
+                let subqueries = mem::replace(&mut self.subqueries, Vec::new(alloc));
+                Ok(query_of_parts(alloc, selected, sourced, ended, subqueries))
+            }
+            Err(stop) => {
+                drop(sourced);
+                Err(stop)
+            }
+        }
     }
 }

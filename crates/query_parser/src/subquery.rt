@@ -1,24 +1,31 @@
 // A subquery of its parts.
 ghost use Rattle.std.specs.Prelude.{◌≡◌, IfOk, option_map};
-ghost use Rattle.query_tree.specs.Views.{query_of, tree_of, placed_all, test_of};
-ghost use Rattle.query_parser.specs.Conditions.{subquery_with};
+ghost use Rattle.query_tree.specs.Views.{query_of, tree_of, items_of, placed_all, test_of};
+ghost use Rattle.query_parser.specs.Conditions.{items_with, subquery_with};
 
 use query_tree::{Cond, Expr, ExprList, Item, ItemList, PlacedList, Query, QueryList};
 use std::alloc::{AllocError, Global};
 
-/// A subquery: its DISTINCT, its expression, its names and its condition.
-pub fn subquery_of(
-    alloc: Global,
-    distinct: bool,
-    value: Expr,
-    names: PlacedList,
-    condition: Option<Cond>,
-) -> Result<Query, AllocError>
-    ensures { IfOk result (λ q. query_of q ≡ subquery_with distinct (tree_of value) (placed_all names) (option_map test_of condition)) }
+/// An expression without an alias, as the one item.
+pub fn item_alone(alloc: Global, value: Expr) -> Result<ItemList, AllocError>
+    ensures { IfOk result (λ items. items_of items ≡ items_with (tree_of value)) }
 {
     let mut items = ItemList::new(alloc);
     items.push(Item { value, alias: None })?;
-    Ok(Query {
+    Ok(items)
+}
+
+/// A subquery: its DISTINCT, its item, its names and its condition.
+pub fn subquery_of(
+    alloc: Global,
+    distinct: bool,
+    items: ItemList,
+    names: PlacedList,
+    condition: Option<Cond>,
+) -> Query
+    ensures { query_of result ≡ subquery_with distinct (items_of items) (placed_all names) (option_map test_of condition) }
+{
+    Query {
         top: None,
         distinct,
         star: None,
@@ -33,5 +40,5 @@ pub fn subquery_of(
         order: ExprList::new(alloc),
         descending: false,
         subqueries: QueryList::new(alloc),
-    })
+    }
 }

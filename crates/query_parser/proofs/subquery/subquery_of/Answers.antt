@@ -27,4 +27,4 @@ use Rattle.query_parser.proofs.subquery.subquery_of.Goals as goal
 
 pub returns : goal.returns
 returns c =
-    rw (query_made, c.in_ok-push.ensures.ok, c.new-items.ensures, c.new.ensures, c.new-2.ensures, c.new-3.ensures, c.new-4.ensures) refl
+    rw (query_made, c.new.ensures, c.new-2.ensures, c.new-3.ensures, c.new-4.ensures) refl

@@ -18,11 +18,11 @@ use Rattle.query_tree.specs.Views as views
 use Rattle.query_tree.proofs.Lists.{query_made}
 use Rattle.grammar.specs.Forms.{Ref, Tok}
 use Rattle.query_parser.specs.Answers.{Gives, Stopped}
-use Rattle.query_parser.specs.Conditions.{condition_with, conditions_with, asked_between, tail_of, range_of, set_of, subquery_with, numbers_in_values, Grown}
+use Rattle.query_parser.specs.Conditions.{condition_with, conditions_with, asked_between, tail_of, range_of, set_of, items_with, subquery_with, numbers_in_values, Grown}
 use Rattle.query_parser.specs.declared.tail.Values.TheVariants as v
 use Rattle.query_parser.proofs.Stopping.{stop_map, stop_first, stop_second, stop_left, stop_right, stop_alt_left, stop_alt_right, stop_present, stop_nest, stop_ref, stop_more, given_ok, given_err, given_as, given_same}
 use Rattle.query_parser.proofs.Steps.{reads_as, pushed, seen_shorter}
-use Rattle.query_parser.proofs.Conditioning.{between_none, grown_none, grown_as, grown_both, and_made, or_made, tail_made, grown_one, between_one, plain_same, tested_by, asks_err, asks_ok, asks_as, asks_same, asks_set, plain_numbers, set_apart}
+use Rattle.query_parser.proofs.Conditioning.{between_none, grown_none, grown_as, grown_both, and_made, or_made, test_made, asks_test, grown_one, between_one, plain_same, tested_by, asks_err, asks_ok, asks_as, asks_same, asks_set, plain_numbers, set_apart}
 use Rattle.query_parser.proofs.conditions.Parser.+conditions.Goals as goal
 
 pub conj-returns-in_err-test : goal.conj-returns-in_err-test
@@ -34,21 +34,20 @@ pub conj-loop-self-init : goal.conj-loop-self-init
 conj-loop-self-init measure c =
     record { so_far = so_far_ref {m = r.conj_rule c.args.asks} (so_far_start refl c.in_ok-test.ensures.is.0); grown = c.in_ok-test.ensures.is.1 }
 
-pub conj-returns-in_err-right : goal.conj-returns-in_err-right
-conj-returns-in_err-right measure c =
-    let p = err_from_is_err_and c.from_residual-in_err-right.result c.from_residual-in_err-right.ensures.1 in
-    rw (p.1, p.2) (asks_err (stop_more (is_a class.And) refl refl (sym c.loop-self-test.ensures) c.loop-self.invariant.so_far c.in_err-right.ensures.is))
+pub conj-returns-in-Err : goal.conj-returns-in-Err
+conj-returns-in-Err measure c =
+    asks_err (stop_more (is_a class.And) refl refl (sym c.loop-self-test.ensures) c.loop-self.invariant.so_far c.in-Err.ensures.is)
 
 pub conj-loop-self-preserved : goal.conj-loop-self-preserved
 conj-loop-self-preserved measure c =
     record {
-      so_far = so_far_as (λ vs. ap (λ x. and_of x vs) (and_made c.loop-self.test c.in_ok-right.right c.join_and.new.before c.loop-self.invariant.grown c.in_ok-right.ensures.is.1 c.in_ok-join_and.ensures.test)) (so_far_more (is_a class.And) refl refl (sym c.loop-self-test.ensures) c.in_ok-right.ensures.is.0 c.loop-self.invariant.so_far);
-      grown = grown_as c.in_ok-join_and.ensures.numbers (grown_both c.loop-self.invariant.grown c.in_ok-right.ensures.is.1);
+      so_far = so_far_as (λ vs. ap (λ x. and_of x vs) (and_made c.loop-self.test c.in-Ok.right c.in_ok-test-in-Ok.test c.loop-self.invariant.grown c.in-Ok.ensures.is.1 c.in_ok-test-in-Ok.ensures.test)) (so_far_more (is_a class.And) refl refl (sym c.loop-self-test.ensures) c.in-Ok.ensures.is.0 c.loop-self.invariant.so_far);
+      grown = grown_as c.in_ok-test-in-Ok.ensures.numbers (grown_both c.loop-self.invariant.grown c.in-Ok.ensures.is.1);
     }
 
 pub conj-loop-self-smaller : goal.conj-loop-self-smaller
 conj-loop-self-smaller measure c =
-    seen_shorter {f = behind (a class.And) (neg c.args.asks)} _ _ refl c.in_ok-right.ensures.is.0
+    seen_shorter {f = behind (a class.And) (neg c.args.asks)} _ _ refl c.in-Ok.ensures.is.0
 
 pub conj-returns : goal.conj-returns
 conj-returns measure c =
@@ -63,21 +62,20 @@ pub cond-loop-self-init : goal.cond-loop-self-init
 cond-loop-self-init measure c =
     record { so_far = so_far_ref {m = r.cond_rule c.args.asks} (so_far_start refl c.in_ok-test.ensures.is.0); grown = c.in_ok-test.ensures.is.1 }
 
-pub cond-returns-in_err-right : goal.cond-returns-in_err-right
-cond-returns-in_err-right measure c =
-    let p = err_from_is_err_and c.from_residual-in_err-right.result c.from_residual-in_err-right.ensures.1 in
-    rw (p.1, p.2) (asks_err (stop_more (is_a class.Or) refl refl (sym c.loop-self-test.ensures) c.loop-self.invariant.so_far c.in_err-right.ensures.is))
+pub cond-returns-in-Err : goal.cond-returns-in-Err
+cond-returns-in-Err measure c =
+    asks_err (stop_more (is_a class.Or) refl refl (sym c.loop-self-test.ensures) c.loop-self.invariant.so_far c.in-Err.ensures.is)
 
 pub cond-loop-self-preserved : goal.cond-loop-self-preserved
 cond-loop-self-preserved measure c =
     record {
-      so_far = so_far_as (λ vs. ap (λ x. or_of x vs) (or_made c.loop-self.test c.in_ok-right.right c.join_or.new.before c.loop-self.invariant.grown c.in_ok-right.ensures.is.1 c.in_ok-join_or.ensures.test)) (so_far_more (is_a class.Or) refl refl (sym c.loop-self-test.ensures) c.in_ok-right.ensures.is.0 c.loop-self.invariant.so_far);
-      grown = grown_as c.in_ok-join_or.ensures.numbers (grown_both c.loop-self.invariant.grown c.in_ok-right.ensures.is.1);
+      so_far = so_far_as (λ vs. ap (λ x. or_of x vs) (or_made c.loop-self.test c.in-Ok.right c.in_ok-test-in-Ok.test c.loop-self.invariant.grown c.in-Ok.ensures.is.1 c.in_ok-test-in-Ok.ensures.test)) (so_far_more (is_a class.Or) refl refl (sym c.loop-self-test.ensures) c.in-Ok.ensures.is.0 c.loop-self.invariant.so_far);
+      grown = grown_as c.in_ok-test-in-Ok.ensures.numbers (grown_both c.loop-self.invariant.grown c.in-Ok.ensures.is.1);
     }
 
 pub cond-loop-self-smaller : goal.cond-loop-self-smaller
 cond-loop-self-smaller measure c =
-    seen_shorter {f = behind (a class.Or) (conj c.args.asks)} _ _ refl c.in_ok-right.ensures.is.0
+    seen_shorter {f = behind (a class.Or) (conj c.args.asks)} _ _ refl c.in-Ok.ensures.is.0
 
 pub cond-returns : goal.cond-returns
 cond-returns measure c =
@@ -135,7 +133,7 @@ negated-returns-in_err-inner measure c =
 
 pub negated-returns : goal.negated-returns
 negated-returns measure c =
-    asks_as (ap (λ (x : model.Test). record { test = x; asked = _ }) c.in_ok-test.ensures.test) (reads_map (reads_nest c.in_ok-token.ensures.ok.some c.in_ok-token.ensures.ok.reads c.in_ok-inner.ensures.is.0)) (grown_as c.in_ok-test.ensures.numbers c.in_ok-inner.ensures.is.1)
+    asks_test c.in_ok-test.ensures.test (reads_map (reads_nest c.in_ok-token.ensures.ok.some c.in_ok-token.ensures.ok.reads c.in_ok-inner.ensures.is.0)) (grown_as c.in_ok-test.ensures.numbers c.in_ok-inner.ensures.is.1)
 
 pub nested-returns-in_err-token : goal.nested-returns-in_err-token
 nested-returns-in_err-token measure c =
@@ -147,14 +145,13 @@ nested-returns-in_err-inner measure c =
     let p = err_from_is_err_and c.from_residual-in_err-inner.result c.from_residual-in_err-inner.ensures.1 in
     rw (p.1, p.2) (asks_err (stop_map (stop_nest c.in_ok-token.ensures.ok.some c.in_ok-token.ensures.ok.reads (stop_map (stop_first refl refl c.in_err-inner.ensures.is)))))
 
-pub nested-returns-in_err-_close : goal.nested-returns-in_err-_close
-nested-returns-in_err-_close measure c =
-    let p = err_from_is_err_and c.from_residual-in_err-_close.result c.from_residual-in_err-_close.ensures.1 in
-    rw (p.1, p.2) (asks_err (stop_map (stop_nest c.in_ok-token.ensures.ok.some c.in_ok-token.ensures.ok.reads (stop_map (stop_second refl c.in_ok-inner.ensures.is.0 (c.in_err-_close.ensures.exact (c.args.left - 1)).is)))))
+pub nested-returns-in-Err : goal.nested-returns-in-Err
+nested-returns-in-Err measure c =
+    asks_err (stop_map (stop_nest c.in_ok-token.ensures.ok.some c.in_ok-token.ensures.ok.reads (stop_map (stop_second refl c.in_ok-inner.ensures.is.0 (c.in-Err.ensures.exact (c.args.left - 1)).is))))
 
-pub nested-returns : goal.nested-returns
-nested-returns measure c =
-    asks_as (ap (λ (x : model.Test). record { test = x; asked = _ }) c.moved.ensures.test) (reads_map (reads_nest c.in_ok-token.ensures.ok.some c.in_ok-token.ensures.ok.reads (reads_before refl c.in_ok-inner.ensures.is.0 (c.in_ok-_close.ensures.exact (c.args.left - 1)).is))) (grown_as c.moved.ensures.numbers c.in_ok-inner.ensures.is.1)
+pub nested-returns-in-Ok : goal.nested-returns-in-Ok
+nested-returns-in-Ok measure c =
+    asks_test c.moved.ensures.test (reads_map (reads_nest c.in_ok-token.ensures.ok.some c.in_ok-token.ensures.ok.reads (reads_before refl c.in_ok-inner.ensures.is.0 (c.in-Ok.ensures.exact (c.args.left - 1)).is))) (grown_as c.moved.ensures.numbers c.in_ok-inner.ensures.is.1)
 
 pub test-returns-in_err-value : goal.test-returns-in_err-value
 test-returns-in_err-value measure c =
@@ -168,7 +165,7 @@ test-returns-in_err-tail measure c =
 
 pub test-returns : goal.test-returns
 test-returns measure c =
-    asks_as (ap (λ (x : model.Test). record { test = x; asked = _ }) c.test.ensures.test ∙ tail_made c.args.asks _ _ (tree_of c.in_ok-value.value) c.in_ok-tail.tail c.in_ok-tail.ensures.is.1) (reads_ref {m = r.test_rule c.args.asks} (reads_map (reads_seq refl c.in_ok-value.ensures.is c.in_ok-tail.ensures.is.0))) (grown_as c.test.ensures.numbers c.in_ok-tail.ensures.is.1)
+    asks_as (test_made c.test.result (tree_of c.in_ok-value.value) c.in_ok-tail.tail c.test.ensures.test c.in_ok-tail.ensures.is.1) (reads_ref {m = r.test_rule c.args.asks} (reads_map (reads_seq refl c.in_ok-value.ensures.is c.in_ok-tail.ensures.is.0))) (grown_as c.test.ensures.numbers c.in_ok-tail.ensures.is.1)
 
 pub tail-returns-in_err-tail : goal.tail-returns-in_err-tail
 tail-returns-in_err-tail measure c =
@@ -303,7 +300,7 @@ subquery-returns-in_err-condition measure c =
 
 pub subquery-returns : goal.subquery-returns
 subquery-returns measure c =
-    asks_as (c.in_ok-query.ensures ∙ ap (λ o. subquery_with c.skip-distinct.result (tree_of c.in_ok-value.value) (views.placed_all c.in_ok-names.names) o) (sym (tested_by c.in_ok-condition.condition c.in_ok-condition.ensures.is.1))) (reads_ref {m = r.asked_rule} (reads_map (reads_seq refl (reads_behind refl (c.in_ok-_select.ensures.exact c.args.left).is (c.skip-distinct.ensures c.args.left)) (reads_seq refl c.in_ok-value.ensures.is (reads_seq refl (c.in_ok-names.ensures c.args.left).is c.in_ok-condition.ensures.is.0))))) (grown_as (sym (plain_numbers c.in_ok-condition.ensures.is.1)) c.in_ok-condition.ensures.is.1)
+    asks_as (c.subquery_of.ensures ∙ ap (λ is. subquery_with c.skip-distinct.result is (views.placed_all c.in_ok-names.names) (option_map test_of c.in_ok-condition.condition)) c.in_ok-items.ensures ∙ ap (λ o. subquery_with c.skip-distinct.result (items_with (tree_of c.in_ok-value.value)) (views.placed_all c.in_ok-names.names) o) (sym (tested_by c.in_ok-condition.condition c.in_ok-condition.ensures.is.1))) (reads_ref {m = r.asked_rule} (reads_map (reads_seq refl (reads_behind refl (c.in_ok-_select.ensures.exact c.args.left).is (c.skip-distinct.ensures c.args.left)) (reads_seq refl c.in_ok-value.ensures.is (reads_seq refl (c.in_ok-names.ensures c.args.left).is c.in_ok-condition.ensures.is.0))))) (grown_as (sym (plain_numbers c.in_ok-condition.ensures.is.1)) c.in_ok-condition.ensures.is.1)
 
 pub where_part-returns-then-not-next_is : goal.where_part-returns-then-not-next_is
 where_part-returns-then-not-next_is measure c =

@@ -39,11 +39,10 @@ returns-in_err-having c =
     let p = err_from_is_err_and c.from_residual-in_err-having.result c.from_residual-in_err-having.ensures.1 in
     rw (p.1, p.2) (asks_err (stop_second refl c.in_ok-keys.ensures.is (stop_first refl refl c.in_err-having.ensures.is)))
 
-pub returns-in_err-order : goal.returns-in_err-order
-returns-in_err-order c =
-    let p = err_from_is_err_and c.from_residual-in_err-order.result c.from_residual-in_err-order.ensures.1 in
-    rw (p.1, p.2) (asks_err (stop_second refl c.in_ok-keys.ensures.is (stop_second refl c.in_ok-having.ensures.is.0 (stop_map (stop_first refl refl c.in_err-order.ensures.is)))))
+pub returns-in-Err : goal.returns-in-Err
+returns-in-Err c =
+    asks_err (stop_second refl c.in_ok-keys.ensures.is (stop_second refl c.in_ok-having.ensures.is.0 (stop_map (stop_first refl refl c.in-Err.ensures.is))))
 
-pub returns : goal.returns
-returns c =
-    asks_ok (reads_seq refl c.in_ok-keys.ensures.is (reads_seq refl c.in_ok-having.ensures.is.0 (reads_before refl c.in_ok-order.ensures.is (c.skip-_semicolon.ensures c.args.left)))) c.in_ok-having.ensures.is.1
+pub returns-in-Ok : goal.returns-in-Ok
+returns-in-Ok c =
+    asks_ok (reads_seq refl c.in_ok-keys.ensures.is (reads_seq refl c.in_ok-having.ensures.is.0 (reads_before refl c.in-Ok.ensures.is (c.skip-_semicolon.ensures c.args.left)))) c.in_ok-having.ensures.is.1

@@ -39,15 +39,14 @@ returns-in_err-sourced-clause-exact c =
     let p = err_from_is_err_and c.from_residual-in_err-sourced.result c.from_residual-in_err-sourced.ensures.1 in
     rw (p.1, p.2) (given_err (stop_ref {m = r.query_rule} (stop_map (stop_second refl c.in_ok-selected.ensures.is (stop_first refl refl c.in_err-sourced.ensures.is)))))
 
-pub returns-in_err-ended-clause-exact : goal.returns-in_err-ended-clause-exact
-returns-in_err-ended-clause-exact c =
-    let p = err_from_is_err_and c.from_residual-in_err-ended.result c.from_residual-in_err-ended.ensures.1 in
-    rw (p.1, p.2) (given_err (stop_ref {m = r.query_rule} (stop_map (stop_second refl c.in_ok-selected.ensures.is (stop_second refl c.in_ok-sourced.ensures.is.0 c.in_err-ended.ensures.is)))))
+pub returns-in-Err-clause-exact : goal.returns-in-Err-clause-exact
+returns-in-Err-clause-exact c =
+    given_err (stop_ref {m = r.query_rule} (stop_map (stop_second refl c.in_ok-selected.ensures.is (stop_second refl c.in_ok-sourced.ensures.is.0 c.in-Err.ensures.is))))
 
-pub returns-clause-exact : goal.returns-clause-exact
-returns-clause-exact c =
-    given_as (c.query_of_parts.ensures.query ∙ ap (λ (l : List Query). query_with c.in_ok-selected.selected c.in_ok-sourced.sourced c.in_ok-ended.ended l) (ap (λ (x : _). x.items) c.replace-subqueries.ensures.result) ∙ query_joined _ _ _ _ _ _ c.requires c.in_ok-sourced.ensures.is.1 c.in_ok-ended.ensures.is.1) (reads_ref {m = r.query_rule} (reads_map (reads_seq refl c.in_ok-selected.ensures.is (reads_seq refl c.in_ok-sourced.ensures.is.0 c.in_ok-ended.ensures.is.0))))
+pub returns-in-Ok-clause-exact : goal.returns-in-Ok-clause-exact
+returns-in-Ok-clause-exact c =
+    given_as (c.query_of_parts.ensures.query ∙ ap (λ (l : List Query). query_with c.in_ok-selected.selected c.in_ok-sourced.sourced c.in-Ok.ended l) (ap (λ (x : _). x.items) c.replace-subqueries.ensures.result) ∙ query_joined _ _ _ _ _ _ c.requires c.in_ok-sourced.ensures.is.1 c.in-Ok.ensures.is.1) (reads_ref {m = r.query_rule} (reads_map (reads_seq refl c.in_ok-selected.ensures.is (reads_seq refl c.in_ok-sourced.ensures.is.0 c.in-Ok.ensures.is.0))))
 
-pub returns-clause-numbered : goal.returns-clause-numbered
-returns-clause-numbered c =
-    c.query_of_parts.ensures.condition ∙ numbers_joined _ _ _ _ _ c.requires c.in_ok-sourced.ensures.is.1 c.in_ok-ended.ensures.is.1 ∙ ap (λ k. count_from 0 k) (sym c.query_of_parts.ensures.count)
+pub returns-in-Ok-clause-numbered : goal.returns-in-Ok-clause-numbered
+returns-in-Ok-clause-numbered c =
+    c.query_of_parts.ensures.condition ∙ numbers_joined _ _ _ _ _ c.requires c.in_ok-sourced.ensures.is.1 c.in-Ok.ensures.is.1 ∙ ap (λ k. count_from 0 k) (sym c.query_of_parts.ensures.count)
