@@ -1,5 +1,5 @@
 -- What parse answers, from what its reader of a query answered.
-use Rattle.std.proofs.Common.{◌≡◌, ℕ, ◌-◌, Bool, true, false, List, length, drop, map, refl, sym, ◌∙◌, ap, subst}
+use Rattle.std.proofs.Common.{◌≡◌, ℕ, ◌-◌, Bool, true, false, List, length, drop, map, Result, Ok, Err, refl, sym, ◌∙◌, ap, subst}
 use Rattle.std.proofs.lemmas.List.{length-map}
 use Rattle.grammar.specs.Trees as model
 use Rattle.grammar.specs.Rules.{query}
@@ -7,41 +7,51 @@ use Rattle.grammar.specs.Reading.{Reads}
 use Rattle.grammar.specs.Whole.{Derives}
 use Rattle.query_lexer.specs.declared.token.Token.{Token}
 use Rattle.query_tree.specs.Tokens.{seen}
-use Rattle.query_parser.specs.Answers.{Stops}
+use Rattle.query_tree.specs.Views.{query_of}
+use Rattle.query_tree.specs.declared.query.Query.{Query}
+use Rattle.query_parser.specs.Answers.{Gives, IsGiven, StopsAt}
 use Rattle.query_parser.specs.Parsed.{SyntaxAt, TooDeepAt, place_in}
+use Rattle.query_parser.specs.declared.fault.Stop.{Stop}
+use Rattle.query_parser.specs.declared.fault.Stop.TheVariants as stop
 use Rattle.query_parser.proofs.Finishing.{stopped_only, ended, ended_only, left_only, syntax_is, deep_is, left_is}
 
--- what was read of the tokens, as they were handed out
-read_at : (items slice rest : List Token) (v : model.Query) → slice ≡ items → Reads 64 query (map seen slice) v (map seen rest) → Reads 64 query (map seen items) v (map seen rest)
-read_at items slice rest v same one = subst (λ (l : List Token). Reads 64 query (map seen l) v (map seen rest)) same one
+-- what the reader answered, where it is a query and where it is a fault
+read_ok : (items rest : List Token) (result : Result Query Stop) (q : Query) → Gives 64 query items rest query_of result → result ≡ Ok q → Reads 64 query (map seen items) (query_of q) (map seen rest)
+read_ok items rest result q one is = subst (λ (x : Result Query Stop). IsGiven 64 query items rest query_of x) is one.is
 
-stops_at : (items slice : List Token) (deep : Bool) (count : ℕ) → slice ≡ items → Stops deep 64 query (map seen slice) count → Stops deep 64 query (map seen items) count
-stops_at items slice deep count same one = subst (λ (l : List Token). Stops deep 64 query (map seen l) count) same one
+read_err : (items rest : List Token) (result : Result Query Stop) (e : Stop) → Gives 64 query items rest query_of result → result ≡ Err e → StopsAt 64 query (map seen items) e
+read_err items rest result e one is = let so = subst (λ (x : Result Query Stop). IsGiven 64 query items rest query_of x) is one.is in so.is
 
 place_at : (items : List Token) (count size at : ℕ) → at ≡ place_in (drop (length items - count) (map seen items)) size → at ≡ place_in (drop (length (map seen items) - count) (map seen items)) size
 place_at items count size at place = place ∙ ap (λ (n : ℕ). place_in (drop (n - count) (map seen items)) size) (sym (length-map items seen))
 
-seen_length : (rest : List Token) (count : ℕ) → count ≡ length rest → length (map seen rest) ≡ count
-seen_length rest count is = length-map rest seen ∙ sym is
+-- a query and nothing behind it
+pub all_read : (items rest : List Token) (result : Result Query Stop) (q : Query) → Gives 64 query items rest query_of result → result ≡ Ok q → length rest ≡ 0 → Derives 64 query (map seen items) (query_of q)
+all_read items rest result q one is none = ended (map seen items) (map seen rest) (query_of q) (length-map rest seen ∙ none) (read_ok items rest result q one is)
 
-pub all_read : (items slice rest : List Token) (v : model.Query) (count : ℕ) → slice ≡ items → count ≡ length rest → count ≡ 0 → Reads 64 query (map seen slice) v (map seen rest) → Derives 64 query (map seen items) v
-all_read items slice rest v count same is none one = ended (map seen items) (map seen rest) v (seen_length rest count is ∙ none) (read_at items slice rest v same one)
+pub all_only : (items rest : List Token) (result : Result Query Stop) (q : Query) (w : model.Query) → Gives 64 query items rest query_of result → result ≡ Ok q → length rest ≡ 0 → Derives 64 query (map seen items) w → query_of q ≡ w
+all_only items rest result q w one is none so = ended_only (map seen items) (map seen rest) (query_of q) w (length-map rest seen ∙ none) (read_ok items rest result q one is) so
 
-pub all_only : (items slice rest : List Token) (v w : model.Query) (count : ℕ) → slice ≡ items → count ≡ length rest → count ≡ 0 → Reads 64 query (map seen slice) v (map seen rest) → Derives 64 query (map seen items) w → v ≡ w
-all_only items slice rest v w count same is none one so = ended_only (map seen items) (map seen rest) v w (seen_length rest count is ∙ none) (read_at items slice rest v same one) so
+-- a query and something behind it
+pub some_only : (items rest : List Token) (result : Result Query Stop) (q : Query) (w : model.Query) → Gives 64 query items rest query_of result → result ≡ Ok q → (length rest ≡ 0 → ⊥) → Derives 64 query (map seen items) w → ⊥
+some_only items rest result q w one is some so = left_only (map seen items) (map seen rest) (query_of q) w (λ none. some (sym (length-map rest seen) ∙ none)) (read_ok items rest result q one is) so
 
-pub some_only : (items slice rest : List Token) (v w : model.Query) (count : ℕ) → slice ≡ items → count ≡ length rest → (count ≡ 0 → ⊥) → Reads 64 query (map seen slice) v (map seen rest) → Derives 64 query (map seen items) w → ⊥
-some_only items slice rest v w count same is some one so = left_only (map seen items) (map seen rest) v w (λ none. some (is ∙ sym (length-map rest seen) ∙ none)) (read_at items slice rest v same one) so
+pub some_left : (items rest : List Token) (result : Result Query Stop) (q : Query) (size at : ℕ) → Gives 64 query items rest query_of result → result ≡ Ok q → (length rest ≡ 0 → ⊥)
+    → at ≡ place_in (drop (length items - length rest) (map seen items)) size → SyntaxAt (map seen items) size at
+some_left items rest result q size at one is some place =
+    left_is (map seen items) (map seen rest) (query_of q) (length rest) size at (length-map rest seen) some (read_ok items rest result q one is) (place_at items (length rest) size at place)
 
-pub some_left : (items slice rest : List Token) (v : model.Query) (count size at : ℕ) → slice ≡ items → count ≡ length rest → (count ≡ 0 → ⊥) → Reads 64 query (map seen slice) v (map seen rest) → at ≡ place_in (drop (length items - count) (map seen items)) size → SyntaxAt (map seen items) size at
-some_left items slice rest v count size at same is some one place =
-    left_is (map seen items) (map seen rest) v count size at (seen_length rest count is) some (read_at items slice rest v same one) (place_at items count size at place)
+-- a fault
+pub syntax_only : (items rest : List Token) (result : Result Query Stop) (count : ℕ) (w : model.Query) → Gives 64 query items rest query_of result → result ≡ Err (stop.Syntax count) → Derives 64 query (map seen items) w → ⊥
+syntax_only items rest result count w one is so = stopped_only (map seen items) false count w (read_err items rest result (stop.Syntax count) one is) so
 
-pub fault_only : (items slice : List Token) (deep : Bool) (count : ℕ) (w : model.Query) → slice ≡ items → Stops deep 64 query (map seen slice) count → Derives 64 query (map seen items) w → ⊥
-fault_only items slice deep count w same one so = stopped_only (map seen items) deep count w (stops_at items slice deep count same one) so
+pub deep_only : (items rest : List Token) (result : Result Query Stop) (count : ℕ) (w : model.Query) → Gives 64 query items rest query_of result → result ≡ Err (stop.TooDeep count) → Derives 64 query (map seen items) w → ⊥
+deep_only items rest result count w one is so = stopped_only (map seen items) true count w (read_err items rest result (stop.TooDeep count) one is) so
 
-pub syntax_at : (items slice : List Token) (count size at : ℕ) → slice ≡ items → Stops false 64 query (map seen slice) count → at ≡ place_in (drop (length items - count) (map seen items)) size → SyntaxAt (map seen items) size at
-syntax_at items slice count size at same one place = syntax_is (map seen items) count size at (stops_at items slice false count same one) (place_at items count size at place)
+pub syntax_at : (items rest : List Token) (result : Result Query Stop) (count size at : ℕ) → Gives 64 query items rest query_of result → result ≡ Err (stop.Syntax count)
+    → at ≡ place_in (drop (length items - count) (map seen items)) size → SyntaxAt (map seen items) size at
+syntax_at items rest result count size at one is place = syntax_is (map seen items) count size at (read_err items rest result (stop.Syntax count) one is) (place_at items count size at place)
 
-pub deep_at : (items slice : List Token) (count size at : ℕ) → slice ≡ items → Stops true 64 query (map seen slice) count → at ≡ place_in (drop (length items - count) (map seen items)) size → TooDeepAt (map seen items) at
-deep_at items slice count size at same one place = deep_is (map seen items) count size at (stops_at items slice true count same one) (place_at items count size at place)
+pub deep_at : (items rest : List Token) (result : Result Query Stop) (count size at : ℕ) → Gives 64 query items rest query_of result → result ≡ Err (stop.TooDeep count)
+    → at ≡ place_in (drop (length items - count) (map seen items)) size → TooDeepAt (map seen items) at
+deep_at items rest result count size at one is place = deep_is (map seen items) count size at (read_err items rest result (stop.TooDeep count) one is) (place_at items count size at place)

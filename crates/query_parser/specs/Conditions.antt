@@ -31,9 +31,11 @@ use Rattle.query_parser.specs.declared.tail.Tail.TheVariants as t
 abbrev pub asked_between : List Query → List Query → List model.Query
 asked_between old new = map query_of (drop (length old) new)
 
+-- a condition and the subqueries in it
 abbrev pub condition_with : Cond → List model.Query → model.Condition
 condition_with c qs = record { test = test_of c; asked = qs }
 
+-- the same, where one stands
 abbrev pub conditions_with : Option Cond → List model.Query → Option model.Condition
 conditions_with None qs = None
 conditions_with (Some c) qs = Some (condition_with c qs)
@@ -55,38 +57,46 @@ abbrev pub first_asked : List model.Query → model.Set'
 first_asked [] = set.values []
 first_asked (q ∷ qs) = set.asked q
 
+-- what stands in the parentheses of IN
 abbrev pub set_of : Values → List model.Query → model.Set'
 set_of (v.Listed es) qs = set.values (trees_of es)
 set_of (v.Asked n) qs = first_asked qs
 
+-- LIKE, BETWEEN or IN
 abbrev pub range_of : Range → List model.Query → model.Range
 range_of (r.Like p) qs = range.like (placed_of p)
 range_of (r.Between b d) qs = range.between (tree_of b) (tree_of d)
 range_of (r.Within v) qs = range.within (set_of v qs)
 
+-- what stands behind the first expression of a test
 abbrev pub tail_of : Tail → List model.Query → model.Tail
 tail_of (t.Compared how b) qs = tail.compared (number_of how) (tree_of b)
 tail_of (t.Null neg) qs = tail.null neg
 tail_of (t.Ranged neg r) qs = tail.ranged neg (range_of r qs)
 
+-- the numbers of the subqueries in it
 abbrev pub numbers_in_values : Values → List ℕ
 numbers_in_values (v.Listed es) = []
 numbers_in_values (v.Asked n) = n ∷ []
 
+-- the numbers of the subqueries in it
 abbrev pub numbers_in_range : Range → List ℕ
 numbers_in_range (r.Like p) = []
 numbers_in_range (r.Between b d) = []
 numbers_in_range (r.Within v) = numbers_in_values v
 
+-- the numbers of the subqueries in it
 abbrev pub numbers_in_tail : Tail → List ℕ
 numbers_in_tail (t.Compared how b) = []
 numbers_in_tail (t.Null neg) = []
 numbers_in_tail (t.Ranged neg r) = numbers_in_range r
 
+-- a value that is in a set, or isn't
 abbrev pub tested_in : model.Tree → Bool → Values → model.Test
 tested_in e neg (v.Listed es) = test.InList (model.place_of e) e (model.trees_of (trees_of es)) neg
 tested_in e neg (v.Asked n) = test.InQuery (model.place_of e) e neg
 
+-- a value that is like a text, between two others or in a set, or isn't
 abbrev pub tested_range : model.Tree → Bool → Range → model.Test
 tested_range e neg (r.Like p) = test.Like (model.place_of e) e (placed_of p) neg
 tested_range e neg (r.Between b d) = test.Between (model.place_of e) e (tree_of b) (tree_of d) neg
@@ -120,6 +130,7 @@ subquery_with distinct items names condition = query.query (record {
   descending = false;
 }) queries.no_queries
 
+-- what was read with the subqueries that came is what the form gives, and these have the numbers; or the fault is right
 abbrev pub IsAsked : {a : Kind} {Y : Type 0} → Bool → ℕ → Form a → List Token → List Token → List Query → List Query → (Y → List model.Query → Worth a) → (Y → List ℕ) → Result Y Stop → Type 0
 IsAsked asks left f all rest old new view numbers (Ok y) = Reads left f (map seen all) (view y (asked_between old new)) (map seen rest) × Grown asks old new (numbers y)
 IsAsked asks left f all rest old new view numbers (Err e) = Stopped left f (map seen all) e

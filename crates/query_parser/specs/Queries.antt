@@ -11,12 +11,15 @@ use Rattle.query_parser.specs.declared.query.Ended.{Ended}
 use Rattle.query_parser.specs.Clauses.{keys_of}
 use Rattle.query_parser.specs.Conditions.{conditions_with}
 
+-- USING to WHERE, with the subqueries of WHERE
 abbrev pub sourced_of : Sourced → List model.Query → model.Sourced
 sourced_of s qs = (option_map items_of s.aliases, (option_map placed_of s.into, (placed_all s.names, conditions_with s.condition qs)))
 
+-- GROUP BY to the end, with the subqueries of HAVING
 abbrev pub ended_of : Ended → List model.Query → model.Ended
 ended_of e qs = (option_map keys_of e.keys, (conditions_with e.having qs, option_map keys_of e.order))
 
+-- a query of its parts
 abbrev pub query_with : Selected → Sourced → Ended → List Query → model.Query
 query_with s u e asked = query.query (record {
   top = option_map pos s.top;

@@ -5,6 +5,7 @@ use Rattle.grammar.specs.Rules.{is_plain, is_counting, is_word, is_integer, is_s
 use Rattle.query_parser.specs.declared.token.Sort.{Sort}
 use Rattle.query_parser.specs.declared.token.Sort.TheVariants as s
 
+-- whether a class is of a sort
 abbrev pub in_sort : Sort → Class → Bool
 in_sort s.Word = is_word
 in_sort s.Plain = is_plain

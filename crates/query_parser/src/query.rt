@@ -4,6 +4,7 @@ ghost use Rattle.grammar.specs.Forms.{Opt, Ref};
 ghost use Rattle.grammar.specs.Forms.{Rule as rule};
 ghost use Rattle.grammar.specs.Rules.{having, sourced, ended};
 ghost use Rattle.query_tree.specs.Views.{query_of, numbers_of, items_of, trees_of};
+ghost use Rattle.query_tree.specs.declared.query.QueryList.{out-QueryList};
 ghost use Rattle.query_parser.specs.Answers.{Gives};
 ghost use Rattle.query_parser.specs.Conditions.{Asks, conditions_with, count_from};
 ghost use Rattle.query_parser.specs.Queries.{sourced_of, ended_of, query_with, asked_in, numbers_in_query};
@@ -59,6 +60,13 @@ fn keys_or_none(alloc: Global, keys: Option<Keys>) -> Keys
     }
 }
 
+/// Queries as a list of queries.
+fn query_list(subqueries: Vec<Query>) -> QueryList
+    ensures { (out-QueryList result).items.items ≡ subqueries.items }
+{
+    QueryList { items: subqueries }
+}
+
 /// A query of its parts.
 fn query_of_parts(
     alloc: Global,
@@ -104,7 +112,7 @@ fn query_of_parts(
         having,
         order: order.items,
         descending: order.marked,
-        subqueries: QueryList { items: subqueries },
+        subqueries: query_list(subqueries),
     }
 }
 

@@ -255,9 +255,7 @@ fn shown(alloc: Global, text: &str) -> Result<String, AllocError> {
     };
     match parse(alloc, &tokens) {
         Ok(query) => show_query(alloc, &query),
-        Err(ParseFault::Syntax { at }) => format!(in alloc; "syntax at {at}"),
-        Err(ParseFault::TooDeep { at }) => format!(in alloc; "too deep at {at}"),
-        Err(ParseFault::Memory) => Err(AllocError),
+        Err(fault) => format!(in alloc; "{fault}"),
     }
 }
 

@@ -5,6 +5,7 @@ ghost use Rattle.grammar.specs.Whole.{Derives};
 ghost use Rattle.grammar.specs.Trees as model;
 ghost use Rattle.query_tree.specs.Tokens.{seen};
 ghost use Rattle.query_tree.specs.Views.{query_of};
+ghost use Rattle.query_parser.specs.Answers.{Gives};
 ghost use Rattle.query_parser.specs.Conditions.{count_from};
 ghost use Rattle.query_parser.specs.Queries.{asked_in, numbers_in_query};
 ghost use Rattle.query_parser.specs.Parsed.{IsThis, IsFault, levels, place_in};
@@ -12,7 +13,7 @@ ghost use Rattle.query_parser.specs.Parsed.{IsThis, IsFault, levels, place_in};
 use crate::conditions::Parser;
 use crate::cursor::Cursor;
 use crate::fault::{ParseFault, Stop};
-use query_lexer::Tokens;
+use query_lexer::{Token, Tokens};
 use query_tree::Query;
 use std::alloc::Global;
 
@@ -35,6 +36,25 @@ fn place(tokens: &Tokens, count: usize) -> u32
     }
 }
 
+/// What the tokens begin with, as a query, and the tokens behind it.
+fn read<'a>(alloc: Global, tokens: &'a Tokens) -> (Result<Query, Stop>, &'a [Token])
+    ensures exact { Gives levels query tokens.now.items result.1.now query_of result.0 }
+    ensures numbered { IfOk result.0 (λ q. numbers_in_query q ≡ count_from 0 (length (asked_in q))) }
+{
+    let cursor = Cursor {
+        alloc,
+        rest: tokens.as_slice(),
+    };
+    let mut parser = Parser {
+        cursor,
+        subqueries: Vec::new(alloc),
+    };
+    let answer = parser.query(DEPTH);
+    let Parser { cursor, subqueries } = parser;
+    drop(subqueries);
+    (answer, cursor.rest)
+}
+
 /// The query that the tokens are, all of them.
 ///
 /// `Syntax` tells the first token with which no query goes on, or the text's length where the tokens only begin one;
@@ -45,24 +65,17 @@ pub fn parse(alloc: Global, tokens: &Tokens) -> Result<Query, ParseFault>
     ensures only { (v : model.Query) → Derives levels query (map seen tokens.now.items) v → IsThis result v }
     ensures fault { IsFault (map seen tokens.now.items) tokens.now.text_length result }
 {
-    let cursor = Cursor {
-        alloc,
-        rest: tokens.as_slice(),
-    };
-    let mut parser = Parser {
-        cursor,
-        subqueries: Vec::new(alloc),
-    };
-    match parser.query(DEPTH) {
+    let (answer, rest) = read(alloc, tokens);
+    match answer {
         Ok(query) => {
-            let count = parser.cursor.rest.len();
+            let count = rest.len();
             if count == 0 {
-                Ok(query)
-            } else {
-                Err(ParseFault::Syntax {
-                    at: place(tokens, count),
-                })
+                return Ok(query);
             }
+            drop(query);
+            Err(ParseFault::Syntax {
+                at: place(tokens, count),
+            })
         }
         Err(Stop::Syntax(count)) => Err(ParseFault::Syntax {
             at: place(tokens, count),

@@ -45,4 +45,4 @@ returns-in-Err c =
 
 pub returns-in-Ok : goal.returns-in-Ok
 returns-in-Ok c =
-    asks_ok (reads_seq refl c.in_ok-keys.ensures.is (reads_seq refl c.in_ok-having.ensures.is.0 (reads_before refl c.in-Ok.ensures.is (c.skip-_semicolon.ensures c.args.left)))) c.in_ok-having.ensures.is.1
+    asks_ok (reads_seq refl c.in_ok-keys.ensures.is (reads_seq refl c.in_ok-having.ensures.is.0 (reads_before refl c.in-Ok.ensures.is (c.skip-semicolon.ensures c.args.left)))) c.in_ok-having.ensures.is.1
