@@ -10,7 +10,8 @@ use Rattle.query_tree.specs.Tokens.{seen}
 use Rattle.query_tree.specs.Views.{query_of}
 use Rattle.query_tree.specs.declared.query.Query.{Query}
 use Rattle.query_parser.specs.Answers.{Gives, IsGiven, StopsAt}
-use Rattle.query_parser.specs.Parsed.{SyntaxAt, TooDeepAt, place_in}
+use Rattle.query_parser.specs.Parsed.{SyntaxAt, IsThis, IsFault, place_in, place_before, fault_of}
+use Rattle.query_parser.specs.declared.fault.ParseFault.{ParseFault}
 use Rattle.query_parser.specs.declared.fault.Stop.{Stop}
 use Rattle.query_parser.specs.declared.fault.Stop.TheVariants as stop
 use Rattle.query_parser.proofs.Finishing.{stopped_only, ended, ended_only, left_only, syntax_is, deep_is, left_is}
@@ -42,16 +43,20 @@ some_left items rest result q size at one is some place =
     left_is (map seen items) (map seen rest) (query_of q) (length rest) size at (length-map rest seen) some (read_ok items rest result q one is) (place_at items (length rest) size at place)
 
 -- a fault
-pub syntax_only : (items rest : List Token) (result : Result Query Stop) (count : ℕ) (w : model.Query) → Gives 64 query items rest query_of result → result ≡ Err (stop.Syntax count) → Derives 64 query (map seen items) w → ⊥
-syntax_only items rest result count w one is so = stopped_only (map seen items) false count w (read_err items rest result (stop.Syntax count) one is) so
+pub stop_only : (items rest : List Token) (size : ℕ) (result : Result Query Stop) (e : Stop) (r : ParseFault) (w : model.Query) → Gives 64 query items rest query_of result → result ≡ Err e → r ≡ fault_of items size e
+    → Derives 64 query (map seen items) w → IsThis (Err r) w
+stop_only items rest size result (stop.Syntax count) r w one is same so =
+    absurd (stopped_only (map seen items) false count w (read_err items rest result (stop.Syntax count) one is) so)
+stop_only items rest size result (stop.TooDeep count) r w one is same so =
+    absurd (stopped_only (map seen items) true count w (read_err items rest result (stop.TooDeep count) one is) so)
+stop_only items rest size result stop.Memory r w one is same so = subst (λ (x : ParseFault). IsThis (Err x) w) (sym same) tt
 
-pub deep_only : (items rest : List Token) (result : Result Query Stop) (count : ℕ) (w : model.Query) → Gives 64 query items rest query_of result → result ≡ Err (stop.TooDeep count) → Derives 64 query (map seen items) w → ⊥
-deep_only items rest result count w one is so = stopped_only (map seen items) true count w (read_err items rest result (stop.TooDeep count) one is) so
-
-pub syntax_at : (items rest : List Token) (result : Result Query Stop) (count size at : ℕ) → Gives 64 query items rest query_of result → result ≡ Err (stop.Syntax count)
-    → at ≡ place_in (drop (length items - count) (map seen items)) size → SyntaxAt (map seen items) size at
-syntax_at items rest result count size at one is place = syntax_is (map seen items) count size at (read_err items rest result (stop.Syntax count) one is) (place_at items count size at place)
-
-pub deep_at : (items rest : List Token) (result : Result Query Stop) (count size at : ℕ) → Gives 64 query items rest query_of result → result ≡ Err (stop.TooDeep count)
-    → at ≡ place_in (drop (length items - count) (map seen items)) size → TooDeepAt (map seen items) at
-deep_at items rest result count size at one is place = deep_is (map seen items) count size at (read_err items rest result (stop.TooDeep count) one is) (place_at items count size at place)
+pub stop_fault : (items rest : List Token) (size : ℕ) (result : Result Query Stop) (e : Stop) (r : ParseFault) → Gives 64 query items rest query_of result → result ≡ Err e → r ≡ fault_of items size e
+    → IsFault (map seen items) size (Err r)
+stop_fault items rest size result (stop.Syntax count) r one is same =
+    subst (λ (x : ParseFault). IsFault (map seen items) size (Err x)) (sym same)
+    (syntax_is (map seen items) count size (place_before items size count) (read_err items rest result (stop.Syntax count) one is) (place_at items count size (place_before items size count) refl))
+stop_fault items rest size result (stop.TooDeep count) r one is same =
+    subst (λ (x : ParseFault). IsFault (map seen items) size (Err x)) (sym same)
+    (deep_is (map seen items) count size (place_before items size count) (read_err items rest result (stop.TooDeep count) one is) (place_at items count size (place_before items size count) refl))
+stop_fault items rest size result stop.Memory r one is same = subst (λ (x : ParseFault). IsFault (map seen items) size (Err x)) (sym same) tt

@@ -1,11 +1,15 @@
 -- What is answered for a whole list of tokens.
-use Rattle.std.specs.Prelude.{◌≡◌, ℕ, ◌+◌, ◌≤◌, ◌<◌, List, [], ◌∷◌, ◌++◌, length, Result, Ok, Err}
+use Rattle.std.specs.Prelude.{◌≡◌, ℕ, ◌+◌, ◌≤◌, ◌<◌, List, [], ◌∷◌, ◌++◌, length, drop, map, ◌-◌, Result, Ok, Err}
 use Rattle.grammar.specs.Trees as model
 use Rattle.grammar.specs.Rules.{query}
 use Rattle.grammar.specs.Derivations.{Derivation, tokens, depth, depth_to}
 use Rattle.grammar.specs.Whole.{NoneNext}
 use Rattle.query_tree.specs.declared.query.Query.{Query}
 use Rattle.query_tree.specs.Views.{query_of}
+use Rattle.query_lexer.specs.declared.token.Token.{Token}
+use Rattle.query_tree.specs.Tokens.{seen}
+use Rattle.query_parser.specs.declared.fault.Stop.{Stop}
+use Rattle.query_parser.specs.declared.fault.Stop.TheVariants as stop
 use Rattle.query_parser.specs.declared.fault.ParseFault.{ParseFault}
 use Rattle.query_parser.specs.declared.fault.ParseFault.TheVariants as fault
 
@@ -17,6 +21,16 @@ levels = 64
 abbrev pub place_in : List model.Token → ℕ → ℕ
 place_in [] size = size
 place_in (t ∷ ts) size = t.at
+
+-- the place of the token from which on so many stand
+abbrev pub place_before : List Token → ℕ → ℕ → ℕ
+place_before items size count = place_in (drop (length items - count) (map seen items)) size
+
+-- the fault at the token that stops a reader
+abbrev pub fault_of : List Token → ℕ → Stop → ParseFault
+fault_of items size (stop.Syntax count) = fault.Syntax (place_before items size count)
+fault_of items size (stop.TooDeep count) = fault.TooDeep (place_before items size count)
+fault_of items size stop.Memory = fault.Memory
 
 -- this query, unless memory ran out
 abbrev pub IsThis : Result Query ParseFault → model.Query → Type 0

@@ -1,5 +1,5 @@
 // From tokens to a query.
-ghost use Rattle.std.specs.Prelude.{◌≡◌, ℕ, List, length, map, IfOk, ◌-◌, drop};
+ghost use Rattle.std.specs.Prelude.{◌≡◌, ℕ, List, length, map, IfOk};
 ghost use Rattle.grammar.specs.Rules.{query};
 ghost use Rattle.grammar.specs.Whole.{Derives};
 ghost use Rattle.grammar.specs.Trees as model;
@@ -8,7 +8,7 @@ ghost use Rattle.query_tree.specs.Views.{query_of};
 ghost use Rattle.query_parser.specs.Answers.{Gives};
 ghost use Rattle.query_parser.specs.Conditions.{count_from};
 ghost use Rattle.query_parser.specs.Queries.{asked_in, numbers_in_query};
-ghost use Rattle.query_parser.specs.Parsed.{IsThis, IsFault, levels, place_in};
+ghost use Rattle.query_parser.specs.Parsed.{IsThis, IsFault, levels, place_before, fault_of};
 
 use crate::conditions::Parser;
 use crate::cursor::Cursor;
@@ -28,11 +28,26 @@ pub fn one_tree()
 
 /// The place of the token from which on so many stand, or the text's length.
 fn place(tokens: &Tokens, count: usize) -> u32
-    ensures { result ≡ place_in (drop (length tokens.now.items - count) (map seen tokens.now.items)) tokens.now.text_length }
+    ensures { result ≡ place_before tokens.now.items tokens.now.text_length count }
 {
     match tokens.get(tokens.len().saturating_sub(count)) {
         Some(token) => token.at,
         None => tokens.text_length(),
+    }
+}
+
+/// The fault at the token that stops the reader.
+fn fault_of(tokens: &Tokens, stop: Stop) -> ParseFault
+    ensures { result ≡ fault_of tokens.now.items tokens.now.text_length stop }
+{
+    match stop {
+        Stop::Syntax(count) => ParseFault::Syntax {
+            at: place(tokens, count),
+        },
+        Stop::TooDeep(count) => ParseFault::TooDeep {
+            at: place(tokens, count),
+        },
+        Stop::Memory => ParseFault::Memory,
     }
 }
 
@@ -77,12 +92,6 @@ pub fn parse(alloc: Global, tokens: &Tokens) -> Result<Query, ParseFault>
                 at: place(tokens, count),
             })
         }
-        Err(Stop::Syntax(count)) => Err(ParseFault::Syntax {
-            at: place(tokens, count),
-        }),
-        Err(Stop::TooDeep(count)) => Err(ParseFault::TooDeep {
-            at: place(tokens, count),
-        }),
-        Err(Stop::Memory) => Err(ParseFault::Memory),
+        Err(stop) => Err(fault_of(tokens, stop)),
     }
 }

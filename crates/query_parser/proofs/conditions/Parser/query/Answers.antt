@@ -46,7 +46,7 @@ returns-in-Err-clause-exact c =
 pub returns-in-Ok-clause-exact : goal.returns-in-Ok-clause-exact
 returns-in-Ok-clause-exact c =
     let same : c.replace-subqueries.result.items ≡ c.ended.new.self.subqueries.items = ap (λ (x : _). x.items) c.replace-subqueries.ensures.value in
-    given_as (c.query_of_parts.ensures.query ∙ ap (λ (l : List Query). query_with c.in_ok-selected.selected c.in_ok-sourced.sourced c.in-Ok.ended l) same ∙ query_joined _ _ _ _ _ _ c.requires c.in_ok-sourced.ensures.is.1 c.in-Ok.ensures.is.1) (reads_ref {m = r.query_rule} (reads_map (reads_seq refl c.in_ok-selected.ensures.is (reads_seq refl c.in_ok-sourced.ensures.is.0 c.in-Ok.ensures.is.0))))
+    given_as (c.query_of_parts.ensures.query ∙ ap (λ (l : List Query). query_with c.in_ok-selected.selected c.in_ok-sourced.sourced c.in-Ok.ended l) same ∙ query_joined c.in_ok-selected.selected c.in_ok-sourced.sourced c.in-Ok.ended _ _ _ c.requires c.in_ok-sourced.ensures.is.1 c.in-Ok.ensures.is.1) (reads_ref {m = r.query_rule} (reads_map (reads_seq refl c.in_ok-selected.ensures.is (reads_seq refl c.in_ok-sourced.ensures.is.0 c.in-Ok.ensures.is.0))))
 
 pub returns-in-Ok-clause-numbered : goal.returns-in-Ok-clause-numbered
 returns-in-Ok-clause-numbered c =
