@@ -35,7 +35,7 @@ second_max x y n is = omega arith
 
 -- tokens of a form begin with it, and not with one that begins otherwise
 on_of : {a : Kind} (f : Form a) (ts z : List Token) → Heads f ts → is_nullable f ≡ false → On f (ts ++ z)
-on_of f [] z h filled = false≢true (sym filled ∙ h)
+on_of f [] z h filled = absurd (false≢true (sym filled ∙ h))
 on_of f (t ∷ ts) z h filled = h
 
 off_second : {a : Kind} (f g : Form a) (ts z : List Token) → Heads f ts → is_nullable f ≡ false → is_nullable g ≡ false → Disjoint (starts f) (starts g) → Off g (ts ++ z)
@@ -66,9 +66,9 @@ apart_opt : {a : Kind} (f : Form a) (z : List Token) → Apart (Opt f) z → Apa
 apart_opt f [] apart = tt
 apart_opt f (t ∷ z) apart = or_not_second (starts f t.class) _ apart
 
-apart_map : {a b : Kind} (h : Worth a → Worth b) (f : Form a) (z : List Token) → Apart (Map {a = a} {b = b} h f) z → Apart f z
-apart_map h f [] apart = tt
-apart_map h f (t ∷ z) apart = apart
+apart_map : (a b : Kind) (h : Worth a → Worth b) (f : Form a) (z : List Token) → Apart (Map {a = a} {b = b} h f) z → Apart f z
+apart_map a b h f [] apart = tt
+apart_map a b h f (t ∷ z) apart = apart
 
 apart_nest : {a : Kind} (p : _ → Bool) (f : Form a) (z : List Token) → Apart (Nest p f) z → Apart f z
 apart_nest p f [] apart = tt
@@ -122,7 +122,7 @@ reads_of (absent {f = f}) n z told deep apart =
 reads_of (present {f = f} d) n z told deep apart =
     let filled = not_true (is_nullable f) (and_right (is_told_apart f) _ told) in
     (exact_present (on_of f (tokens d) z (heads d) filled) (exact_of (reads_of d n z (and_left (is_told_apart f) _ told) deep (apart_opt f z apart)))).holds
-reads_of (map {h = h} {f = f} d) n z told deep apart = (exact_map h (exact_of (reads_of d n z told deep (apart_map h f z apart)))).holds
+reads_of (map {a = a} {b = b} {h = h} {f = f} d) n z told deep apart = (exact_map {a = a} {b = b} h (exact_of (reads_of d n z told deep (apart_map a b h f z apart)))).holds
 reads_of (nest {p = p} {f = f} t is d) n z told deep apart =
     (exact_nest t (omega arith) is (exact_of (reads_of d (n - 1) z told (omega arith) (apart_nest p f z apart)))).holds
 reads_of (ref {n = m} d) n z told deep apart = (exact_ref {m = m} (exact_of (reads_of d n z (told_apart m) deep (apart_ref m z apart)))).holds
