@@ -17,7 +17,7 @@ use Rattle.query_parser.specs.declared.fault.Stop.{Stop}
 use Rattle.grammar.specs.Trees.{Test as test}
 use Rattle.query_tree.specs.declared.condition.Cond.{Cond}
 use Rattle.query_tree.specs.declared.query.Query.{Query}
-use Rattle.query_tree.specs.Views.{tree_of, test_of, query_of, numbers_in}
+use Rattle.query_tree.specs.Views.{test_of, query_of, numbers_in}
 use Rattle.query_parser.specs.declared.tail.Values.{Values}
 use Rattle.query_parser.specs.declared.tail.Values.TheVariants as v
 use Rattle.query_parser.specs.declared.tail.Range.{Range}

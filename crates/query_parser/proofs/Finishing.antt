@@ -1,16 +1,14 @@
 -- From a reader's answer to the whole list of tokens.
-use Rattle.std.proofs.Common.{◌≡◌, ℕ, ◌-◌, ◌+◌, ◌≤◌, ◌<◌, Bool, true, false, List, [], ◌∷◌, ◌++◌, length, drop, map, Option, Some, None, slice_get, zero, Result, Ok, Err, refl, sym, ◌∙◌, ap, subst, suc, arith, length-append, append_assoc, append-nil}
+use Rattle.std.proofs.Common.{◌≡◌, ℕ, ◌-◌, ◌+◌, ◌≤◌, Bool, true, false, List, [], ◌∷◌, ◌++◌, length, drop, map, Some, None, slice_get, zero, refl, sym, ◌∙◌, ap, subst, suc, arith, length-append, append_assoc, append-nil}
 use Rattle.std.proofs.lemmas.List.{append_cancel_left}
 use Rattle.grammar.specs.Trees as model
 use Rattle.grammar.specs.Rules.{query}
-use Rattle.grammar.specs.Reading.{Exact, Outcome, read, failed, Reads, Fails}
+use Rattle.grammar.specs.Reading.{Outcome, read, failed, Reads, Fails}
 use Rattle.grammar.specs.Derivations.{tokens, depth, depth_to}
 use Rattle.grammar.specs.Whole.{Derives, NoneNext}
 use Rattle.grammar.proofs.Agreeing.{no_empty, same_first}
 use Rattle.grammar.proofs.Ending.{whole_ok, whole_only}
 use Rattle.grammar.proofs.Heads.{depth_below}
-use Rattle.query_tree.specs.declared.query.Query.{Query}
-use Rattle.query_tree.specs.Views.{query_of}
 use Rattle.query_lexer.specs.declared.token.Token.{Token as RealToken}
 use Rattle.query_tree.specs.Tokens.{seen}
 use Rattle.query_parser.specs.Answers.{Stops}

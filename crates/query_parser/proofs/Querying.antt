@@ -1,17 +1,17 @@
 -- A query made of its parts.
-use Rattle.std.proofs.Common.{◌≡◌, ℕ, ◌+◌, Bool, true, List, [], ◌∷◌, ◌++◌, length, map, Option, Some, None, option_map, refl, sym, ◌∙◌, ap, ap₂, subst}
+use Rattle.std.proofs.Common.{◌≡◌, ℕ, true, List, [], ◌++◌, length, map, Option, Some, None, option_map, refl, sym, ◌∙◌, ap, ap₂}
 use Rattle.grammar.specs.Trees as model
 use Rattle.grammar.specs.Trees.{Query as query}
 use Rattle.query_tree.specs.declared.condition.Cond.{Cond}
 use Rattle.query_tree.specs.declared.query.Query.{Query}
-use Rattle.query_tree.specs.Views.{items_of, placed_of, placed_all, test_of, query_of, numbers_of}
+use Rattle.query_tree.specs.Views.{test_of, query_of, numbers_of}
 use Rattle.query_parser.specs.declared.clauses.Selected.{Selected}
 use Rattle.query_parser.specs.declared.query.Sourced.{Sourced}
 use Rattle.query_parser.specs.declared.query.Ended.{Ended}
-use Rattle.query_parser.specs.Clauses.{keys_of, selected_of}
+use Rattle.query_parser.specs.Clauses.{selected_of}
 use Rattle.query_parser.specs.Conditions.{asked_between, conditions_with, count_from, Grown}
 use Rattle.query_parser.specs.Queries.{sourced_of, ended_of, query_with}
-use Rattle.query_parser.proofs.Conditioning.{plain_between, between_both, grown_both, tested_all}
+use Rattle.query_parser.proofs.Conditioning.{plain_between, between_both, grown_both}
 
 asked_all : {old new : List Query} (o : Option Cond) → Grown true old new (numbers_of o) → model.asked_of (conditions_with o (asked_between old new)) ≡ asked_between old new
 asked_all None one = sym (plain_between one)

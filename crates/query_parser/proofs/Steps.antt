@@ -1,10 +1,9 @@
 -- Small steps that many readers take.
-use Rattle.std.proofs.Common.{◌≡◌, ℕ, ◌<◌, Bool, true, false, ◌||◌, not, ◌&&◌, List, [], ◌∷◌, ◌++◌, length, map, Option, Some, None, refl, sym, ◌∙◌, ap, subst, append_assoc}
-use Rattle.std.proofs.lemmas.Bool.{false≢true}
+use Rattle.std.proofs.Common.{◌≡◌, ℕ, ◌<◌, Bool, true, false, ◌||◌, not, ◌&&◌, List, [], ◌∷◌, ◌++◌, length, map, Some, None, refl, sym, ◌∙◌, ap, subst, append_assoc}
 use Rattle.std.proofs.lemmas.List.{length-map}
 use Rattle.grammar.specs.declared.Class.{Class}
 use Rattle.grammar.specs.declared.Class.TheVariants as class
-use Rattle.grammar.specs.Classes.{is_a, for_all}
+use Rattle.grammar.specs.Classes.{is_a}
 use Rattle.grammar.specs.Trees.{Token, Tree, word_of, listed, trees_of, call_of}
 use Rattle.grammar.specs.Trees.{Tree as tree}
 use Rattle.grammar.specs.Forms.{Kind, Worth, Form, Opt, is_nullable}

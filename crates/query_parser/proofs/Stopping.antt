@@ -1,20 +1,18 @@
 -- What stops a part of a form stops the form.
-use Rattle.std.proofs.Common.{◌≡◌, ℕ, suc, ◌-◌, ◌<◌, Bool, true, false, not, ◌&&◌, List, [], ◌∷◌, ◌++◌, length, map, Option, Some, Result, Ok, Err, refl, sym, ◌∙◌, ap, subst, arith}
-use Rattle.std.proofs.lemmas.List.{length-map}
+use Rattle.std.proofs.Common.{◌≡◌, ℕ, ◌-◌, ◌<◌, Bool, true, false, List, map, Result, Ok, Err, sym, subst}
 use Rattle.grammar.specs.declared.Class.{Class}
-use Rattle.grammar.specs.Classes.{is_a}
 use Rattle.grammar.specs.Trees.{Token}
-use Rattle.grammar.specs.Forms.{Kind, Worth, Rule, kind, Form, Tok, Seq, Alt, Many, Opt, Map, Nest, Ref, is_nullable, can_be}
-use Rattle.grammar.specs.Rules.{a, behind, before, rule}
-use Rattle.grammar.specs.Reading.{starts, continues, heads_by, Outcome, read, failed, Reads, Exact}
-use Rattle.grammar.proofs.Agreeing.{Disjoint, Off}
+use Rattle.grammar.specs.Forms.{Kind, Worth, Rule, Form, Tok, Seq, Alt, Opt, Map, Nest, Ref, is_nullable, can_be}
+use Rattle.grammar.specs.Rules.{rule}
+use Rattle.grammar.specs.Reading.{starts, continues, heads_by, failed, Reads, Exact}
+use Rattle.grammar.proofs.Agreeing.{Disjoint}
 use Rattle.grammar.proofs.Laws.{exact_seq, exact_seq_fails, exact_left, exact_right, exact_map, exact_ref}
-use Rattle.grammar.proofs.Repeating.{exact_off, exact_tok, exact_present, exact_more_fails}
-use Rattle.grammar.proofs.Choosing.{Within, on_heads, off_heads, off_other, nest_read, nest_deep}
-use Rattle.grammar.proofs.Answering.{witness, SoFar, exact_of}
+use Rattle.grammar.proofs.Repeating.{exact_present, exact_more_fails}
+use Rattle.grammar.proofs.Choosing.{Within, on_heads, off_heads, off_other, nest_read}
+use Rattle.grammar.proofs.Answering.{witness, SoFar}
 use Rattle.query_lexer.specs.declared.token.Token.{Token as RealToken}
 use Rattle.query_tree.specs.Tokens.{seen}
-use Rattle.query_parser.specs.Answers.{Stops, StopsAt, Stopped, Gives}
+use Rattle.query_parser.specs.Answers.{StopsAt, Stopped, Gives}
 use Rattle.query_parser.specs.declared.fault.Stop.{Stop}
 use Rattle.query_parser.specs.declared.fault.Stop.TheVariants as stop
 

@@ -1,13 +1,11 @@
 -- Taking one token.
-use Rattle.std.proofs.Common.{◌≡◌, ℕ, suc, ◌-◌, ◌<◌, Bool, true, false, List, [], ◌∷◌, length, map, refl, sym, ◌∙◌, ap, subst, arith}
-use Rattle.std.proofs.lemmas.Bool.{false≢true}
+use Rattle.std.proofs.Common.{◌≡◌, ℕ, suc, Bool, true, false, List, [], ◌∷◌, length, map, refl, sym, subst, arith}
 use Rattle.std.proofs.lemmas.List.{length-map}
 use Rattle.grammar.specs.declared.Class.{Class}
 use Rattle.grammar.specs.Classes.{is_a}
-use Rattle.grammar.specs.Trees.{Token}
 use Rattle.grammar.specs.Forms.{Kind, Form, Tok, Nest, can_be}
 use Rattle.grammar.specs.Rules.{a, there}
-use Rattle.grammar.specs.Reading.{heads_by, Reads, read, failed, Exact}
+use Rattle.grammar.specs.Reading.{heads_by, Reads}
 use Rattle.grammar.proofs.Repeating.{exact_off, exact_tok}
 use Rattle.grammar.proofs.Classes.{some_class}
 use Rattle.grammar.proofs.Heads.{and_true}
@@ -15,7 +13,7 @@ use Rattle.grammar.proofs.Answering.{witness, reads_map, reads_present, reads_ab
 use Rattle.grammar.proofs.Choosing.{nest_deep, within_self}
 use Rattle.query_lexer.specs.declared.token.Token.{Token as RealToken}
 use Rattle.query_tree.specs.Tokens.{seen}
-use Rattle.query_parser.specs.Answers.{Stops, Stopped, Gives}
+use Rattle.query_parser.specs.Answers.{Stopped}
 use Rattle.query_parser.specs.Sorts.{in_sort}
 use Rattle.query_parser.specs.declared.token.Sort.{Sort}
 use Rattle.query_parser.specs.declared.token.Sort.TheVariants as s

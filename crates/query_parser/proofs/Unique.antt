@@ -1,10 +1,9 @@
 -- One tree for a list of tokens: what derives from a form is what is read of it.
-use Rattle.std.proofs.Common.{◌≡◌, ℕ, ◌+◌, ◌-◌, ◌≤◌, ◌<◌, max, Bool, true, false, not, ◌&&◌, ◌||◌, List, [], ◌∷◌, ◌++◌, Some, None, refl, sym, ◌∙◌, subst, arith, append_assoc, append-nil}
+use Rattle.std.proofs.Common.{◌≡◌, ℕ, ◌-◌, ◌≤◌, max, Bool, true, false, not, ◌&&◌, List, [], ◌∷◌, ◌++◌, refl, sym, ◌∙◌, subst, arith, append_assoc, append-nil}
 use Rattle.std.proofs.lemmas.Bool.{false≢true}
-use Rattle.grammar.specs.Classes.{for_all}
 use Rattle.grammar.specs.Trees as model
 use Rattle.grammar.specs.Trees.{Token}
-use Rattle.grammar.specs.Forms.{Kind, Worth, Rule, Form, Tok, Seq, Alt, Many, Opt, Map, Nest, Ref, is_nullable}
+use Rattle.grammar.specs.Forms.{Kind, Worth, Rule, Form, Seq, Alt, Many, Opt, Map, Nest, Ref, is_nullable}
 use Rattle.grammar.specs.Rules.{rule, query}
 use Rattle.grammar.specs.Derivations.{Derivation, tok, seq, left, right, none, more, absent, present, map, nest, ref, tokens, worth, depth}
 use Rattle.grammar.specs.Reading.{starts, continues, Apart, read, Reads}

@@ -1,8 +1,7 @@
 -- The class of a word.
-use Rattle.std.proofs.Common.{◌≡◌, ℕ, Bool, true, false, List, [], ◌∷◌, map, codes, ◌&&◌, ◌==◌, ◌↔◌, IsTrue, refl, sym, ◌∙◌, ap, ap₂, subst, nat_eq, rules, arith}
+use Rattle.std.proofs.Common.{◌≡◌, ℕ, Bool, true, false, List, [], ◌∷◌, map, codes, ◌==◌, ◌↔◌, IsTrue, refl, subst, rules, arith}
 use Rattle.std.proofs.lemmas.Bool.{false≢true}
 use Rattle.std.specs.Char.{to_ascii_lowercase}
-use Rattle.grammar.specs.declared.Class.TheVariants as class
 use Rattle.query_tree.specs.Tokens.{same_text, same_word, first_class, class_of_word}
 
 same_self : (a : List ℕ) → same_text a a ≡ true

@@ -1,5 +1,5 @@
 -- Conditions with the subqueries that were read in them.
-use Rattle.std.specs.Prelude.{◌≡◌, ℕ, zero, suc, ◌+◌, Bool, true, false, List, [], ◌∷◌, ◌++◌, length, drop, map, Option, Some, None, option_map, Result, Ok, Err}
+use Rattle.std.specs.Prelude.{◌≡◌, ℕ, zero, suc, Bool, false, List, [], ◌∷◌, ◌++◌, length, drop, map, Option, Some, None, Result, Ok, Err}
 use Rattle.grammar.specs.Trees as model
 use Rattle.grammar.specs.Forms.{Kind, Worth, Form, Map, Nest}
 use Rattle.grammar.specs.Forms.{Kind as kind}

@@ -1,10 +1,10 @@
 -- A query of its parts.
-use Rattle.std.specs.Prelude.{ℕ, pos, Bool, List, ◌++◌, map, Option, option_map}
+use Rattle.std.specs.Prelude.{ℕ, pos, List, ◌++◌, map, option_map}
 use Rattle.grammar.specs.Trees as model
 use Rattle.grammar.specs.Trees.{Query as query}
 use Rattle.query_tree.specs.declared.query.Query.{Query, out-Query}
 use Rattle.query_tree.specs.declared.query.QueryList.{out-QueryList}
-use Rattle.query_tree.specs.Views.{items_of, trees_of, placed_of, placed_all, test_of, query_of, numbers_of}
+use Rattle.query_tree.specs.Views.{items_of, placed_of, placed_all, test_of, query_of, numbers_of}
 use Rattle.query_parser.specs.declared.clauses.Selected.{Selected}
 use Rattle.query_parser.specs.declared.query.Sourced.{Sourced}
 use Rattle.query_parser.specs.declared.query.Ended.{Ended}

@@ -23,8 +23,7 @@ const DEPTH: u32 = 64;
 /// The law that tokens are one query at most: two trees that derive from the same tokens are one, however deep.
 pub fn one_tree()
     ensures { (n : ℕ) (all : List model.Token) (v w : model.Query) → Derives n query all v → Derives n query all w → v ≡ w }
-{
-}
+{}
 
 /// The place of the token from which on so many stand, or the text's length.
 fn place(tokens: &Tokens, count: usize) -> u32

@@ -1,4 +1,4 @@
-use Rattle.std.proofs.Common.{◌≡◌, Bool, true, false, sym, ◌∙◌, codes, refl}
+use Rattle.std.proofs.Common.{true, false, sym, ◌∙◌, codes, refl}
 use Rattle.query_tree.specs.Tokens.{same_word}
 use Rattle.query_parser.proofs.Words.{same_by, classed}
 use Rattle.query_parser.proofs.token.word_class.Goals as goal

@@ -1,4 +1,4 @@
-use Rattle.std.proofs.Common.{◌≡◌, ◌++◌, ◌+◌, ◌*◌, ◌≤◌, ◌<◌, length, List, map}
+use Rattle.std.proofs.Common.{◌+◌, ◌*◌, length, map}
 use Rattle.grammar.specs.declared.Class.TheVariants as class
 use Rattle.grammar.specs.Rules.{a, behind, cond, conj, neg}
 use Rattle.grammar.specs.Trees.{and_of, or_of}

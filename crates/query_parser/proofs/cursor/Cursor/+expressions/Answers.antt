@@ -1,20 +1,15 @@
-use Rattle.std.proofs.Common.{◌≡◌, ℕ, ◌-◌, ◌<◌, length, map, Bool, true, false, ◌||◌, List, [], ◌∷◌, ◌++◌, Option, Some, None, option_map, Result, Ok, Err, refl, sym, ◌∙◌, ap, subst, arith, rules, append_assoc, append-nil}
-use Rattle.std.proofs.lemmas.List.{length-map, map_push}
+use Rattle.std.proofs.Common.{◌≡◌, ℕ, ◌-◌, map, List, [], ◌∷◌, ◌++◌, refl, sym, ◌∙◌, ap, append-nil}
+use Rattle.std.proofs.lemmas.List.{map_push}
 use Rattle.std.proofs.lemmas.Result.{err_from_is_err_and}
 use Rattle.grammar.specs.declared.Class.TheVariants as class
 use Rattle.grammar.specs.Classes.{is_a}
-use Rattle.grammar.specs.Trees.{Tree, Token, trees_of, word_of, listed}
+use Rattle.grammar.specs.Trees.{Tree, trees_of, listed}
 use Rattle.grammar.specs.Trees.{Tree as tree}
-use Rattle.grammar.specs.Forms.{Kind as kind}
 use Rattle.grammar.specs.Forms.{Rule as r}
-use Rattle.grammar.specs.Reading.{heads_by, Reads}
-use Rattle.grammar.specs.Rules.{a, behind, is_integer, is_plain, is_counting, begins_literal, begins_expr, literal, expr, exprs, when, whens}
-use Rattle.grammar.proofs.Answering.{reads_map, reads_seq, reads_behind, reads_before, reads_left, reads_right, reads_absent, reads_present, reads_nest, reads_ref, so_far_start, so_far_as, so_far_more, so_far_end, read_shorter}
-use Rattle.query_lexer.specs.declared.token.Token.{Token as RealToken}
-use Rattle.query_tree.specs.Tokens.{seen}
+use Rattle.grammar.specs.Rules.{a, behind, is_plain, is_counting, begins_literal, begins_expr, expr, when}
+use Rattle.grammar.proofs.Answering.{reads_map, reads_seq, reads_behind, reads_before, reads_left, reads_right, reads_absent, reads_present, reads_nest, reads_ref, so_far_start, so_far_as, so_far_more, so_far_end}
 use Rattle.query_tree.specs.Views.{tree_of, when_of}
 use Rattle.query_tree.specs.Views as views
-use Rattle.query_parser.specs.declared.fault.Stop.{Stop}
 use Rattle.query_parser.proofs.Stopping.{stop_map, stop_first, stop_second, stop_left, stop_right, stop_present, stop_nest, stop_ref, stop_more, given_ok, given_err, given_as, given_same}
 use Rattle.query_parser.proofs.Steps.{reads_as, pushed, seen_shorter, reads_neither, counting_call}
 use Rattle.query_parser.proofs.cursor.Cursor.+expressions.Goals as goal

@@ -1,11 +1,9 @@
-use Rattle.std.proofs.Common.{◌≡◌, ℕ, ◌++◌, length, List, map}
+use Rattle.std.proofs.Common.{ℕ, ◌++◌, length, map}
 use Rattle.grammar.specs.declared.Class.TheVariants as class
-use Rattle.grammar.specs.Forms.{Tok}
-use Rattle.grammar.specs.Rules.{a, behind, names, name, values, is_separator, expr}
-use Rattle.grammar.specs.Trees.{Set' as set}
+use Rattle.grammar.specs.Rules.{a, behind, names, name}
 use Rattle.grammar.proofs.Answering.{SoFar}
 use Rattle.query_tree.specs.Tokens.{seen}
-use Rattle.query_tree.specs.Views.{placed_all, trees_of}
+use Rattle.query_tree.specs.Views.{placed_all}
 use Rattle.query_parser.proofs.cursor.Cursor.names.Given as goal
 
 abbrev pub invariant-loop-self : goal.invariant-loop-self

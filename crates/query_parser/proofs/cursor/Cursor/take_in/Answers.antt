@@ -1,12 +1,8 @@
-use Rattle.std.proofs.Common.{◌≡◌, ℕ, ◌<◌, length, map, Bool, true, false, List, [], ◌∷◌, refl, sym, ◌∙◌, ap, arith}
+use Rattle.std.proofs.Common.{sym, ◌∙◌, ap}
 use Rattle.grammar.specs.declared.Class.{Class}
-use Rattle.grammar.specs.Classes.{is_a}
-use Rattle.query_lexer.specs.declared.token.Token.{Token}
-use Rattle.query_tree.specs.Tokens.{seen}
 use Rattle.query_parser.specs.Sorts.{in_sort}
-use Rattle.query_parser.proofs.Taking.{take_reads, take_stops, take_ends, tok_stops, tok_ends, open_deep, any_sort, any_nest, skip_reads, skip_passes, no_head, heads_is}
+use Rattle.query_parser.proofs.Taking.{take_reads, tok_stops, tok_ends, any_sort}
 use Rattle.query_parser.proofs.Stopping.{given_ok, given_err}
-use Rattle.grammar.proofs.Classes.{some_class}
 use Rattle.query_parser.proofs.cursor.Cursor.take_in.Goals as goal
 
 pub returns-in_default-clause-exact : goal.returns-in_default-clause-exact
