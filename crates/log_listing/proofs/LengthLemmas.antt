@@ -81,7 +81,7 @@ none_there (Some bytes) e is = absurd (cc)
 -- a listed log is gone only where the logs don't tell their files
 pub refused_gone : (told : Option Folder) (texts names : List (List ℕ)) (fault : ListFault) → Lists told texts names → IsGone told names fault → IsRefused told texts fault
 refused_gone told texts names (F.BadName fault) l gone = absurd gone
-refused_gone None texts names (F.NoSuchLog name) l gone = inr refl
+refused_gone None texts names (F.NoSuchLog name) l gone = inr (record { untold = refl; names = names; lists = l; listed = gone.0 })
 refused_gone (Some files) texts names (F.NoSuchLog name) l gone = absurd (none_there (files name) gone.1 (there_listed files texts names name l gone.0))
 refused_gone told texts names F.TooManyLogs l gone = absurd gone
 refused_gone told texts names F.Logs l gone = tt

@@ -1,5 +1,5 @@
 -- Which logs names list, as far as the logs tell their files.
-use Rattle.std.specs.Prelude.{◌≡◌, ◌⊎◌, ◌<◌, ◌≤◌, ℕ, List, [], ◌∷◌, ◌++◌, length, Option, Some, None}
+use Rattle.std.specs.Prelude.{◌≡◌, ◌⊎◌, ◌<◌, ◌≤◌, ℕ, List, [], ◌∷◌, ◌++◌, length, Contains, Option, Some, None}
 use Rattle.std.specs.Bool.{⊤}
 use Rattle.std.specs.List.{AllZip}
 use Rattle.lp_model.specs.Outside.{Folder, Told}
@@ -70,10 +70,17 @@ pub record Stops (told : Option Folder) (texts : List (List ℕ)) (fault : ListF
   pub few : length before ≤ most_logs
   pub stops : StopsAt told text before fault
 
--- why texts aren't listed: one of them stops the list; logs that don't tell their files may lose one in between
+-- a log that was listed is gone, which only logs that don't tell their files may answer
+pub record IsLost (told : Option Folder) (texts : List (List ℕ)) (name : List ℕ) : Type 0 where
+  pub untold : told ≡ None
+  pub names : List (List ℕ)
+  pub lists : Lists told texts names
+  pub listed : Contains names name
+
+-- why texts aren't listed: one of them stops the list, or a log is gone before its length is asked
 abbrev pub IsRefused : Option Folder → List (List ℕ) → ListFault → Type 0
 IsRefused told texts (F.BadName fault) = Stops told texts (F.BadName fault)
-IsRefused told texts (F.NoSuchLog name) = Stops told texts (F.NoSuchLog name) ⊎ (told ≡ None)
+IsRefused told texts (F.NoSuchLog name) = Stops told texts (F.NoSuchLog name) ⊎ IsLost told texts name
 IsRefused told texts F.TooManyLogs = Stops told texts F.TooManyLogs
 IsRefused told texts F.Logs = ⊤
 IsRefused told texts F.Memory = ⊤
