@@ -1,12 +1,13 @@
 -- The first part of a text.
-use Rattle.std.proofs.Common.{◌≡◌, ℕ, suc, ◌+◌, ◌-◌, ◌<◌, ◌≤◌, Bool, true, false, not, cond, List, [], ◌∷◌, length, take, drop, refl, sym, ap, ◌∙◌, subst, inl, inr, arith, rules, tests}
-use Rattle.std.proofs.lemmas.Bool.{cases_Bool, false≢true}
+use Rattle.std.proofs.Common.{◌≡◌, ℕ, suc, ◌+◌, ◌-◌, ◌<◌, ◌≤◌, Bool, true, not, List, [], ◌∷◌, length, take, drop, refl, sym, ap, ◌∙◌, subst, inl, inr, arith, rules, tests}
+use Rattle.std.proofs.lemmas.Bool.{cases_Bool}
 use Rattle.std.proofs.lemmas.List.{drop-drop, length-take}
-use Rattle.std.proofs.lemmas.List.Sums.{prefix_len-le-length}
-use Rattle.std.specs.List.{slice_split, onto_first, filter, position_or_len, prefix_len}
-use Rattle.line_input.specs.declared.extent.Extent.{Extent}
-use Rattle.line_input.specs.Taken.{part_of}
-use Rattle.line_input.specs.Parts.{is_filled, parts_by, IsNextPart}
+use Rattle.std.proofs.lemmas.List.Splits.{length-slice_split}
+use Rattle.std.proofs.lemmas.List.Sums.{prefix_len-le-length, length-filter, count_by-le-length}
+use Rattle.std.specs.List.{slice_split, filter, position_or_len, prefix_len}
+use Rattle.lp_model.specs.Reading.{words_in}
+use Rattle.line_input.specs.declared.gap.Gap.TheVariants.{Words}
+use Rattle.line_input.specs.Parts.{is_filled, is_gap, parts_by, IsNextPart}
 
 one_more : (n : ℕ) → 1 + n ≡ suc n
 one_more n = omega arith
@@ -89,3 +90,14 @@ next_part_some gap line at from size e same some within =
       within = within;
       parts = parts_by-front gap (drop at line) ∙ (ap (parts_by gap) (sym there) ∙ (first ∙ rw (cut, drop-drop size from line) refl));
     }
+
+-- there are at most as many parts as bytes, and one more
+pub few_parts : (gap : ℕ → Bool) (text : List ℕ) → length (parts_by gap text) ≤ length text + 1
+unfolding parts_by
+few_parts gap text =
+    omega (arith, length-filter is_filled (slice_split gap text), count_by-le-length is_filled (slice_split gap text), length-slice_split gap text, count_by-le-length gap text)
+
+-- words are the parts between what parts words
+pub parts_words : (text : List ℕ) → parts_by (is_gap Words) text ≡ words_in text
+unfolding parts_by
+parts_words text = refl

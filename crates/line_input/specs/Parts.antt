@@ -1,15 +1,17 @@
 -- The parts of a line that stand apart.
 use Rattle.std.specs.Prelude.{◌≡◌, ◌≤◌, ◌<◌, ℕ, Bool, false, ◌||◌, ◌==◌, List, [], ◌∷◌, Option, Some, None, if◌then◌else◌, length, drop, filter, nat_lt}
 use Rattle.std.specs.List.{slice_split}
+use Rattle.lp_model.specs.Reading.{is_word_gap}
 use Rattle.line_input.specs.declared.gap.Gap.{Gap}
-use Rattle.line_input.specs.declared.gap.Gap.TheVariants.{Spaces, Blanks}
+use Rattle.line_input.specs.declared.gap.Gap.TheVariants.{Spaces, Blanks, Words}
 use Rattle.line_input.specs.declared.extent.Extent.{Extent}
 use Rattle.line_input.specs.Taken.{part_of}
 
--- space, tab
+-- space; space, tab; what parts words
 abbrev pub is_gap : Gap → ℕ → Bool
 is_gap Spaces byte = byte == 32
 is_gap Blanks byte = byte == 32 || byte == 9
+is_gap Words byte = is_word_gap byte
 
 abbrev pub is_filled : List ℕ → Bool
 is_filled part = nat_lt 0 (length part)

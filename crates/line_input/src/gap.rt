@@ -1,6 +1,7 @@
 // The parts of a line that stand apart.
 ghost use Rattle.std.specs.Prelude.{◌≡◌, ◌≤◌, MatchOption, length, drop, []};
 ghost use Rattle.std.specs.List.{position_or_len, prefix_len};
+ghost use Rattle.lp_model.specs.Reading.{is_word_gap};
 ghost use Rattle.line_input.specs.Parts.{is_gap, parts_by, IsNextPart};
 
 use crate::Extent;
@@ -13,6 +14,14 @@ pub enum Gap {
     Spaces,
     /// Spaces and tabs.
     Blanks,
+    /// What parts words: tabs, vertical tabs, form feeds, carriage returns and spaces.
+    Words,
+}
+
+fn is_word_gap(byte: u8) -> bool
+    ensures { result ≡ is_word_gap byte }
+{
+    matches!(byte, b'\t' | 0x0B | 0x0C | b'\r' | b' ')
 }
 
 impl Gap {
@@ -24,6 +33,7 @@ impl Gap {
         match self {
             Gap::Spaces => byte == b' ',
             Gap::Blanks => byte == b' ' || byte == b'\t',
+            Gap::Words => is_word_gap(byte),
         }
     }
 

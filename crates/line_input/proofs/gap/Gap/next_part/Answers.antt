@@ -1,4 +1,4 @@
-use Rattle.std.proofs.Common.{ap, drop, length, ◌+◌, ◌∙◌, sym, arith, rules}
+use Rattle.std.proofs.Common.{ap, length, ◌+◌, ◌∙◌, sym, arith, rules}
 use Rattle.std.proofs.lemmas.List.{length-drop}
 use Rattle.line_input.proofs.Parting.{next_part_none, next_part_some}
 use Rattle.line_input.specs.Parts.{is_gap}
