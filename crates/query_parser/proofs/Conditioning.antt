@@ -144,6 +144,9 @@ grown_one old new q is = record { added = q ∷ []; grown = is; numbered = refl;
 pub between_one : (old new : List Query) (q : Query) → new ≡ old ++ (q ∷ []) → asked_between old new ≡ query_of q ∷ []
 between_one old new q is = between_is old new (q ∷ []) is
 
+pub pushed_to : (old mid new : List Query) (q : Query) → mid ≡ old → new ≡ mid ++ (q ∷ []) → new ≡ old ++ (q ∷ [])
+pushed_to old mid new q same is = is ∙ ap (λ (l : List Query). l ++ (q ∷ [])) same
+
 -- what may not ask leaves the subqueries as they are
 pub plain_same : {old new : List Query} {ns : List ℕ} → Grown false old new ns → new ≡ old
 plain_same {old = old} one = one.grown ∙ ap (λ (l : List Query). old ++ l) (one.plain refl) ∙ append-nil old

@@ -84,48 +84,45 @@ fn mark(negated: bool) -> &'static str {
     if negated { " not" } else { "" }
 }
 
-fn show_cond(to: &mut String, cond: &Cond) -> Result<(), AllocError> {
+fn show_range(to: &mut String, low: &Expr, high: &Expr) -> Result<(), AllocError> {
+    show_expr(to, low)?;
+    to.push_str("..")?;
+    show_expr(to, high)
+}
+
+fn show_asked(
+    to: &mut String,
+    value: &Expr,
+    negated: bool,
+    word: &'static str,
+) -> Result<(), AllocError> {
+    show_expr(to, value)?;
+    to.push_str(mark(negated))?;
+    to.push_str(word)?;
+    Ok(())
+}
+
+fn show_test(to: &mut String, cond: &Cond) -> Result<(), AllocError> {
     match cond {
-        Cond::Or { left, right, .. } => {
-            write!(to, "(")?;
-            show_cond(to, left)?;
-            write!(to, " or ")?;
-            show_cond(to, right)?;
-            write!(to, ")")
-        }
-        Cond::And { left, right, .. } => {
-            write!(to, "(")?;
-            show_cond(to, left)?;
-            write!(to, " and ")?;
-            show_cond(to, right)?;
-            write!(to, ")")
-        }
-        Cond::Not { inner, .. } => {
-            write!(to, "!")?;
-            show_cond(to, inner)
-        }
         Cond::Compare {
             how,
             left,
             right,
             ..
         } => {
-            show_expr(to, left)?;
-            write!(to, "{}", sign(*how))?;
+            show_asked(to, left, false, sign(*how))?;
             show_expr(to, right)
         }
-        Cond::IsNull { value, negated, .. } => {
-            show_expr(to, value)?;
-            write!(to, "{} null", mark(*negated))
-        }
+        Cond::IsNull { value, negated, .. } => show_asked(to, value, *negated, " null"),
         Cond::Like {
             value,
             pattern,
             negated,
             ..
         } => {
-            show_expr(to, value)?;
-            write!(to, "{} like {}", mark(*negated), pattern.text.as_str())
+            show_asked(to, value, *negated, " like ")?;
+            to.push_str(pattern.text.as_str())?;
+            Ok(())
         }
         Cond::Between {
             value,
@@ -134,11 +131,8 @@ fn show_cond(to: &mut String, cond: &Cond) -> Result<(), AllocError> {
             negated,
             ..
         } => {
-            show_expr(to, value)?;
-            write!(to, "{} between ", mark(*negated))?;
-            show_expr(to, low)?;
-            write!(to, "..")?;
-            show_expr(to, high)
+            show_asked(to, value, *negated, " between ")?;
+            show_range(to, low, high)
         }
         Cond::InList {
             value,
@@ -146,8 +140,7 @@ fn show_cond(to: &mut String, cond: &Cond) -> Result<(), AllocError> {
             negated,
             ..
         } => {
-            show_expr(to, value)?;
-            write!(to, "{} in ", mark(*negated))?;
+            show_asked(to, value, *negated, " in ")?;
             show_exprs(to, items)
         }
         Cond::InQuery {
@@ -156,9 +149,38 @@ fn show_cond(to: &mut String, cond: &Cond) -> Result<(), AllocError> {
             negated,
             ..
         } => {
-            show_expr(to, value)?;
-            write!(to, "{} in #{subquery}", mark(*negated))
+            show_asked(to, value, *negated, " in ")?;
+            write!(to, "#{subquery}")
         }
+        _ => Ok(()),
+    }
+}
+
+#[cycle(joining)]
+fn show_joined(
+    to: &mut String,
+    left: &Cond,
+    word: &'static str,
+    right: &Cond,
+) -> Result<(), AllocError> {
+    to.push_str("(")?;
+    show_cond(to, left)?;
+    to.push_str(word)?;
+    show_cond(to, right)?;
+    to.push_str(")")?;
+    Ok(())
+}
+
+#[cycle(joining)]
+fn show_cond(to: &mut String, cond: &Cond) -> Result<(), AllocError> {
+    match cond {
+        Cond::Or { left, right, .. } => show_joined(to, left, " or ", right),
+        Cond::And { left, right, .. } => show_joined(to, left, " and ", right),
+        Cond::Not { inner, .. } => {
+            to.push_str("!")?;
+            show_cond(to, inner)
+        }
+        test => show_test(to, test),
     }
 }
 
@@ -259,7 +281,7 @@ fn shown(alloc: Global, text: &str) -> Result<String, AllocError> {
     }
 }
 
-const QUERIES: [(&str, &str); 34] = [
+const QUERIES: [(&str, &str); 16] = [
     ("SELECT a FROM t", "a; from t"),
     ("select * from t;", "*7  from t"),
     (
@@ -300,6 +322,9 @@ const QUERIES: [(&str, &str); 34] = [
         "SELECT CASE a WHEN 1 THEN CASE b WHEN 2 THEN 3 ELSE 4 END WHEN 5 THEN 6 ELSE 7 END FROM t",
         "{a 1:{b 2:3 else 4} 5:6 else 7}; from t",
     ),
+];
+
+const CONDITIONS: [(&str, &str); 18] = [
     ("SELECT a FROM t WHERE a = 1", "a; from t where a=1"),
     (
         "SELECT a FROM t WHERE a = 1 OR b <> 2 AND c < 3",
@@ -365,7 +390,7 @@ const QUERIES: [(&str, &str); 34] = [
     ("SELECT a FROM t ORDER BY a ASC", "a; from t order a;"),
 ];
 
-const FAULTS: [(&str, &str); 26] = [
+const FAULTS: [(&str, &str); 14] = [
     ("", "syntax at 0"),
     ("SELECT", "syntax at 6"),
     ("FROM t", "syntax at 0"),
@@ -380,6 +405,9 @@ const FAULTS: [(&str, &str); 26] = [
     ("SELECT a AS 1 FROM t", "syntax at 12"),
     ("SELECT f(a FROM t", "syntax at 11"),
     ("SELECT f(*) FROM t", "syntax at 9"),
+];
+
+const LATE_FAULTS: [(&str, &str); 12] = [
     ("SELECT CASE a END FROM t", "syntax at 14"),
     ("SELECT x USING a INTO o FROM t", "syntax at 17"),
     ("SELECT a FROM t WHERE a", "syntax at 23"),
@@ -407,8 +435,26 @@ fn trees_of_queries(rt: HostRuntime) -> Result<(), Fail> {
 }
 
 #[test]
+fn trees_of_conditions(rt: HostRuntime) -> Result<(), Fail> {
+    for (text, expected) in CONDITIONS {
+        let found = shown(rt.alloc(), text)?;
+        assert_eq!(rt; found.as_str(), expected, "in {text}");
+    }
+    Ok(())
+}
+
+#[test]
 fn faults_of_queries(rt: HostRuntime) -> Result<(), Fail> {
     for (text, expected) in FAULTS {
+        let found = shown(rt.alloc(), text)?;
+        assert_eq!(rt; found.as_str(), expected, "in {text}");
+    }
+    Ok(())
+}
+
+#[test]
+fn late_faults_of_queries(rt: HostRuntime) -> Result<(), Fail> {
+    for (text, expected) in LATE_FAULTS {
         let found = shown(rt.alloc(), text)?;
         assert_eq!(rt; found.as_str(), expected, "in {text}");
     }

@@ -12,7 +12,7 @@ use Rattle.query_parser.specs.Conditions.{tail_of, range_of, set_of, items_with,
 use Rattle.query_parser.specs.declared.tail.Values.TheVariants as v
 use Rattle.query_parser.proofs.Stopping.{stop_map, stop_first, stop_second, stop_left, stop_right, stop_alt_left, stop_alt_right, stop_present, stop_nest, stop_ref, stop_more}
 use Rattle.query_parser.proofs.Steps.{seen_shorter}
-use Rattle.query_parser.proofs.Conditioning.{between_none, grown_none, grown_as, grown_both, and_made, or_made, test_made, asks_test, grown_one, between_one, plain_same, tested_by, asks_err, asks_ok, asks_as, asks_same, asks_set, plain_numbers, set_apart}
+use Rattle.query_parser.proofs.Conditioning.{between_none, grown_none, grown_as, grown_both, and_made, or_made, test_made, asks_test, grown_one, between_one, plain_same, pushed_to, tested_by, asks_err, asks_ok, asks_as, asks_same, asks_set, plain_numbers, set_apart}
 use Rattle.query_parser.proofs.conditions.Parser.+conditions.Goals as goal
 
 pub conj-returns-in_err-test : goal.conj-returns-in_err-test
@@ -265,7 +265,7 @@ any_set-returns-in_err-query measure c =
 pub any_set-returns : goal.any_set-returns
 any_set-returns measure c =
     let same = plain_same c.in_ok-query.ensures.is.1 in
-    let pushed_is = c.in_ok-push.ensures.items ∙ ap (λ l. l ++ (c.in_ok-query.query ∷ [])) same in
+    let pushed_is = pushed_to _ _ _ c.in_ok-query.query same c.in_ok-push.ensures.items in
     asks_as (ap (λ qs. set_of (v.Asked c.asked-number.result) qs) (between_one _ _ c.in_ok-query.query pushed_is)) (reads_ref {m = r.set_rule true} (reads_alt_right (is_a class.Select) refl refl (sym c.if-not-next_is.ensures) (reads_map c.in_ok-query.ensures.is.0))) (grown_as (ap (λ (k : ℕ). k ∷ []) (c.asked-number.ensures ∙ ap (λ l. length l) same)) (grown_one _ _ c.in_ok-query.query pushed_is))
 
 pub subquery-returns-in_err-_select : goal.subquery-returns-in_err-_select
