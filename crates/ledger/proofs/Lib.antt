@@ -12,3 +12,4 @@ pub mod Comparing
 pub mod Cutters
 pub mod Payloads
 pub mod Inputting
+pub mod Pairs

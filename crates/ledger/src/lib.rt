@@ -20,5 +20,5 @@ pub use mark::Mark;
 pub use outputs::OutputReader;
 pub use reader::EntryReader;
 pub use refused::{LedgerRefused, Part2, TextRefused};
-pub use walking::{End, LastEntry};
+pub use walking::{End, LastEntry, walk};
 pub use writing::{EntryWriter, create};
