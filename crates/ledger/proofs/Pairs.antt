@@ -1,9 +1,13 @@
 -- Pairs that were walked over, one after another.
-use Rattle.std.proofs.Common.{◌≡◌, ◌≢◌, ◌==◌, inl, inr, ℕ, Bool, ◌+◌, ◌-◌, ◌<◌, ◌≤◌, ◌^◌, List, [], ◌∷◌, ◌++◌, length, take, drop, get_or, flat_map, Option, Some, None, refl, sym, ◌∙◌, ap, subst, append_assoc, arith}
+use Rattle.std.proofs.Common.{◌≡◌, ◌≢◌, ◌==◌, inl, inr, ℕ, Bool, true, false, not, Decides, ◌+◌, ◌-◌, ◌<◌, ◌≤◌, ◌^◌, List, [], ◌∷◌, ◌++◌, length, take, drop, get_or, flat_map, Option, Some, None, refl, sym, ◌∙◌, ap, subst, append_assoc, arith}
 use Rattle.std.specs.Option.{option_map}
 use Rattle.std.specs.List.{AllByRecursion}
 use Rattle.std.proofs.lemmas.List.{length-append, length-drop, append-nil, take_all, take-append-drop}
 use Rattle.std.proofs.Math.Seq.{take-append_seam, drop-append_seam}
+use Rattle.std.specs.Cmp.Lexicographic.{pointwise}
+use Rattle.std.proofs.lemmas.Bool.Decides.{Decides-eqb}
+use Rattle.std.proofs.lemmas.Slice.Eq.{slice_eq-Decides}
+use Rattle.std.specs.Prelude.{nat_eq}
 use Rattle.ledger_model.specs.Numbers.{u64_bytes}
 use Rattle.ledger_model.specs.Grammar.{payload_of}
 use Rattle.ledger_model.specs.Ledgers.{Pair, IsPair, mark, body_of, spelled_pair, front_of, IsClosed, IsLedger, BreaksBody, BreaksLedger, Last, last_of}
@@ -165,3 +169,18 @@ mark_other file bytes refused long front other is = subst (λ (r : LedgerRefused
 -- a ledger of at most 18 bytes
 pub short_end : (file : List ℕ) → length file ≤ 18 → IsEnd file (record { entries = 0; last = None; pair = 16 })
 short_end file short = record { pairs = []; is = inl (short, refl); entries = refl; pair = refl; last = refl }
+
+apart_tested : (P : Type 0) (b r : Bool) → Decides b P → r ≡ not b → r ≡ true → P → ⊥
+apart_tested P true r decides is yes_is p = cc
+apart_tested P false r decides is yes_is p = let same : false ≡ true = decides.1 p in cc
+
+same_tested : (P : Type 0) (b r : Bool) → Decides b P → r ≡ not b → r ≡ false → P
+same_tested P true r decides is no_is = decides.0 refl
+same_tested P false r decides is no_is = let none : ⊥ = cc in absurd none
+
+-- lists that were compared by `!=`
+pub lists_apart : (xs ys : List ℕ) (r : Bool) → r ≡ not (pointwise nat_eq xs ys) → r ≡ true → xs ≢ ys
+lists_apart xs ys r is yes_is = apart_tested (xs ≡ ys) (pointwise nat_eq xs ys) r (slice_eq-Decides Decides-eqb xs ys (pointwise nat_eq xs ys) refl) is yes_is
+
+pub lists_same : (xs ys : List ℕ) (r : Bool) → r ≡ not (pointwise nat_eq xs ys) → r ≡ false → xs ≡ ys
+lists_same xs ys r is no_is = same_tested (xs ≡ ys) (pointwise nat_eq xs ys) r (slice_eq-Decides Decides-eqb xs ys (pointwise nat_eq xs ys) refl) is no_is
