@@ -81,7 +81,7 @@ flat_snoc (q ∷ qs) p = ap (λ (t : List ℕ). spelled_pair q ++ t) (flat_snoc 
 front_snoc : (pairs : List Pair) (p : Pair) → front_of (pairs ++ p ∷ []) ≡ front_of pairs ++ spelled_pair p
 front_snoc pairs p = ap (λ (t : List ℕ). mark ++ t) (flat_snoc pairs p) ∙ sym (append_assoc mark (flat_map spelled_pair pairs) (spelled_pair p))
 
-pair_length : (p : Pair) → length (spelled_pair p) ≡ 10 + length (payload_of p.entry)
+pub pair_length : (p : Pair) → length (spelled_pair p) ≡ 10 + length (payload_of p.entry)
 pair_length p = omega (arith, length-append (u64_bytes (length (payload_of p.entry))) (payload_of p.entry), u64_length (length (payload_of p.entry)))
 
 -- the last pair, at a place

@@ -1,6 +1,6 @@
 // What one run keeps.
-use crate::{InputText, Mark};
-use lp_outside::Name;
+use crate::InputText;
+use lp_outside::{Mark, Name};
 use lp_values::{Bytes, ListOf, Text, TextList, ValueList};
 
 /// What was read of one log.

@@ -5,7 +5,7 @@ mod checking;
 mod entry;
 mod heading;
 mod input_text;
-mod mark;
+mod laws;
 mod outputs;
 mod passing;
 mod placing;
@@ -16,7 +16,8 @@ mod writing;
 
 pub use entry::{Entry, EntrySpan, EntrySpanList, ListValues, Output, OutputList};
 pub use input_text::InputText;
-pub use mark::Mark;
+pub use laws::{ledgers_are_read_in_one_way, payloads_are_read_in_one_way};
+pub use lp_outside::Mark;
 pub use outputs::OutputReader;
 pub use reader::EntryReader;
 pub use refused::{LedgerRefused, Part2, TextRefused};
