@@ -13,3 +13,4 @@ pub mod Cutters
 pub mod Payloads
 pub mod Inputting
 pub mod Pairs
+pub mod Sizing

@@ -11,6 +11,7 @@ mod passing;
 mod placing;
 mod reader;
 mod refused;
+mod sizes;
 mod walking;
 mod writing;
 

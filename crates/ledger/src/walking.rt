@@ -170,7 +170,7 @@ fn check_mark<D: Disk>(disk: &mut D, ledger: &Name, size: u64) -> Result<(), Led
 /// Walks over a ledger, and says where it ends. A ledger of at most 18 bytes has no entries.
 pub fn walk<D: Disk>(disk: &mut D, ledger: &Name) -> Result<End, LedgerRefused>
     ensures walks { (file : List ℕ) → Holds (D.state disk.old) ledger.now file → MatchResult result (IsEnd file) (RefusedLedger file) }
-    ensures low { IfOk result (λ end. end.pair ≤ 2 ^ 62) }
+    ensures low { IfOk result (λ end. end.pair + 2 ≤ 2 ^ 62) }
     ensures last { IfOk result (λ end. IfSome end.last (λ last. last.pair + 10 + last.length ≤ end.pair)) }
     ensures rests { Rests (D.state disk.old) (D.state disk.new) }
     ensures reason { HasReason (D.faults disk.old) (D.faults disk.new) result }
