@@ -1,7 +1,7 @@
 // Runs over a disk in memory that is stopped at each of its calls.
 use super::*;
 use ledger::{End, LastEntry, LedgerRefused, Part2, walk};
-use lp_outside::{Disk, Name};
+use lp_outside::{Disk, Mark, Name};
 use memory_outside::{MemoryDisk, Torn, TornList};
 use std::alloc::Global;
 use std::test::Fail;
@@ -36,18 +36,15 @@ fn add_text(to: &mut Vec<u8>, text: &[u8]) -> Result<(), Fail> {
     Ok(())
 }
 
-// The stage of some texts, a frame each.
-fn stage_of(alloc: Global, outputs: &[Written]) -> Result<Vec<u8>, Fail> {
-    let mut stage = Vec::new(alloc);
-    let mut index: u8 = 0;
+// The length of a stage with a frame for each text.
+fn staged_by(outputs: &[Written]) -> u8 {
+    let mut place: u8 = 0;
     for output in outputs {
-        stage.extend_from_slice(&[0xFF; 8])?;
-        add_number(&mut stage, 0)?;
-        stage.extend_from_slice(&[index, 0, 0, 0])?;
-        add_text(&mut stage, output.text)?;
-        index = index.wrapping_add(1);
+        place = place
+            .wrapping_add(24)
+            .wrapping_add(short(output.text.len()));
     }
-    Ok(stage)
+    place
 }
 
 fn add_outputs(to: &mut Vec<u8>, outputs: &[Written]) -> Result<(), Fail> {
@@ -92,7 +89,7 @@ fn payload_of(
     add_number(&mut payload, to)?;
     add_text(&mut payload, &[lines, 0, 0, 0, 0, 0, 0, 0, 0])?;
     payload.extend_from_slice(&[0, 0, 0, 0])?;
-    add_number(&mut payload, short(stage_of(alloc, outputs)?.len()))?;
+    add_number(&mut payload, staged_by(outputs))?;
     add_outputs(&mut payload, outputs)?;
     add_number(&mut payload, 1)?;
     add_number(&mut payload, 1)?;
@@ -100,16 +97,54 @@ fn payload_of(
     Ok(payload)
 }
 
-// A whole run: what is settled, staged, sealed, opened and finished.
-fn run(disk: &mut MemoryDisk, stage_bytes: &[u8], payload: &[u8]) -> Result<(), Fail> {
-    let (ledger, stage) = (named("cp")?, named("cp.stage")?);
-    let place = settle_disk(disk, &ledger, &stage)?;
-    start(disk, &stage)?;
-    disk.write_at(&stage, 0, stage_bytes)?;
-    seal(disk, &ledger, &stage, place, payload)?;
-    open_gate(disk, &ledger, place)?;
-    finish(disk, &ledger, &stage, place, payload.len() as u64)?;
+// The files of a commit.
+#[derive(Drop)]
+struct Names {
+    ledger: Name,
+    stage: Name,
+}
+
+fn two_names() -> Result<Names, Fail> {
+    Ok(Names {
+        ledger: named("cp")?,
+        stage: named("cp.stage")?,
+    })
+}
+
+// Puts each text into the empty stage.
+fn put_all(disk: &mut MemoryDisk, stage: &Name, outputs: &[Written]) -> Result<(), CommitFault> {
+    let mut staged: u64 = 0;
+    let mut index: u32 = 0;
+    for output in outputs {
+        let mut mark = Mark::none();
+        put(disk, stage, &mut staged, index, &mut mark, output.text)?;
+        index = index.wrapping_add(1);
+    }
     Ok(())
+}
+
+// A whole run: what is settled, staged, sealed, opened and finished.
+fn run(
+    disk: &mut MemoryDisk,
+    names: &Names,
+    outputs: &[Written],
+    payload: &[u8],
+) -> Result<(), CommitFault> {
+    if payload.len() > 4096 {
+        return Err(CommitFault::DiskFault);
+    }
+    let place = settle_disk(disk, &names.ledger, &names.stage)?;
+    start(disk, &names.stage)?;
+    put_all(disk, &names.stage, outputs)?;
+    seal(disk, &names.ledger, &names.stage, place, payload)?;
+    open_gate(disk, &names.ledger, place)?;
+    finish(
+        disk,
+        &names.ledger,
+        &names.stage,
+        place,
+        payload.len() as u64,
+    )
 }
 
 const FIRST: [Written<'static>; 1] = [Written {
@@ -127,9 +162,8 @@ const SECOND: [Written<'static>; 1] = [Written {
 // The disk after the first run.
 fn after_one(alloc: Global) -> Result<MemoryDisk, Fail> {
     let mut disk = MemoryDisk::new(alloc);
-    let stage = stage_of(alloc, &FIRST)?;
     let payload = payload_of(alloc, 0, 3, 1, &FIRST)?;
-    run(&mut disk, &stage, &payload)?;
+    run(&mut disk, &two_names()?, &FIRST, &payload)?;
     Ok(disk)
 }
 
@@ -145,6 +179,9 @@ fn a_ledger_byte_for_byte(rt: HostRuntime) -> Result<(), Fail> {
     bytes.extend_from_slice(&[0, 0])?;
     assert_eq!(rt; bytes.len(), 315);
     assert_eq!(rt; disk.bytes(&ledger), bytes.as_slice());
+    let frame =
+        b"\xFF\xFF\xFF\xFF\xFF\xFF\xFF\xFF\0\0\0\0\0\0\0\0\0\0\0\0\x0F\0\0\0Index,Text\n1,a\n";
+    assert_eq!(rt; disk.bytes(&named("cp.stage")?), frame.as_slice());
     assert_eq!(rt;
         disk.bytes(&named("o.csv")?),
         b"Index,Text\n1,a\n".as_slice()
@@ -219,21 +256,21 @@ const TORN: [Torn; 5] = [
 // The second run stops at each call in turn. Behind the crash the disk holds the first run or both, and its files are those.
 #[test]
 fn a_run_that_stops(rt: HostRuntime) -> Result<(), Fail> {
-    let (ledger, stage, output) = (named("cp")?, named("cp.stage")?, named("o.csv")?);
-    let staged = stage_of(rt.alloc(), &SECOND)?;
+    let (names, output) = (two_names()?, named("o.csv")?);
     let payload = payload_of(rt.alloc(), 3, 5, 2, &SECOND)?;
     for torn in TORN {
         for call in 0..64 {
             let mut disk = after_one(rt.alloc())?;
             disk.stop_after(call);
-            let stopped = run(&mut disk, &staged, &payload).is_err();
+            let stopped = run(&mut disk, &names, &SECOND, &payload).is_err();
             disk.crash(&torn_list(rt.alloc(), torn)?)?;
-            settle_disk(&mut disk, &ledger, &stage)?;
-            let end = walk(&mut disk, &ledger)?;
+            settle_disk(&mut disk, &names.ledger, &names.stage)?;
+            let end = walk(&mut disk, &names.ledger)?;
             assert!(rt; end.entries == 2 || stopped);
+            assert!(rt; call < 63 || !stopped);
             if end.entries == 1 {
                 assert_eq!(rt; disk.bytes(&output), b"Index,Text\n1,a\n".as_slice());
-                run(&mut disk, &staged, &payload)?;
+                run(&mut disk, &names, &SECOND, &payload)?;
             }
             assert_eq!(rt; disk.bytes(&output), b"Index,Text\n1,a\n2,b\n".as_slice());
         }
@@ -262,22 +299,22 @@ const THREE: [Written<'static>; 3] = [
 // A run with three outputs stops at one call, and the next settling at another; then the disk is settled.
 #[test]
 fn a_settling_that_stops(rt: HostRuntime) -> Result<(), Fail> {
-    let (ledger, stage) = (named("cp")?, named("cp.stage")?);
-    let staged = stage_of(rt.alloc(), &THREE)?;
+    let names = two_names()?;
     let payload = payload_of(rt.alloc(), 0, 3, 1, &THREE)?;
     for torn in TORN {
-        for call in 0..40 {
+        for call in 0..64 {
             let mut disk = MemoryDisk::new(rt.alloc());
             disk.stop_after(call);
-            let stopped = run(&mut disk, &staged, &payload).is_err();
+            let stopped = run(&mut disk, &names, &THREE, &payload).is_err();
+            assert!(rt; call < 63 || !stopped);
             disk.crash(&torn_list(rt.alloc(), torn)?)?;
             disk.stop_after(call / 2);
-            let _ = settle_disk(&mut disk, &ledger, &stage);
+            let _ = settle_disk(&mut disk, &names.ledger, &names.stage);
             disk.crash(&torn_list(rt.alloc(), torn)?)?;
-            settle_disk(&mut disk, &ledger, &stage)?;
-            if walk(&mut disk, &ledger)?.entries == 0 {
+            settle_disk(&mut disk, &names.ledger, &names.stage)?;
+            if walk(&mut disk, &names.ledger)?.entries == 0 {
                 assert!(rt; stopped);
-                run(&mut disk, &staged, &payload)?;
+                run(&mut disk, &names, &THREE, &payload)?;
             }
             for output in THREE {
                 assert_eq!(rt; disk.bytes(&named(output.name)?), output.text);
