@@ -12,3 +12,5 @@ pub mod Comparing
 pub mod Cutters
 pub mod Payloads
 pub mod Inputting
+pub mod Pairs
+pub mod Sizing

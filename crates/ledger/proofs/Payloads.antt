@@ -51,7 +51,7 @@ payload_read file to from at value read end =
     }
 
 -- the bytes up to a file's end
-to_end : (file : List ℕ) (size body : ℕ) → size ≡ length file → left_of file size body ≡ drop body file
+pub to_end : (file : List ℕ) (size body : ℕ) → size ≡ length file → left_of file size body ≡ drop body file
 to_end file size body is = take_all (size - body) (drop body file) (omega (arith, length-drop body file, is))
 
 -- too few bytes for a length

@@ -7,3 +7,4 @@ pub mod Outputs
 pub mod Placing
 pub mod Walking
 pub mod Cutting
+pub mod Sizes

@@ -1,6 +1,7 @@
 -- What a walk over a ledger finds.
 use Rattle.std.specs.Prelude.{◌≡◌, ◌⊎◌, ℕ, ◌+◌, ◌<◌, ◌≤◌, ◌^◌, ◌==◌, List, [], ◌∷◌, ◌++◌, length, drop, Option, Some, None, Result, MatchResult, option_map}
 use Rattle.std.specs.Bool.{⊤}
+use Rattle.std.specs.List.{AllByRecursion}
 use Rattle.ledger_model.specs.Entries.{Entry}
 use Rattle.ledger_model.specs.Grammar.{IsEntry, payload_of, BreaksPayload}
 use Rattle.ledger_model.specs.Ledgers.{Pair, IsPair, body_of, spelled_pair, front_of, IsClosed, IsLedger, BreaksBody, BreaksLedger, Last, last_of}
@@ -79,3 +80,12 @@ RefusedBody bytes place (LedgerFault part at) = (part ≡ Ledger) × ((later : �
 
 abbrev pub WalksBody : List ℕ → ℕ → Result ℕ LedgerRefused → Type 0
 WalksBody bytes place result = MatchResult result (WalkedBody bytes) (RefusedBody bytes place)
+
+-- some open pairs stand behind the mark, and what comes behind them isn't looked at yet
+pub record SomePairs (file : List ℕ) (end : End) : Type 0 where
+  pub pairs : List Pair
+  pub fit : AllByRecursion IsPair pairs
+  pub split : file ≡ front_of pairs ++ drop end.pair file
+  pub entries : end.entries ≡ length pairs
+  pub pair : end.pair ≡ length (front_of pairs)
+  pub last : end.last ≡ option_map last_entry (last_of 16 pairs)

@@ -10,8 +10,8 @@ ghost use Rattle.ledger.specs.Outputs.{loose_head, loose_front, HoldsEntry, Stan
 use crate::checking::{check_kept, check_texts, text};
 use crate::passing::TextKind;
 use crate::refused::damaged;
-use crate::{EntryReader, LedgerRefused, Mark, Output};
-use lp_outside::{Disk, Name};
+use crate::{EntryReader, LedgerRefused, Output};
+use lp_outside::{Disk, Mark, Name};
 use std::marker::Model;
 
 const LIMIT: u64 = 1 << 63;

@@ -4,9 +4,11 @@ use Rattle.disk_model.specs.Disk.{Files, DiskState}
 use Rattle.ledger_model.specs.Entries.{Entry}
 use Rattle.commit.specs.States.{Preserves, IsSettled}
 use Rattle.commit.specs.Walking.{OpenAt, EndsWith}
-use Rattle.commit.specs.declared.ending.LastEntry.{LastEntry}
+use Rattle.ledger.specs.declared.walking.LastEntry.{LastEntry}
 use Rattle.commit.proofs.Errors.{on_ok}
 use Rattle.commit.proofs.Resuming.{settled_shows, preserves_none}
+use Rattle.commit.specs.Recovered.{staged_part}
+use Rattle.commit.proofs.Breaking.{without_last, with_done, open_last, open_breaks, open_staged}
 use Rattle.commit.proofs.settling.settle_end.Goals as goal
 
 ends_some : (disk : DiskState) (ledger stage : List ℕ) (place : ℕ) (entries : List Entry) (files : Files) (given : Option LastEntry) (last : LastEntry) (done : Bool) → given ≡ Some last → last.done ≡ done → EndsWith disk ledger stage place entries files given
@@ -56,3 +58,20 @@ pub returns-else-last-clause-no_fault : goal.returns-else-last-clause-no_fault
 returns-else-last-clause-no_fault g c = λ part p fault place entries files ends.
     let is = ends_some (g.D.Disk.state c.args.disk.now) c.args.ledger.now c.args.stage.now place entries files c.args.last c.in-Some.last false c.in-Some.is c.if-last.false ends in
     c.finish.ensures.no_fault part p fault is.entry entries files is.size is.is_open
+
+pub returns-in-Ok-clause-fits : goal.returns-in-Ok-clause-fits
+returns-in-Ok-clause-fits g c = λ pairs ends. without_last pairs (staged_part pairs ((g.D.Disk.state c.args.disk.now).seen c.args.stage.now)) c.args.last ends.last_is c.in-None.is
+
+pub returns-then-last-clause-fits : goal.returns-then-last-clause-fits
+returns-then-last-clause-fits g c = λ pairs ends. with_done pairs (staged_part pairs ((g.D.Disk.state c.args.disk.now).seen c.args.stage.now)) c.args.last c.in-Some.last ends.last_is c.in-Some.is c.if-last.true
+
+pub returns-else-last-clause-fits : goal.returns-else-last-clause-fits
+returns-else-last-clause-fits g c = on_ok _ _ c.finish.result (λ fit pairs ends.
+    let o = open_last (g.D.Disk.state c.args.disk.now) c.args.ledger.now c.args.stage.now pairs c.args.last c.in-Some.last ends c.in-Some.is c.if-last.false in
+    open_staged (g.D.Disk.state c.args.disk.now) c.args.ledger.now c.args.stage.now pairs c.in-Some.last o (fit o.entry o.holds o.apart)) c.finish.ensures.fit
+
+pub returns-else-last-clause-fault : goal.returns-else-last-clause-fault
+returns-else-last-clause-fault g c = λ part p fault pairs ends.
+    let o = open_last (g.D.Disk.state c.args.disk.now) c.args.ledger.now c.args.stage.now pairs c.args.last c.in-Some.last ends c.in-Some.is c.if-last.false in
+    let broken = c.finish.ensures.fault part p fault o.entry o.holds o.apart in
+    (broken.0, open_breaks (g.D.Disk.state c.args.disk.now) c.args.ledger.now c.args.stage.now pairs c.in-Some.last o p broken.1)
