@@ -1,2 +1,0 @@
-pub mod Stdin
-pub mod Texts
