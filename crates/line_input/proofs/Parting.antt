@@ -5,7 +5,7 @@ use Rattle.std.proofs.lemmas.List.{drop-drop, length-take}
 use Rattle.std.proofs.lemmas.List.Splits.{length-slice_split}
 use Rattle.std.proofs.lemmas.List.Sums.{prefix_len-le-length, length-filter, count_by-le-length}
 use Rattle.std.specs.List.{slice_split, filter, position_or_len, prefix_len}
-use Rattle.lp_model.specs.Reading.{words_in}
+use Rattle.line_input.specs.Words.{words_in}
 use Rattle.line_input.specs.declared.gap.Gap.TheVariants.{Words}
 use Rattle.line_input.specs.Parts.{is_filled, is_gap, parts_by, IsNextPart}
 

@@ -1,7 +1,7 @@
 -- The parts of a line that stand apart.
 use Rattle.std.specs.Prelude.{◌≡◌, ◌≤◌, ◌<◌, ℕ, Bool, false, ◌||◌, ◌==◌, List, [], ◌∷◌, Option, Some, None, if◌then◌else◌, length, drop, filter, nat_lt}
 use Rattle.std.specs.List.{slice_split}
-use Rattle.lp_model.specs.Reading.{is_word_gap}
+use Rattle.line_input.specs.Words.{is_word_gap}
 use Rattle.line_input.specs.declared.gap.Gap.{Gap}
 use Rattle.line_input.specs.declared.gap.Gap.TheVariants.{Spaces, Blanks, Words}
 use Rattle.line_input.specs.declared.extent.Extent.{Extent}

@@ -1,7 +1,7 @@
 // The parts of a line that stand apart.
 ghost use Rattle.std.specs.Prelude.{◌≡◌, ◌≤◌, MatchOption, length, drop, []};
 ghost use Rattle.std.specs.List.{position_or_len, prefix_len};
-ghost use Rattle.lp_model.specs.Reading.{is_word_gap};
+ghost use Rattle.line_input.specs.Words.{is_word_gap};
 ghost use Rattle.line_input.specs.Parts.{is_gap, parts_by, IsNextPart};
 
 use crate::Extent;

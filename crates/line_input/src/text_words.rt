@@ -1,6 +1,6 @@
 // One row a word.
 ghost use Rattle.std.specs.Prelude.{◌≡◌, ◌∷◌, [], Some, IfOk, List, map};
-ghost use Rattle.lp_model.specs.Reading.{text_words};
+ghost use Rattle.line_input.specs.Words.{text_words};
 ghost use Rattle.line_input.specs.Parts.{is_gap, parts_by};
 ghost use Rattle.line_input.specs.Taken.{part_of, slots_of};
 
