@@ -156,26 +156,24 @@ fn show_test(to: &mut String, cond: &Cond) -> Result<(), AllocError> {
     }
 }
 
-#[cycle(joining)]
-fn show_joined(
-    to: &mut String,
-    left: &Cond,
-    word: &'static str,
-    right: &Cond,
-) -> Result<(), AllocError> {
-    to.push_str("(")?;
-    show_cond(to, left)?;
-    to.push_str(word)?;
-    show_cond(to, right)?;
-    to.push_str(")")?;
-    Ok(())
-}
-
-#[cycle(joining)]
 fn show_cond(to: &mut String, cond: &Cond) -> Result<(), AllocError> {
     match cond {
-        Cond::Or { left, right, .. } => show_joined(to, left, " or ", right),
-        Cond::And { left, right, .. } => show_joined(to, left, " and ", right),
+        Cond::Or { left, right, .. } => {
+            to.push_str("(")?;
+            show_cond(to, left)?;
+            to.push_str(" or ")?;
+            show_cond(to, right)?;
+            to.push_str(")")?;
+            Ok(())
+        }
+        Cond::And { left, right, .. } => {
+            to.push_str("(")?;
+            show_cond(to, left)?;
+            to.push_str(" and ")?;
+            show_cond(to, right)?;
+            to.push_str(")")?;
+            Ok(())
+        }
         Cond::Not { inner, .. } => {
             to.push_str("!")?;
             show_cond(to, inner)
