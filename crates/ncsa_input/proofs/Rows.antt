@@ -24,19 +24,19 @@ padded_all xs n full = let none : 10 - n ≡ 0 = omega arith in rw none (append-
 
 -- ---- one part more
 
-none_there : (parts : ℕ) (shape : Shape) (more : List Shape) (text : List ℕ) → taken shape text ≡ None → fields_behind parts (shape ∷ more) text ≡ None
+pub none_there : (parts : ℕ) (shape : Shape) (more : List Shape) (text : List ℕ) → taken shape text ≡ None → fields_behind parts (shape ∷ more) text ≡ None
 unfolding fields_behind
 none_there parts shape more text e = rw e refl
 
-ends_there : (parts : ℕ) (shape : Shape) (more : List Shape) (text field rest : List ℕ) → taken shape text ≡ Some (field, rest) → length rest ≡ 0 → fields_behind parts (shape ∷ more) text ≡ cond (may_end (parts + 1)) (Some (field ∷ [])) None
+pub ends_there : (parts : ℕ) (shape : Shape) (more : List Shape) (text field rest : List ℕ) → taken shape text ≡ Some (field, rest) → length rest ≡ 0 → fields_behind parts (shape ∷ more) text ≡ cond (may_end (parts + 1)) (Some (field ∷ [])) None
 unfolding fields_behind
 ends_there parts shape more text field rest e none = let is : (length rest == 0) ≡ true = eq-eqb (length rest) 0 none in rw (e, is) refl
 
-unparted : (parts : ℕ) (shape : Shape) (more : List Shape) (text field rest : List ℕ) → taken shape text ≡ Some (field, rest) → length rest ≢ 0 → behind_spaces rest ≡ None → fields_behind parts (shape ∷ more) text ≡ None
+pub unparted : (parts : ℕ) (shape : Shape) (more : List Shape) (text field rest : List ℕ) → taken shape text ≡ Some (field, rest) → length rest ≢ 0 → behind_spaces rest ≡ None → fields_behind parts (shape ∷ more) text ≡ None
 unfolding fields_behind
 unparted parts shape more text field rest e some none = let other : (length rest == 0) ≡ false = search (rules, tests) in rw (e, other, none) refl
 
-goes_on : (parts : ℕ) (shape : Shape) (more : List Shape) (text field rest next : List ℕ) → taken shape text ≡ Some (field, rest) → length rest ≢ 0 → behind_spaces rest ≡ Some next
+pub goes_on : (parts : ℕ) (shape : Shape) (more : List Shape) (text field rest next : List ℕ) → taken shape text ≡ Some (field, rest) → length rest ≢ 0 → behind_spaces rest ≡ Some next
     → fields_behind parts (shape ∷ more) text ≡ option_map (λ fields. field ∷ fields) (fields_behind (parts + 1) more next)
 unfolding fields_behind
 goes_on parts shape more text field rest next e some there = let other : (length rest == 0) ≡ false = search (rules, tests) in rw (e, other, there) refl

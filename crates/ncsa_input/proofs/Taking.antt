@@ -36,7 +36,7 @@ word_piece line at size e some within fits =
 
 -- ---- parts that a byte opens and one closes
 
-opened : (opening : ℕ) (text inner : List ℕ) → Some inner ≡ behind opening text → text ≡ opening ∷ inner
+pub opened : (opening : ℕ) (text inner : List ℕ) → Some inner ≡ behind opening text → text ≡ opening ∷ inner
 opened opening [] inner e = absurd cc
 opened opening (b ∷ bs) inner e =
     elim (cases_Bool (b == opening)) [
@@ -135,7 +135,7 @@ closing_none text at past e = e ∙ ap (λ t. option_map (λ n. at + n) (closing
 
 -- ---- spaces
 
-one_more : (n : ℕ) → 1 + n ≡ suc n
+pub one_more : (n : ℕ) → 1 + n ≡ suc n
 one_more n = omega arith
 
 spaces_some : (text : List ℕ) → 0 < prefix_len is_space text → behind_spaces text ≡ Some (drop (prefix_len is_space text) text)

@@ -10,6 +10,9 @@ fn told(alloc: Global, lines: &[&[u8]]) -> Result<Bytes, AllocError> {
     let mut standing = Standing::new();
     let mut told = Bytes::new(alloc);
     for line in lines {
+        if standing.lines() >= 1000 {
+            break;
+        }
         match IisW3c.take_line(alloc, &mut standing, line) {
             Ok(Taken::Passed) => told.add(b"-\n")?,
             Ok(Taken::Bad) => told.add(b"!\n")?,
