@@ -15,4 +15,3 @@ pub mod Inputting
 pub mod Pairs
 pub mod Sizing
 pub mod Wholes
-pub mod Spelled

@@ -8,16 +8,16 @@ use Rattle.ledger_model.proofs.Fields.{u64_length}
 use Rattle.ledger.specs.Writer.{Written, WritesBody}
 
 -- at or before a file's end there is no gap
-pub no_gap : (file bytes : List ℕ) (place : ℕ) → place ≤ length file → overwritten file place bytes ≡ take place file ++ bytes ++ drop (place + length bytes) file
+no_gap : (file bytes : List ℕ) (place : ℕ) → place ≤ length file → overwritten file place bytes ≡ take place file ++ bytes ++ drop (place + length bytes) file
 no_gap file bytes place le =
     let gap : place - length file ≡ 0 = omega arith in
     let front : file ++ replicate (place - length file) 0 ≡ file = ap (λ (n : ℕ). file ++ replicate n 0) gap ∙ append-nil file in
     ap (λ (t : List ℕ). take place t ++ bytes ++ drop (place + length bytes) file) front
 
-pub at_seam : (a b : List ℕ) (n : ℕ) → length a ≡ n → take n (a ++ b) ≡ a
+at_seam : (a b : List ℕ) (n : ℕ) → length a ≡ n → take n (a ++ b) ≡ a
 at_seam a b n e = subst (λ (k : ℕ). take k (a ++ b) ≡ a) e (take-append_seam a b)
 
-pub past_seam : (a b : List ℕ) (n : ℕ) → length a ≡ n → drop n (a ++ b) ≡ b
+past_seam : (a b : List ℕ) (n : ℕ) → length a ≡ n → drop n (a ++ b) ≡ b
 past_seam a b n e = subst (λ (k : ℕ). drop k (a ++ b) ≡ b) e (drop-append_seam a b)
 
 pub body_written : (w : Written) (old new : List ℕ) → new ≡ overwritten (overwritten old (w.at + 8 + w.count) (0 ∷ (0 ∷ []))) w.at (u64_bytes w.count) → WritesBody w old new

@@ -9,4 +9,3 @@ pub mod Walking
 pub mod Cutting
 pub mod Sizes
 pub mod Texts
-pub mod Spelling

@@ -12,7 +12,6 @@ mod placing;
 mod reader;
 mod refused;
 mod sizes;
-mod spelling;
 mod texts;
 mod walking;
 mod writing;
