@@ -14,3 +14,4 @@ pub mod Payloads
 pub mod Inputting
 pub mod Pairs
 pub mod Sizing
+pub mod Wholes

@@ -8,3 +8,4 @@ pub mod Placing
 pub mod Walking
 pub mod Cutting
 pub mod Sizes
+pub mod Texts

@@ -12,6 +12,7 @@ mod placing;
 mod reader;
 mod refused;
 mod sizes;
+mod texts;
 mod walking;
 mod writing;
 

@@ -142,7 +142,7 @@ impl EntryReader {
         Ok(())
     }
 
-    fn rewind(&mut self, place: u64)
+    pub(crate) fn rewind(&mut self, place: u64)
         ensures at { self.new.at ≡ place }
         ensures to { self.new.to ≡ self.old.to }
         ensures ahead { self.new.ahead ≡ [] }
