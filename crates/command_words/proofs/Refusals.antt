@@ -16,9 +16,9 @@ same_place : (words : List (List ℕ)) (f g : UsageFault) → IsFirstFault words
 same_place words f g first second = elim (cases_lt f.word g.word) [
   | inl before ↦ absurd (not_before words f g first second before)
   | inr behind ↦ elim (cases_lt g.word f.word) [
-      | inl before ↦ absurd (not_before words g f second first before)
-      | inr ahead ↦ omega arith
-    ]
+    | inl before ↦ absurd (not_before words g f second first before)
+    | inr ahead ↦ omega arith
+  ]
 ]
 
 some_same : {X : Type 0} (x y : X) (o : Option X) → o ≡ Some x → o ≡ Some y → x ≡ y
