@@ -13,6 +13,8 @@ fn list_of(alloc: Global, words: &[&str]) -> Result<TextList, AllocError> {
     Ok(list)
 }
 
+const QUERY: &str = "SELECT * FROM a.log";
+
 // The first fault, if there is one.
 fn refused(alloc: Global, words: &[&str]) -> Result<Option<UsageFault>, AllocError> {
     match Spec::read(alloc, &list_of(alloc, words)?) {
@@ -29,31 +31,30 @@ fn at(word: u32, kind: UsageKind) -> Option<UsageFault> {
 #[test]
 fn refuses(rt: HostRuntime) -> Result<(), Fail> {
     let alloc = rt.alloc();
-    let query = "SELECT * FROM a.log";
     let rows: [(&[&str], Option<UsageFault>); 20] = [
-        (&["-z:1", query], at(0, UsageKind::UnknownOption)),
+        (&["-z:1", QUERY], at(0, UsageKind::UnknownOption)),
         (&[], at(0, UsageKind::NoQuery)),
         (&["-stats:ON"], at(1, UsageKind::NoQuery)),
-        (&[query], None),
+        (&[QUERY], None),
         (&[""], None),
-        (&[query, query], at(1, UsageKind::SecondQuery)),
-        (&[query, "-e:1", ""], at(2, UsageKind::SecondQuery)),
-        (&[query, "-stats"], at(1, UsageKind::UnknownOption)),
-        (&["-", query], at(0, UsageKind::UnknownOption)),
-        (&["-:1", query], at(0, UsageKind::UnknownOption)),
-        (&["-exercise:1", query], at(0, UsageKind::UnknownOption)),
-        (&["-E:1", "-e:x", query], at(1, UsageKind::Repeated)),
-        (&["-e:x", "-e:1", query], at(0, UsageKind::BadValue)),
-        (&["-tpl:a:b", "-o:tpl", query], None),
+        (&[QUERY, QUERY], at(1, UsageKind::SecondQuery)),
+        (&[QUERY, "-e:1", ""], at(2, UsageKind::SecondQuery)),
+        (&[QUERY, "-stats"], at(1, UsageKind::UnknownOption)),
+        (&["-", QUERY], at(0, UsageKind::UnknownOption)),
+        (&["-:1", QUERY], at(0, UsageKind::UnknownOption)),
+        (&["-exercise:1", QUERY], at(0, UsageKind::UnknownOption)),
+        (&["-E:1", "-e:x", QUERY], at(1, UsageKind::Repeated)),
+        (&["-e:x", "-e:1", QUERY], at(0, UsageKind::BadValue)),
+        (&["-tpl:a:b", "-o:tpl", QUERY], None),
         (
-            &["-e:1", "-iRotation:NUMBERS", query],
+            &["-e:1", "-iRotation:NUMBERS", QUERY],
             at(1, UsageKind::NeedsCheckpoint),
         ),
-        (&["-iRotation:names", query, "-iCheckpoint:cp"], None),
-        (&[query, "-O:Tpl"], at(1, UsageKind::NeedsTemplate)),
-        (&["-o:CSV", query, "-tpl:a"], None),
+        (&["-iRotation:names", QUERY, "-iCheckpoint:cp"], None),
+        (&[QUERY, "-O:Tpl"], at(1, UsageKind::NeedsTemplate)),
+        (&["-o:CSV", QUERY, "-tpl:a"], None),
         (
-            &["-o:TPL", "-iRotation:NAMES", query],
+            &["-o:TPL", "-iRotation:NAMES", QUERY],
             at(1, UsageKind::NeedsCheckpoint),
         ),
         (&["-o:TPL", "-iRotation:NAMES"], at(2, UsageKind::NoQuery)),
