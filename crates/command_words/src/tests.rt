@@ -201,7 +201,7 @@ fn reads_all(rt: HostRuntime) -> Result<(), Fail> {
 }
 
 #[test]
-fn chooses_formats(rt: HostRuntime) -> Result<(), Fail> {
+fn names_and_chooses(rt: HostRuntime) -> Result<(), Fail> {
     let inputs = [
         ("a/b.CSV", InputFormat::Csv),
         ("x.tsv", InputFormat::Tsv),
@@ -230,5 +230,7 @@ fn chooses_formats(rt: HostRuntime) -> Result<(), Fail> {
     assert_eq!(rt; InputFormat::TextWord.as_str(), "TEXTWORD");
     assert_eq!(rt; OutputFormat::W3c.as_str(), "W3C");
     assert_eq!(rt; Setting::Checkpoint.name(), "-iCheckpoint");
+    assert!(rt; Setting::Checkpoint.accepts("cp") && !Setting::Checkpoint.accepts("cp/"));
+    assert_eq!(rt; UsageKind::Repeated.as_str(), "repeated option");
     Ok(())
 }
