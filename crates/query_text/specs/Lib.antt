@@ -1,0 +1,2 @@
+pub mod Stdin
+pub mod Texts
