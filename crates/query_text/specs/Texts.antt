@@ -1,14 +1,16 @@
 -- Which bytes are which query, and which fault they have.
-use Rattle.std.specs.Prelude.{◌≡◌, ℕ, ◌≤◌, ◌<◌, List, length, map, Option, Some, None, Result, Ok, Err, ⊤}
+use Rattle.std.specs.Prelude.{◌≡◌, ◌≢◌, ℕ, ◌≤◌, ◌<◌, List, length, map, Option, Some, None, Result, Ok, Err, ⊤}
 use Rattle.std.specs.Str.{IsUtf8}
 use Rattle.grammar.specs.Rules.{query}
 use Rattle.grammar.specs.Trees as model
 use Rattle.grammar.specs.Whole.{Derives}
 use Rattle.query_lexer.specs.declared.token.Token.{Token}
+use Rattle.query_lexer.specs.declared.fault.LexFault.TheVariants as lex
 use Rattle.query_lexer.specs.Reading.{IsLexed}
 use Rattle.query_lexer.specs.Reading.{IsFault as IsLexFault}
 use Rattle.query_tree.specs.Tokens.{seen}
 use Rattle.query_tree.specs.declared.query.Query.{Query}
+use Rattle.query_parser.specs.declared.fault.ParseFault.TheVariants as parse
 use Rattle.query_parser.specs.Parsed.{IsFault as IsParseFault}
 use Rattle.query_text.specs.Stdin.{misplaced}
 use Rattle.query_text.specs.declared.fault.QueryFault.{QueryFault}
@@ -41,12 +43,12 @@ pub record IsQuery (text : List ℕ) (q : model.Query) : Type 0 where
 abbrev pub IsOnlyQuery : List ℕ → model.Query → Type 0
 IsOnlyQuery text q = (other : model.Query) → Parses text other → other ≡ q
 
--- the fault of bytes
+-- the fault of bytes; none of the inner faults is want of memory
 abbrev pub IsQueryFault : List ℕ → QueryFault → Type 0
 IsQueryFault text fault.TooLong = 65_536 < length text
 IsQueryFault text fault.NotUtf8 = (length text ≤ 65_536) × ¬ (IsUtf8 text)
-IsQueryFault text (fault.Lex f) = IsReadable text × IsLexFault text f
-IsQueryFault text (fault.Parse f) = (tokens : List Token) × AreTokens text tokens × IsParseFault (map seen tokens) (length text) (Err f)
+IsQueryFault text (fault.Lex f) = IsReadable text × (f ≢ lex.Memory) × IsLexFault text f
+IsQueryFault text (fault.Parse f) = (tokens : List Token) × AreTokens text tokens × (f ≢ parse.Memory) × IsParseFault (map seen tokens) (length text) (Err f)
 IsQueryFault text (fault.StdinMisplaced at) = (q : model.Query) × Parses text q × (misplaced q ≡ Some at)
 IsQueryFault text (fault.Plan f) = ⊥
 
@@ -54,3 +56,8 @@ IsQueryFault text (fault.Plan f) = ⊥
 abbrev pub IsReadFault : List ℕ → ReadFault → Type 0
 IsReadFault text (read.Query fault) = IsQueryFault text fault
 IsReadFault text read.Memory = ⊤
+
+-- where there was memory, the bytes are no query
+abbrev pub HasNone : List ℕ → ReadFault → Type 0
+HasNone text (read.Query fault) = (q : model.Query) → ¬ (IsQuery text q)
+HasNone text read.Memory = ⊤

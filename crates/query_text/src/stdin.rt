@@ -1,7 +1,6 @@
 // STDIN as a name.
-ghost use Rattle.std.specs.Prelude.{◌≡◌, option_map, List};
+ghost use Rattle.std.specs.Prelude.{◌≡◌};
 ghost use Rattle.query_tree.specs.Views.{placed_all, query_of};
-ghost use Rattle.query_tree.specs.Views.{placed_of};
 ghost use Rattle.query_text.specs.Stdin.{is_stdin, stdin_among, stdin_beside, misplaced};
 
 use query_tree::{PlacedList, Query};
