@@ -1,9 +1,9 @@
 // STDIN as a name.
 ghost use Rattle.std.specs.Prelude.{◌≡◌};
-ghost use Rattle.query_tree.specs.Views.{placed_all, query_of};
-ghost use Rattle.query_text.specs.Stdin.{is_stdin, stdin_among, stdin_beside, misplaced};
+ghost use Rattle.query_tree.specs.Views.{placed_all, query_of, queries_in};
+ghost use Rattle.query_text.specs.Stdin.{is_stdin, stdin_among, stdin_beside, stdin_within, misplaced};
 
-use query_tree::{PlacedList, Query};
+use query_tree::{PlacedList, Query, QueryList};
 
 /// Whether a name is STDIN, whatever its case.
 pub fn is_stdin(name: &str) -> bool
@@ -34,17 +34,24 @@ fn stdin_beside(names: &PlacedList) -> Option<u32>
     stdin_among(names)
 }
 
-/// The place of the first STDIN of a query that can't stand there: beside another name, or in a subquery.
-pub fn misplaced(query: &Query) -> Option<u32>
-    ensures { result ≡ misplaced (query_of query.now) }
+// The place of the first STDIN among the names of queries.
+fn stdin_within(queries: &QueryList) -> Option<u32>
+    ensures { result ≡ stdin_within (queries_in queries.now) }
 {
-    if let Some(at) = stdin_beside(&query.names) {
-        return Some(at);
-    }
-    for subquery in &query.subqueries.items {
-        if let Some(at) = stdin_among(&subquery.names) {
+    for query in &queries.items {
+        if let Some(at) = stdin_among(&query.names) {
             return Some(at);
         }
     }
     None
+}
+
+/// The place of the first STDIN of a query that can't stand there: beside another name, or in a subquery.
+pub fn misplaced(query: &Query) -> Option<u32>
+    ensures { result ≡ misplaced (query_of query.now) }
+{
+    match stdin_beside(&query.names) {
+        Some(at) => Some(at),
+        None => stdin_within(&query.subqueries),
+    }
 }
