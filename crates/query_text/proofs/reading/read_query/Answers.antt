@@ -42,12 +42,12 @@ pub returns-clause-fault : goal.returns-clause-fault
 returns-clause-fault c =
     IfErr-weaker c.check_stdin.result (IsPlaceRefusal (query_of c.in_ok-query.query)) (IsReadFault c.args.text.now)
     (λ given refused. place_refused c.args.text.now (query_of c.in_ok-query.query) given
-        (subst (λ (t : List ℕ). Parses t (query_of c.in_ok-query.query)) c.in_ok-text.ensures.text c.in_ok-query.ensures.query) refused)
+    (subst (λ (t : List ℕ). Parses t (query_of c.in_ok-query.query)) c.in_ok-text.ensures.text c.in_ok-query.ensures.query) refused)
     c.check_stdin.ensures.fault
 
 pub returns-clause-none : goal.returns-clause-none
 returns-clause-none c =
     IfErr-weaker c.check_stdin.result (IsPlaceRefusal (query_of c.in_ok-query.query)) (HasNone c.args.text.now)
     (λ given refused. place_refused_none c.args.text.now (query_of c.in_ok-query.query) given
-        (subst (λ (t : List ℕ). IsOnlyQuery t (query_of c.in_ok-query.query)) c.in_ok-text.ensures.text c.in_ok-query.ensures.only) refused)
+    (subst (λ (t : List ℕ). IsOnlyQuery t (query_of c.in_ok-query.query)) c.in_ok-text.ensures.text c.in_ok-query.ensures.only) refused)
     c.check_stdin.ensures.fault

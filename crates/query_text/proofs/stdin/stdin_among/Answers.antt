@@ -9,4 +9,4 @@ loop-name-init c = refl
 pub loop-name-preserved : goal.loop-name-preserved
 loop-name-preserved c = c.loop-name.invariant
     ∙ passes c.deref-name-items.result.now c.loop-name.name-index c.name-item.result c.loop-name-test.true c.name-item.is
-      (sym (c.if-is_stdin.ensures ∙ ap is_stdin c.as_str.ensures))
+    (sym (c.if-is_stdin.ensures ∙ ap is_stdin c.as_str.ensures))
