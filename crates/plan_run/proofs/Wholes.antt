@@ -1,0 +1,54 @@
+-- Spans of whole logs.
+use Rattle.std.proofs.Common.{◌≡◌, ℕ, suc, ◌+◌, ◌-◌, ◌*◌, ◌<◌, ◌≤◌, ◌^◌, List, [], ◌∷◌, length, map, sum_by, get_or, All, Option, Some, None, Result, Ok, Err, OnOk, OnErr, IfOk, refl, sym, ◌∙◌, ap, subst, arith}
+use Rattle.std.proofs.lemmas.List.Elements.{All-map}
+use Rattle.std.proofs.lemmas.List.{length-map}
+use Rattle.lp_model.specs.Outside.{Folder, Told, bytes_in}
+use Rattle.lp_model.specs.Reading.{Format}
+use Rattle.log_listing.specs.declared.lengths.NameLength.{NameLength}
+use Rattle.log_reading.specs.declared.span.Span.{Span}
+use Rattle.log_reading.specs.Spans.{AllSpans, IsSpan, IsKept, AreKept, cut_of, spans_size}
+use Rattle.log_reading.proofs.Starting.{kept_from_start}
+use Rattle.plan_run.specs.Logs.{whole_span, whole_spans}
+
+-- facts under a condition that always holds
+pub on_ok_kept : {T E : Type 0} (r : Result T E) (told : Option Folder) (K P : Folder → Type 0) → ((f : Folder) → K f) → OnOk r (Told told (λ f. K f → P f)) → OnOk r (Told told P)
+on_ok_kept (Ok value) None K P k t = tt
+on_ok_kept (Ok value) (Some f) K P k t = t (k f)
+on_ok_kept (Err fault) told K P k t = tt
+
+pub on_err_kept : {T E : Type 0} (r : Result T E) (told : Option Folder) (K P : Folder → Type 0) → ((f : Folder) → K f) → OnErr r (Told told (λ f. K f → P f)) → OnErr r (Told told P)
+on_err_kept (Ok value) told K P k t = tt
+on_err_kept (Err fault) None K P k t = tt
+on_err_kept (Err fault) (Some f) K P k t = t (k f)
+
+pub if_ok_kept : {T E : Type 0} (r : Result T E) (told : Option Folder) (K : Folder → Type 0) (P : T → Folder → Type 0) → ((f : Folder) → K f) → IfOk r (λ t. Told told (λ f. K f → P t f)) → IfOk r (λ t. Told told (P t))
+if_ok_kept (Ok value) None K P k t = tt
+if_ok_kept (Ok value) (Some f) K P k t = t (k f)
+if_ok_kept (Err fault) told K P k t = tt
+
+all_spans : (P : Span → Type 0) (logs : List NameLength) → All (λ (log : NameLength). P (whole_span log)) logs → AllSpans (whole_spans logs) P
+all_spans P logs all = λ k s here is. subst P (sym is) (All-map P whole_span logs all k s here)
+
+pub are_there : (folder : Folder) (logs : List NameLength) → All (λ (log : NameLength). log.length ≤ length (bytes_in folder log.name)) logs
+    → AllSpans (whole_spans logs) (λ span. span.listed ≤ length (bytes_in folder span.name))
+are_there folder logs all = all_spans (λ span. span.listed ≤ length (bytes_in folder span.name)) logs all
+
+pub are_spans : (logs : List NameLength) → All (λ (log : NameLength). log.length ≤ 2 ^ 46) logs → AllSpans (whole_spans logs) IsSpan
+are_spans logs all = all_spans IsSpan logs (λ k d here. record { start = omega arith; cut = all k d here; lines = omega arith })
+
+pub are_kept : (format : Format) (folder : Folder) (logs : List NameLength) → format.columns_after [] ≡ None → AreKept format false (whole_spans logs) folder
+are_kept format folder logs none = all_spans (λ span. IsKept format false (cut_of folder span) span) logs
+    (λ k d here. kept_from_start format false (cut_of folder (whole_span (get_or logs k d))) (whole_span (get_or logs k d)) none refl refl)
+
+size_of : (logs : List NameLength) → All (λ (log : NameLength). log.length ≤ 2 ^ 46) logs → spans_size (whole_spans logs) ≤ length logs * 2 ^ 46
+size_of [] all = omega arith
+size_of (log ∷ logs) all =
+    let first : log.length ≤ 2 ^ 46 = all 0 log (omega arith) in
+    let rest = size_of logs (λ k d here. all (suc k) d (omega arith)) in
+    omega arith
+
+pub has_room : (logs : List NameLength) → All (λ (log : NameLength). log.length ≤ 2 ^ 46) logs → length logs ≤ 100000 → spans_size (whole_spans logs) + length (whole_spans logs) < 2 ^ 63
+has_room logs all few =
+    let size = size_of logs all in
+    let count = length-map logs whole_span in
+    omega arith
