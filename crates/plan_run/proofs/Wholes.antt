@@ -52,3 +52,27 @@ has_room logs all few =
     let size = size_of logs all in
     let count = length-map logs whole_span in
     omega arith
+
+pub told_there : (told : Option Folder) (logs : List NameLength) → Told told (λ folder. All (λ (log : NameLength). log.length ≤ length (bytes_in folder log.name)) logs)
+    → Told told (λ folder. AllSpans (whole_spans logs) (λ span. span.listed ≤ length (bytes_in folder span.name)))
+told_there None logs there = tt
+told_there (Some folder) logs there = are_there folder logs there
+
+-- what holds of kept spans holds of whole logs
+pub on_ok_whole : {T E : Type 0} (r : Result T E) (told : Option Folder) (format : Format) (logs : List NameLength) (spans : List Span) (P : List Span → Folder → Type 0)
+    → format.columns_after [] ≡ None → spans ≡ whole_spans logs → OnOk r (Told told (λ f. AreKept format false spans f → P spans f)) → OnOk r (Told told (λ f. P (whole_spans logs) f))
+on_ok_whole r told format logs spans P start same t =
+    on_ok_kept r told (λ f. AreKept format false (whole_spans logs) f) (λ f. P (whole_spans logs) f) (λ f. are_kept format f logs start)
+    (subst (λ (s : List Span). OnOk r (Told told (λ f. AreKept format false s f → P s f))) same t)
+
+pub on_err_whole : {T E : Type 0} (r : Result T E) (told : Option Folder) (format : Format) (logs : List NameLength) (spans : List Span) (P : List Span → Folder → Type 0)
+    → format.columns_after [] ≡ None → spans ≡ whole_spans logs → OnErr r (Told told (λ f. AreKept format false spans f → P spans f)) → OnErr r (Told told (λ f. P (whole_spans logs) f))
+on_err_whole r told format logs spans P start same t =
+    on_err_kept r told (λ f. AreKept format false (whole_spans logs) f) (λ f. P (whole_spans logs) f) (λ f. are_kept format f logs start)
+    (subst (λ (s : List Span). OnErr r (Told told (λ f. AreKept format false s f → P s f))) same t)
+
+pub if_ok_whole : {T E : Type 0} (r : Result T E) (told : Option Folder) (format : Format) (logs : List NameLength) (spans : List Span) (P : List Span → T → Folder → Type 0)
+    → format.columns_after [] ≡ None → spans ≡ whole_spans logs → IfOk r (λ t. Told told (λ f. AreKept format false spans f → P spans t f)) → IfOk r (λ t. Told told (λ f. P (whole_spans logs) t f))
+if_ok_whole r told format logs spans P start same t =
+    if_ok_kept r told (λ f. AreKept format false (whole_spans logs) f) (λ x f. P (whole_spans logs) x f) (λ f. are_kept format f logs start)
+    (subst (λ (s : List Span). IfOk r (λ x. Told told (λ f. AreKept format false s f → P s x f))) same t)

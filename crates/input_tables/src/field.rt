@@ -1,0 +1,63 @@
+// A field that the records of a format have.
+ghost use Rattle.std.specs.Prelude.{◌≡◌, IfOk};
+ghost use Rattle.slot_reading.specs.Slots.{kind_of};
+ghost use Rattle.slot_reading.specs.declared.reading.Reading.TheVariants as R;
+ghost use Rattle.w3c_input.specs.Table.{pattern_of};
+ghost use Rattle.input_tables.specs.Known.{read_how};
+
+use lp_time::Pattern;
+use lp_values::Kind;
+use slot_reading::Reading;
+use std::alloc::AllocError;
+
+/// How a field is read.
+#[derive(Clone, Copy)]
+pub(crate) enum How {
+    Integer,
+    Text,
+    Day,
+    Clock,
+    Clf,
+}
+
+/// A field: its name, and how it is read.
+#[derive(Clone, Copy)]
+pub(crate) struct Known {
+    pub(crate) name: &'static str,
+    pub(crate) how: How,
+}
+
+fn by(pattern: &str) -> Result<Reading, AllocError>
+    ensures { IfOk result (λ reading. reading ≡ R.By (pattern_of pattern.now)) }
+{
+    match Pattern::read(pattern) {
+        Ok(pattern) => Ok(Reading::By(pattern)),
+        Err(_) => Err(AllocError),
+    }
+}
+
+impl How {
+    /// The kind of the field's column.
+    pub(crate) fn kind(self) -> Kind
+        ensures { result ≡ kind_of (read_how self) }
+    {
+        match self {
+            How::Integer => Kind::Integer,
+            How::Text => Kind::Text,
+            How::Day | How::Clock | How::Clf => Kind::Stamp,
+        }
+    }
+
+    /// How the field is read.
+    pub(crate) fn reading(self) -> Result<Reading, AllocError>
+        ensures { IfOk result (λ reading. reading ≡ read_how self) }
+    {
+        match self {
+            How::Integer => Ok(Reading::Integer),
+            How::Text => Ok(Reading::Text),
+            How::Day => by("yyyy-MM-dd"),
+            How::Clock => by("hh:mm:ss"),
+            How::Clf => Ok(Reading::Clf),
+        }
+    }
+}
