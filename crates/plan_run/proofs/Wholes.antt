@@ -76,3 +76,25 @@ pub if_ok_whole : {T E : Type 0} (r : Result T E) (told : Option Folder) (format
 if_ok_whole r told format logs spans P start same t =
     if_ok_kept r told (λ f. AreKept format false (whole_spans logs) f) (λ x f. P (whole_spans logs) x f) (λ f. are_kept format f logs start)
     (subst (λ (s : List Span). IfOk r (λ x. Told told (λ f. AreKept format false s f → P s x f))) same t)
+
+-- what holds of names and kept spans holds of the plan's names and of whole logs
+pub on_ok_run : {T E : Type 0} (r : Result T E) (told : Option Folder) (format : Format) (logs : List NameLength) (spans : List Span) (names planned : List (List ℕ)) (P : List (List ℕ) → List Span → Folder → Type 0)
+    → format.columns_after [] ≡ None → names ≡ planned → spans ≡ whole_spans logs → OnOk r (Told told (λ f. AreKept format false spans f → P names spans f)) → OnOk r (Told told (λ f. P planned (whole_spans logs) f))
+on_ok_run r told format logs spans names planned P start named same t =
+    subst (λ (n : List (List ℕ)). OnOk r (Told told (λ f. P n (whole_spans logs) f))) named (on_ok_whole r told format logs spans (P names) start same t)
+
+pub on_err_run : {T E : Type 0} (r : Result T E) (told : Option Folder) (format : Format) (logs : List NameLength) (spans : List Span) (names planned : List (List ℕ)) (P : List (List ℕ) → List Span → Folder → Type 0)
+    → format.columns_after [] ≡ None → names ≡ planned → spans ≡ whole_spans logs → OnErr r (Told told (λ f. AreKept format false spans f → P names spans f)) → OnErr r (Told told (λ f. P planned (whole_spans logs) f))
+on_err_run r told format logs spans names planned P start named same t =
+    subst (λ (n : List (List ℕ)). OnErr r (Told told (λ f. P n (whole_spans logs) f))) named (on_err_whole r told format logs spans (P names) start same t)
+
+-- what a run over whole logs asks for
+pub there_for : (told : Option Folder) (logs : List NameLength) (spans : List Span) → spans ≡ whole_spans logs
+    → Told told (λ folder. All (λ (log : NameLength). log.length ≤ length (bytes_in folder log.name)) logs) → Told told (λ folder. AllSpans spans (λ span. span.listed ≤ length (bytes_in folder span.name)))
+there_for told logs spans same there = subst (λ (s : List Span). Told told (λ folder. AllSpans s (λ span. span.listed ≤ length (bytes_in folder span.name)))) (sym same) (told_there told logs there)
+
+pub spans_for : (logs : List NameLength) (spans : List Span) → spans ≡ whole_spans logs → All (λ (log : NameLength). log.length ≤ 2 ^ 46) logs → AllSpans spans IsSpan
+spans_for logs spans same all = subst (λ (s : List Span). AllSpans s IsSpan) (sym same) (are_spans logs all)
+
+pub room_for : (logs : List NameLength) (spans : List Span) → spans ≡ whole_spans logs → All (λ (log : NameLength). log.length ≤ 2 ^ 46) logs → length logs ≤ 100000 → spans_size spans + length spans < 2 ^ 63
+room_for logs spans same all few = subst (λ (s : List Span). spans_size s + length s < 2 ^ 63) (sym same) (has_room logs all few)

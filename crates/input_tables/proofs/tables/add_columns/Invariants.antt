@@ -1,9 +1,0 @@
-use Rattle.std.proofs.Common.{◌≡◌, ◌++◌, map, take}
-use Rattle.input_tables.specs.declared.field.Known.{Known}
-use Rattle.input_tables.specs.Known.{known}
-use Rattle.input_tables.specs.Tables.{column_of}
-use Rattle.input_tables.proofs.tables.add_columns.Given as goal
-
--- the columns of the fields so far were added
-abbrev pub invariant-loop-field : goal.invariant-loop-field
-invariant-loop-field l = record { items : l.field-items ≡ l.fields; columns : l.columns ≡ l.initial.columns ++ map (λ (field : Known). column_of (known field)) (take l.field-index l.field-items) }
