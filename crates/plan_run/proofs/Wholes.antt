@@ -1,9 +1,11 @@
 -- Spans of whole logs.
-use Rattle.std.proofs.Common.{◌≡◌, ℕ, suc, ◌+◌, ◌-◌, ◌*◌, ◌<◌, ◌≤◌, ◌^◌, List, [], ◌∷◌, length, map, sum_by, get_or, All, Option, Some, None, Result, Ok, Err, OnOk, OnErr, IfOk, refl, sym, ◌∙◌, ap, subst, arith}
+use Rattle.std.proofs.Common.{◌≡◌, ℕ, suc, ◌+◌, ◌-◌, ◌*◌, ◌<◌, ◌≤◌, ◌^◌, List, [], ◌∷◌, length, map, sum_by, get_or, All, false, Option, Some, None, Result, Ok, Err, OnOk, OnErr, IfOk, refl, sym, ◌∙◌, ap, subst, arith}
 use Rattle.std.proofs.lemmas.List.Elements.{All-map}
 use Rattle.std.proofs.lemmas.List.{length-map}
-use Rattle.lp_model.specs.Outside.{Folder, Told, bytes_in}
+use Rattle.std.proofs.lemmas.List.Sums.{sum_by-cons}
+use Rattle.lp_model.specs.Outside.{Folder, Told, GainsSome, bytes_in}
 use Rattle.lp_model.specs.Reading.{Format}
+use Rattle.lp_model.proofs.Gaining.{GainsSome_none}
 use Rattle.log_listing.specs.declared.lengths.NameLength.{NameLength}
 use Rattle.log_reading.specs.declared.span.Span.{Span}
 use Rattle.log_reading.specs.Spans.{AllSpans, IsSpan, IsKept, AreKept, cut_of, spans_size}
@@ -45,6 +47,7 @@ size_of [] all = omega arith
 size_of (log ∷ logs) all =
     let first : log.length ≤ 2 ^ 46 = all 0 log (omega arith) in
     let rest = size_of logs (λ k d here. all (suc k) d (omega arith)) in
+    let step : spans_size (whole_spans (log ∷ logs)) ≡ log.length - 0 + spans_size (whole_spans logs) = sum_by-cons (λ (span : Span). span.listed - span.from) (whole_span log) (whole_spans logs) in
     omega arith
 
 pub has_room : (logs : List NameLength) → All (λ (log : NameLength). log.length ≤ 2 ^ 46) logs → length logs ≤ 100000 → spans_size (whole_spans logs) + length (whole_spans logs) < 2 ^ 63
@@ -98,3 +101,8 @@ spans_for logs spans same all = subst (λ (s : List Span). AllSpans s IsSpan) (s
 
 pub room_for : (logs : List NameLength) (spans : List Span) → spans ≡ whole_spans logs → All (λ (log : NameLength). log.length ≤ 2 ^ 46) logs → length logs ≤ 100000 → spans_size spans + length spans < 2 ^ 63
 room_for logs spans same all few = subst (λ (s : List Span). spans_size s + length s < 2 ^ 63) (sym same) (has_room logs all few)
+
+-- an output that gains nothing has gained a front of any text
+pub told_none : (told : Option Folder) (written : Option (List ℕ)) (text : Folder → List ℕ) → Told told (λ f. GainsSome written written (text f))
+told_none None written text = tt
+told_none (Some folder) written text = GainsSome_none written (text folder)

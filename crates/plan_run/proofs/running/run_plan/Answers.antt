@@ -5,7 +5,8 @@ use Rattle.query_run.specs.Rows.{picked}
 use Rattle.query_run.specs.declared.executing.Counts.{Counts}
 use Rattle.query_types.specs.Conditions.{filter_of}
 use Rattle.plan_rows.specs.Picks.{plan_picks}
-use Rattle.plan_run.proofs.Wholes.{on_ok_run, on_err_run, if_ok_whole, there_for, spans_for, room_for}
+use Rattle.plan_run.specs.Logs.{whole_spans}
+use Rattle.plan_run.proofs.Wholes.{on_ok_run, on_err_run, if_ok_whole, there_for, spans_for, room_for, told_none}
 use Rattle.plan_run.proofs.running.run_plan.Goals as goal
 
 pub execute-requires-clause-there : goal.execute-requires-clause-there
@@ -54,3 +55,17 @@ returns-clause-bad g c =
     if_ok_whole c.execute.result (g.L.Logs.folder c.execute.new.logs) format c.args.list.now c.as_slice.result.now
     (λ spans (counts : Counts) folder. counts.bad ≡ length (spans_bad format false folder spans))
     c.requires.start (c.as_slice.ensures ∙ c.in-Ok-whole_spans.ensures) c.execute.ensures.bad
+
+pub returns-in-Err-clause-front : goal.returns-in-Err-clause-front
+returns-in-Err-clause-front g c =
+    let format = g.R.LineReader.format c.args.reader.now in
+    let picks = plan_picks c.args.readings c.args.plan.items (option_map filter_of c.args.plan.condition) in
+    told_none (g.L.Logs.folder c.args.logs.now) (g.S.Sink.written c.args.out.now)
+    (λ folder. g.F.Shape.text c.args.shape true c.args.plan.names (picked picks (spans_found format false folder (whole_spans c.args.list.now))))
+
+pub returns-in-Err-whole_spans-clause-front : goal.returns-in-Err-whole_spans-clause-front
+returns-in-Err-whole_spans-clause-front g c =
+    let format = g.R.LineReader.format c.args.reader.now in
+    let picks = plan_picks c.args.readings c.args.plan.items (option_map filter_of c.args.plan.condition) in
+    told_none (g.L.Logs.folder c.args.logs.now) (g.S.Sink.written c.args.out.now)
+    (λ folder. g.F.Shape.text c.args.shape true c.args.plan.names (picked picks (spans_found format false folder (whole_spans c.args.list.now))))
