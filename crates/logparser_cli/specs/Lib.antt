@@ -1,3 +1,5 @@
 pub mod Status
+pub mod Messages
+pub mod Formats
+pub mod Built
 pub mod Whole
-pub mod Words

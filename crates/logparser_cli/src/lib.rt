@@ -1,14 +1,17 @@
 //! The command: words to a run, and a run to its status.
 //!
-//! To the program: [`run`] does all that the words ask for, over any logs, disk, input and outputs, and its contract says what it writes at each status.
+//! To the program: [`run`] does all that the words ask for, over any logs, disk, input and outputs, and its contract says
+//! what it writes at each status.
 #![tactic(auto)]
 
+mod built;
+mod formats;
 mod report;
 mod running;
 mod status;
 #[cfg(test)]
 mod tests;
-mod words;
+mod writing;
 
 pub use running::run;
 pub use status::Status;

@@ -1,7 +1,7 @@
 // The run over objects in memory.
 use crate::{Status, run};
 use lp_outside::Name;
-use lp_values::{Bytes, Part, Stamp, Text, TextList};
+use lp_values::{Bytes, Text, TextList};
 use memory_outside::{MemoryDisk, MemoryLogs, MemorySink, MemorySource};
 use std::alloc::Global;
 use std::test::Fail;
@@ -171,17 +171,5 @@ fn a_failing_message_changes_no_status(rt: HostRuntime) -> Result<(), Fail> {
         outside.err.bytes(),
         b"Statistics:\n-----------\nElements processed: ".as_slice()
     );
-    Ok(())
-}
-
-#[test]
-fn bytes_are_cut_and_a_stamp_tells_its_parts(rt: HostRuntime) -> Result<(), Fail> {
-    let mut bytes = Bytes::new(rt.alloc());
-    bytes.add(b"abc")?;
-    bytes.truncate(1);
-    assert_eq!(rt; bytes.as_slice(), b"a".as_slice());
-    let stamp = Stamp::new(86_400, Part::Date).ok_or("stamp")?;
-    assert_eq!(rt; stamp.seconds(), 86_400);
-    assert_eq!(rt; stamp.part(), Part::Date);
     Ok(())
 }
