@@ -1,32 +1,38 @@
 -- What a stage holds.
-use Rattle.std.specs.Prelude.{◌≡◌, ◌≢◌, ℕ, List, ◌++◌, Option, Some, None, IsSomeAnd}
+use Rattle.std.specs.Prelude.{◌≡◌, ◌≢◌, ℕ, ◌+◌, ◌<◌, ◌^◌, List, ◌++◌, length, Option}
 use Rattle.lp_outside.specs.declared.stage.Mark.{Mark}
-
--- the text of an output by its index, name, base and mark
-abbrev pub Texts : Type 0
-Texts = ℕ → List ℕ → ℕ → Mark → List ℕ
 
 -- the mark of an empty text
 abbrev pub no_mark : Mark
 no_mark = record { last = 18446744073709551615; length = 0 }
 
--- an object goes on telling something or not, and what it tells changes by this relation
-abbrev pub Between : {T : Type 0} → (T → T → Type 0) → Option T → Option T → Type 0
-Between R None now = now ≡ None
-Between R (Some before) now = IsSomeAnd now (λ after. R before after)
+-- what is known of a stage at one moment
+pub record StageState : Type 1 where
+  -- it tells its texts
+  pub tells : Type 0
+  -- the output of this index, name and base has this text up to a mark
+  pub is_text : ℕ → List ℕ → ℕ → Mark → List ℕ → Type 0
+  -- what it wrote to an output stream at once, where it tells that
+  pub written : Option (List ℕ)
+  -- how many bytes it has taken, where it tells that
+  pub taken : Option ℕ
 
-abbrev pub IsSameTexts : Texts → Texts → Type 0
-IsSameTexts before now = (output : ℕ) (name : List ℕ) (base : ℕ) (mark : Mark) → now output name base mark ≡ before output name base mark
+-- all texts stay
+pub record KeepsAll (before now : StageState) : Type 0 where
+  pub tells : now.tells
+  pub all : (output : ℕ) (name : List ℕ) (base : ℕ) (mark : Mark) (text : List ℕ) → before.is_text output name base mark text → now.is_text output name base mark text
 
 -- the texts of outputs with another index and another name stay
-abbrev pub KeepsOthers : ℕ → List ℕ → Texts → Texts → Type 0
-KeepsOthers index called before now = (output : ℕ) (name : List ℕ) (base : ℕ) (mark : Mark) → output ≢ index → name ≢ called → now output name base mark ≡ before output name base mark
+abbrev pub KeepsOthers : ℕ → List ℕ → StageState → StageState → Type 0
+KeepsOthers index called before now = (output : ℕ) (name : List ℕ) (base : ℕ) (mark : Mark) (text : List ℕ) → output ≢ index → name ≢ called
+    → before.is_text output name base mark text → now.is_text output name base mark text
 
--- the text at a mark, and all texts of another name, stay
-pub record KeepsClosed (called : List ℕ) (base : ℕ) (mark : Mark) (before now : Texts) : Type 0 where
-  pub closed : (output : ℕ) → now output called base mark ≡ before output called base mark
-  pub others : (output : ℕ) (name : List ℕ) (at : ℕ) (other : Mark) → name ≢ called → now output name at other ≡ before output name at other
+-- the text at the new mark is the one at the old mark with these bytes behind it, as far as lengths below 2^64 go
+pub record AddsText (output : ℕ) (name : List ℕ) (base : ℕ) (old new : Mark) (bytes : List ℕ) (before now : StageState) : Type 0 where
+  pub tells : now.tells
+  pub added : old.length + length bytes < 2 ^ 64 → (text : List ℕ) → before.is_text output name base old text → now.is_text output name base new (text ++ bytes)
 
--- the text at the new mark is the one at the old mark with these bytes behind it
-abbrev pub AddsText : ℕ → List ℕ → ℕ → Mark → Mark → List ℕ → Texts → Texts → Type 0
-AddsText output name base old new bytes before now = now output name base new ≡ before output name base old ++ bytes
+-- the text at the mark, and all texts of another name, stay
+pub record KeepsClosed (called : List ℕ) (base : ℕ) (mark : Mark) (before now : StageState) : Type 0 where
+  pub closed : (output : ℕ) (text : List ℕ) → before.is_text output called base mark text → now.is_text output called base mark text
+  pub others : (output : ℕ) (name : List ℕ) (at : ℕ) (other : Mark) (text : List ℕ) → name ≢ called → before.is_text output name at other text → now.is_text output name at other text

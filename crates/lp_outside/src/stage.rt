@@ -1,7 +1,8 @@
 // A stage: texts of outputs that wait.
-ghost use Rattle.std.specs.Prelude.{◌≡◌, ◌++◌, ◌+◌, ◌%◌, ◌^◌, ◌≤◌, ℕ, List, [], length, Option, OnOk, IfOk, MatchResult, option_map};
-ghost use Rattle.lp_model.specs.Outside.{HasCause, Told};
-ghost use Rattle.lp_outside.specs.Stages.{Texts, no_mark, Between, IsSameTexts, KeepsOthers, KeepsClosed, AddsText};
+ghost use Rattle.std.specs.Prelude.{◌≡◌, ◌+◌, ◌%◌, ◌^◌, ◌≤◌, ℕ, List, [], length, OnOk, IfOk, IsSomeAnd, MatchResult, option_map};
+ghost use Rattle.lp_model.specs.Outside.{HasCause, Told, Gains, GainsSome};
+ghost use Rattle.lp_outside.specs.declared.stage.Mark.{Mark};
+ghost use Rattle.lp_outside.specs.Stages.{StageState, no_mark, KeepsAll, KeepsOthers, KeepsClosed, AddsText};
 
 use crate::Name;
 use thiserror::Error;
@@ -32,22 +33,20 @@ impl Mark {
     }
 }
 
-/// Texts of outputs that wait to be written. A caller hands in one name and one base for an index; the base is the length
-/// of the output's file.
+/// Texts of outputs that wait to be written, or go on to an output stream at once. A caller hands in one name and one base
+/// for an index; the base is the place in the output's file where its text begins.
 pub trait Stage {
-    /// One text for each index, name, base and mark, where the object tells them.
-    ghost texts: { Self → Option Texts };
-
-    /// How many bytes it has taken, where it tells that.
-    ghost taken: { Self → Option ℕ };
+    /// What it holds.
+    ghost state: { Self → StageState };
 
     /// How often it has failed.
     ghost faults: { Self → ℕ };
 
     /// The length of an output's file.
     fn held(&mut self, name: &Name) -> Result<u64, StageFailed>
-        ensures same { Between IsSameTexts (texts self.old) (texts self.new) }
-        ensures taken { taken self.new ≡ taken self.old }
+        ensures texts { (state self.old).tells → KeepsAll (state self.old) (state self.new) }
+        ensures written { (state self.new).written ≡ (state self.old).written }
+        ensures taken { (state self.new).taken ≡ (state self.old).taken }
         ensures bound { IfOk result (λ bytes. bytes ≤ 2 ^ 62) }
         ensures cause { HasCause (faults self.old) (faults self.new) result };
 
@@ -61,18 +60,25 @@ pub trait Stage {
         bytes: &[u8],
     ) -> Result<(), StageFailed>
         requires { mark.old.length % 4096 ≡ 0 }
-        ensures others { Between (KeepsOthers output name.now) (texts self.old) (texts self.new) }
-        ensures text { OnOk result (Between (AddsText output name.now base mark.old mark.new bytes.now) (texts self.old) (texts self.new)) }
+        ensures others { (state self.old).tells → KeepsOthers output name.now (state self.old) (state self.new) }
+        ensures text { OnOk result ((state self.old).tells → AddsText output name.now base mark.old mark.new bytes.now (state self.old) (state self.new)) }
         ensures length { OnOk result (mark.new.length ≡ (mark.old.length + length bytes.now) % 2 ^ 64) }
-        ensures taken { MatchResult result (λ _. taken self.new ≡ option_map (λ count. count + length bytes.now) (taken self.old)) (λ _. Between (λ before now. before ≤ now) (taken self.old) (taken self.new)) }
+        ensures written { MatchResult result (λ _. Gains (state self.old).written (state self.new).written bytes.now) (λ _. GainsSome (state self.old).written (state self.new).written bytes.now) }
+        ensures taken { MatchResult result (λ _. (state self.new).taken ≡ option_map (λ count. count + length bytes.now) (state self.old).taken) (λ _. Told (state self.old).taken (λ before. IsSomeAnd (state self.new).taken (λ now. before ≤ now))) }
         ensures cause { HasCause (faults self.old) (faults self.new) result };
 
     /// Ends an output. Its text stays.
     fn close(&mut self, name: &Name, base: u64, mark: &Mark) -> Result<(), StageFailed>
-        ensures kept { Between (KeepsClosed name.now base mark.now) (texts self.old) (texts self.new) }
-        ensures taken { taken self.new ≡ taken self.old }
+        ensures kept { (state self.old).tells → KeepsClosed name.now base mark.now (state self.old) (state self.new) }
+        ensures tells { OnOk result ((state self.old).tells → (state self.new).tells) }
+        ensures written { (state self.new).written ≡ (state self.old).written }
+        ensures taken { (state self.new).taken ≡ (state self.old).taken }
         ensures cause { HasCause (faults self.old) (faults self.new) result };
 
-    /// A text without a frame is empty.
-    ghost empty: { (stage : Self) → Told (texts stage) (λ text. (output : ℕ) (name : List ℕ) (base : ℕ) → text output name base no_mark ≡ []) };
+    /// An output without a frame has an empty text.
+    ghost empty: { (stage : Self) → (state stage).tells → (output : ℕ) (name : List ℕ) (base : ℕ) → (state stage).is_text output name base no_mark [] };
+
+    /// An output has one text at a mark.
+    ghost one: { (stage : Self) → (state stage).tells → (output : ℕ) (name : List ℕ) (base : ℕ) (mark : Mark) (text other : List ℕ)
+        → (state stage).is_text output name base mark text → (state stage).is_text output name base mark other → other ≡ text };
 }

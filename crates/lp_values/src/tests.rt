@@ -324,7 +324,7 @@ fn lists_are_keys(rt: HostRuntime) -> Result<(), AllocError> {
     let mut keys = ValueList::new(alloc);
     keys.push(Value::Text(Text::from_str(alloc, "k")?))?;
     keys.push(Value::Int(1).copy(alloc)?)?;
-    let mut other = ValueList::new(alloc);
+    let mut other = ValueList::with_capacity(alloc, 1)?;
     other.push(Value::Int(1))?;
     assert!(rt; !same_values(&keys, &other) && other < keys && keys.len() == 2);
     let mut counts = HashMap::new(alloc);
