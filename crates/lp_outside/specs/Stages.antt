@@ -1,5 +1,5 @@
 -- What a stage holds.
-use Rattle.std.specs.Prelude.{◌≡◌, ◌≢◌, ℕ, ◌+◌, ◌<◌, ◌^◌, List, ◌++◌, length, Option}
+use Rattle.std.specs.Prelude.{◌≢◌, ℕ, ◌+◌, ◌<◌, ◌^◌, List, ◌++◌, length, Option}
 use Rattle.lp_outside.specs.declared.stage.Mark.{Mark}
 
 -- the mark of an empty text

@@ -187,3 +187,22 @@ fn marks(rt: HostRuntime) {
         }
     );
 }
+
+// An output is a stage that passes on at once.
+#[test]
+fn output_as_stage(rt: HostRuntime) -> Result<(), Fail> {
+    let mut sink = StdSink::new(fs::create(&rt, "outside_stage")?);
+    let name = named("STDOUT")?;
+    let mut mark = Mark::none();
+    assert_eq!(rt; sink.held(&name)?, 0);
+    sink.put(0, &name, 0, &mut mark, b"piece")?;
+    sink.close(&name, 0, &mark)?;
+    assert_eq!(rt; mark.length, 5);
+    write_all(&mut sink, b"s")?;
+    let mut source = StdSource::new(fs::open(&rt, "outside_stage")?);
+    let mut read = [0u8; 8];
+    assert_eq!(rt; source.read(&mut read)?, 6);
+    assert_eq!(rt; read, *b"pieces\0\0");
+    fs::remove_file(&rt, "outside_stage")?;
+    Ok(())
+}
