@@ -28,15 +28,15 @@ text_same text picks writer shape picker fresh names founds format same = ap (λ
 
 -- it stopped within the rows
 pub front_stopped : {F P : Type 0} (text : TextOf F) (has_text : HasTextOf F) (picks : PicksOf P) (writer : Writer F P) (shape : F) (picker : P) (fresh : Bool) (names : List (List ℕ)) (founds : List Found) (u w : Option (List ℕ)) → text writer.shape ≡ text shape → writer.picker ≡ picker
-    → IsUnderWay (has_text writer.shape fresh names []) u u writer.buffer → Halts text has_text picks writer u founds w → GainsSome u w (text shape fresh names (picked (picks picker) founds))
+    → IsUnderWay (has_text writer.shape fresh names []) u u writer.buffers.held → Halts text has_text picks writer u founds w → GainsSome u w (text shape fresh names (picked (picks picker) founds))
 front_stopped text has_text picks writer shape picker fresh names founds u w format same under_way halts =
     let Of : List ℕ → Type 0 = λ t. GainsSome u w t in
     subst Of (ap (text writer.shape fresh names) (append-nil (picked (picks writer.picker) founds)) ∙ text_same text picks writer shape picker fresh names founds format same) (halts.front fresh names [] [] u under_way)
 
 -- all rows were written, and what the end makes of it
 pub at_end : {F P : Type 0} (text : TextOf F) (has_text : HasTextOf F) (picks : PicksOf P) (Out : List ℕ → Type 0) (writer last : Writer F P) (shape : F) (picker : P) (fresh : Bool) (names : List (List ℕ)) (founds : List Found) (u v : Option (List ℕ)) → text writer.shape ≡ text shape → writer.picker ≡ picker
-    → IsUnderWay (has_text writer.shape fresh names []) u u writer.buffer → Writes text has_text picks writer u founds last v
-    → ((rows : List (List Value)) → IsUnderWay (has_text last.shape fresh names rows) u v last.buffer → Out (text last.shape fresh names rows)) → Out (text shape fresh names (picked (picks picker) founds))
+    → IsUnderWay (has_text writer.shape fresh names []) u u writer.buffers.held → Writes text has_text picks writer u founds last v
+    → ((rows : List (List Value)) → IsUnderWay (has_text last.shape fresh names rows) u v last.buffers.held → Out (text last.shape fresh names rows)) → Out (text shape fresh names (picked (picks picker) founds))
 at_end text has_text picks Out writer last shape picker fresh names founds u v format same under_way writes step =
     let here = step (picked (picks writer.picker) founds) (writes.written fresh names [] u under_way) in
     subst Out (ap (λ t. t fresh names (picked (picks writer.picker) founds)) writes.format ∙ text_same text picks writer shape picker fresh names founds format same) here

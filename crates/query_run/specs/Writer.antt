@@ -11,7 +11,7 @@ use Rattle.query_run.specs.declared.writer.Writer.{Writer}
 pub record Writes {F P : Type 0} (text : F → Bool → List (List ℕ) → List (List Value) → List ℕ) (has_text : F → Bool → List (List ℕ) → List (List Value) → List ℕ → Type 0) (picks : P → Found → Option (List Value))
     (old : Writer F P) (before : Option (List ℕ)) (founds : List Found) (new : Writer F P) (now : Option (List ℕ)) : Type 0 where
   pub written : (fresh : Bool) (names : List (List ℕ)) (rows : List (List Value)) (start : Option (List ℕ))
-      → IsUnderWay (has_text old.shape fresh names rows) start before old.buffer → IsUnderWay (has_text new.shape fresh names (rows ++ picked (picks old.picker) founds)) start now new.buffer
+      → IsUnderWay (has_text old.shape fresh names rows) start before old.buffers.held → IsUnderWay (has_text new.shape fresh names (rows ++ picked (picks old.picker) founds)) start now new.buffers.held
   pub format : text new.shape ≡ text old.shape
   pub picker : new.picker ≡ old.picker
   pub output : new.output ≡ old.output + length (picked (picks old.picker) founds)
@@ -20,4 +20,4 @@ pub record Writes {F P : Type 0} (text : F → Bool → List (List ℕ) → List
 pub record Halts {F P : Type 0} (text : F → Bool → List (List ℕ) → List (List Value) → List ℕ) (has_text : F → Bool → List (List ℕ) → List (List Value) → List ℕ → Type 0) (picks : P → Found → Option (List Value))
     (old : Writer F P) (before : Option (List ℕ)) (founds : List Found) (now : Option (List ℕ)) : Type 0 where
   pub front : (fresh : Bool) (names : List (List ℕ)) (rows more : List (List Value)) (start : Option (List ℕ))
-      → IsUnderWay (has_text old.shape fresh names rows) start before old.buffer → GainsSome start now (text old.shape fresh names (rows ++ (picked (picks old.picker) founds ++ more)))
+      → IsUnderWay (has_text old.shape fresh names rows) start before old.buffers.held → GainsSome start now (text old.shape fresh names (rows ++ (picked (picks old.picker) founds ++ more)))

@@ -28,7 +28,7 @@ picked-append picks xs ys = filter_map-append picks xs ys
 pub writes_none : {F P : Type 0} (text : TextOf F) (has_text : HasTextOf F) (picks : PicksOf P) (s : Writer F P) (w : Option (List ℕ)) → Writes text has_text picks s w [] s w
 writes_none text has_text picks s w = record {
   written = λ fresh names rows start under_way.
-      let Now : List (List Value) → Type 0 = λ t. IsUnderWay (has_text s.shape fresh names t) start w s.buffer in
+      let Now : List (List Value) → Type 0 = λ t. IsUnderWay (has_text s.shape fresh names t) start w s.buffers.held in
       subst Now (sym (append-nil rows)) under_way;
   format = refl;
   picker = refl;
@@ -47,7 +47,7 @@ writes_more text has_text picks a b c u v w xs ys f s =
     let second = s.output in
     record {
       written = λ fresh names rows start under_way.
-          let Now : List (List Value) → Type 0 = λ t. IsUnderWay (has_text c.shape fresh names t) start w c.buffer in
+          let Now : List (List Value) → Type 0 = λ t. IsUnderWay (has_text c.shape fresh names t) start w c.buffers.held in
           subst Now (append_assoc rows (picked (picks a.picker) xs) (picked (picks b.picker) ys) ∙ ap (λ t. rows ++ t) both)
           (s.written fresh names (rows ++ picked (picks a.picker) xs) start (f.written fresh names rows start under_way));
       format = s.format ∙ f.format;
@@ -66,7 +66,7 @@ pub halts_here : {F P : Type 0} (text : TextOf F) (has_text : HasTextOf F) (pick
     (a b : Writer F P) (u v : Option (List ℕ)) (xs ys : List Found) → Writes text has_text picks a u xs b v → Halts text has_text picks a u (xs ++ ys) v
 halts_here text has_text picks begins a b u v xs ys f = record {
   front = λ fresh names rows more start under_way.
-      let here = front_of text has_text begins b.shape fresh names (rows ++ picked (picks a.picker) xs) (picked (picks a.picker) ys ++ more) start v b.buffer (f.written fresh names rows start under_way) in
+      let here = front_of text has_text begins b.shape fresh names (rows ++ picked (picks a.picker) xs) (picked (picks a.picker) ys ++ more) start v b.buffers.held (f.written fresh names rows start under_way) in
       let same : text b.shape fresh names ((rows ++ picked (picks a.picker) xs) ++ (picked (picks a.picker) ys ++ more)) ≡ text a.shape fresh names (rows ++ (picked (picks a.picker) (xs ++ ys) ++ more)) =
       ap (λ t. t fresh names ((rows ++ picked (picks a.picker) xs) ++ (picked (picks a.picker) ys ++ more))) f.format
       ∙ ap (text a.shape fresh names) (append_assoc rows (picked (picks a.picker) xs) (picked (picks a.picker) ys ++ more)
@@ -124,14 +124,14 @@ picked_one picks found row e = ap (λ o. cons_option o []) (sym e)
 
 -- one row was written
 pub writes_one : {F P : Type 0} (text : TextOf F) (has_text : HasTextOf F) (picks : PicksOf P) (old new : Writer F P) (u w : Option (List ℕ)) (found : Found) (row : List Value) → Some row ≡ picks old.picker found
-    → ((fresh : Bool) (names : List (List ℕ)) (rows : List (List Value)) (start : Option (List ℕ)) → IsUnderWay (has_text old.shape fresh names rows) start u old.buffer → IsUnderWay (has_text new.shape fresh names (rows ++ row ∷ [])) start w new.buffer)
+    → ((fresh : Bool) (names : List (List ℕ)) (rows : List (List Value)) (start : Option (List ℕ)) → IsUnderWay (has_text old.shape fresh names rows) start u old.buffers.held → IsUnderWay (has_text new.shape fresh names (rows ++ row ∷ [])) start w new.buffers.held)
     → text new.shape ≡ text old.shape → new.picker ≡ old.picker → new.output ≡ old.output + 1 → Writes text has_text picks old u (found ∷ []) new w
 writes_one text has_text picks old new u w found row e step format picker output =
     let one = picked_one (picks old.picker) found row e in
     let size : length (picked (picks old.picker) (found ∷ [])) ≡ 1 = ap length one in
     record {
       written = λ fresh names rows start under_way.
-          let Now : List (List Value) → Type 0 = λ t. IsUnderWay (has_text new.shape fresh names (rows ++ t)) start w new.buffer in
+          let Now : List (List Value) → Type 0 = λ t. IsUnderWay (has_text new.shape fresh names (rows ++ t)) start w new.buffers.held in
           subst Now (sym one) (step fresh names rows start under_way);
       format = format;
       picker = picker;
@@ -140,7 +140,7 @@ writes_one text has_text picks old new u w found row e step format picker output
 
 -- it stopped within one row
 pub halts_one : {F P : Type 0} (text : TextOf F) (has_text : HasTextOf F) (picks : PicksOf P) (old : Writer F P) (u w : Option (List ℕ)) (found : Found) (row : List Value) → Some row ≡ picks old.picker found
-    → ((fresh : Bool) (names : List (List ℕ)) (rows more : List (List Value)) (start : Option (List ℕ)) → IsUnderWay (has_text old.shape fresh names rows) start u old.buffer → GainsSome start w (text old.shape fresh names (rows ++ (row ∷ more))))
+    → ((fresh : Bool) (names : List (List ℕ)) (rows more : List (List Value)) (start : Option (List ℕ)) → IsUnderWay (has_text old.shape fresh names rows) start u old.buffers.held → GainsSome start w (text old.shape fresh names (rows ++ (row ∷ more))))
     → Halts text has_text picks old u (found ∷ []) w
 halts_one text has_text picks old u w found row e step = record {
   front = λ fresh names rows more start under_way.

@@ -1,4 +1,4 @@
-// A query over logs to an output.
+// A query over logs to a stage.
 ghost use Rattle.std.specs.Prelude.{◌≡◌, ◌≤◌, ◌<◌, ◌^◌, ◌+◌, ◌++◌, [], ℕ, List, Bool, true, length, map, Option, OnOk, OnErr, IfOk, IsErrOf};
 ghost use Rattle.lp_model.specs.Outside.{Rose, OnlyGrow, Told, bytes_in, Gains, GainsSome};
 ghost use Rattle.lp_values.specs.declared.value.Value.{Value};
@@ -6,11 +6,10 @@ ghost use Rattle.query_run.specs.Output.{IsUnderWay};
 ghost use Rattle.query_run.specs.Rows.{picked};
 ghost use Rattle.log_reading.specs.Spans.{AllSpans, IsSpan, AreKept, spans_found, spans_bad, spans_size, took_of};
 
-use crate::output::flush;
-use crate::{Picker, Writer};
+use crate::{Buffers, Picker, Target, Writer};
 use line_input::{LineReader, Splitter, Standing};
 use log_reading::{Page, RunFault, Span, TakeFault, TookList, take_spans};
-use lp_outside::{Logs, Sink};
+use lp_outside::{Logs, Stage};
 use lp_values::{Bytes, TextList, ValueList};
 use output_formats::Shape;
 use std::alloc::{AllocError, Global};
@@ -38,45 +37,50 @@ fn first_writer<F: Shape + Drop, P: Picker + Drop>(
     picker: P,
     names: &TextList,
     fresh: bool,
+    target: Target,
 ) -> Result<Writer<F, P>, AllocError>
-    ensures text { IfOk result (λ writer. (start : Option (List ℕ)) → IsUnderWay (F.has_text writer.shape fresh names.now []) start start writer.buffer) }
+    ensures text { IfOk result (λ writer. (start : Option (List ℕ)) → IsUnderWay (F.has_text writer.shape fresh names.now []) start start writer.buffers.held) }
     ensures format { IfOk result (λ writer. F.text writer.shape ≡ F.text shape) }
     ensures picker { IfOk result (λ writer. writer.picker ≡ picker) }
     ensures taken { IfOk result (λ writer. writer.taken ≡ 0) }
     ensures output { IfOk result (λ writer. writer.output ≡ 0) }
 {
-    let mut buffer = Bytes::new(alloc);
-    shape.begin(names, fresh, &mut buffer)?;
+    let mut held = Bytes::new(alloc);
+    shape.begin(names, fresh, &mut held)?;
     Ok(Writer {
         shape,
         picker,
         values: ValueList::new(alloc),
         row: ValueList::new(alloc),
-        buffer,
+        target,
+        buffers: Buffers {
+            held,
+            spare: Bytes::new(alloc),
+        },
         taken: 0,
         output: 0,
     })
 }
 
 // Writes what stands behind the rows, and all that isn't written yet.
-fn finish<F: Shape + Drop, P: Picker + Drop, S: Sink>(
+fn finish<F: Shape + Drop, P: Picker + Drop, G: Stage>(
     writer: &mut Writer<F, P>,
-    out: &mut S,
+    stage: &mut G,
 ) -> Result<(), TakeFault>
     ensures text { OnOk result ((fresh : Bool) (names : List (List ℕ)) (rows : List (List Value)) (start : Option (List ℕ))
-        → IsUnderWay (F.has_text writer.old.shape fresh names rows) start (S.written out.old) writer.old.buffer
-        → Gains start (S.written out.new) (F.text writer.old.shape fresh names rows)) }
+        → IsUnderWay (F.has_text writer.old.shape fresh names rows) start (G.state stage.old).written writer.old.buffers.held
+        → Gains start (G.state stage.new).written (F.text writer.old.shape fresh names rows)) }
     ensures front { OnErr result ((fresh : Bool) (names : List (List ℕ)) (rows : List (List Value)) (start : Option (List ℕ))
-        → IsUnderWay (F.has_text writer.old.shape fresh names rows) start (S.written out.old) writer.old.buffer
-        → GainsSome start (S.written out.new) (F.text writer.old.shape fresh names rows)) }
+        → IsUnderWay (F.has_text writer.old.shape fresh names rows) start (G.state stage.old).written writer.old.buffers.held
+        → GainsSome start (G.state stage.new).written (F.text writer.old.shape fresh names rows)) }
     ensures output { writer.new.output ≡ writer.old.output }
-    ensures later { S.faults out.old ≤ S.faults out.new }
-    ensures failed { IsErrOf result TakeFault.Failed → Rose (S.faults out.old) (S.faults out.new) }
+    ensures later { G.faults stage.old ≤ G.faults stage.new }
+    ensures failed { IsErrOf result TakeFault.Failed → Rose (G.faults stage.old) (G.faults stage.new) }
 {
-    let Ok(()) = writer.shape.end(&mut writer.buffer) else {
+    let Ok(()) = writer.shape.end(&mut writer.buffers.held) else {
         return Err(TakeFault::Memory);
     };
-    match flush(out, &mut writer.buffer) {
+    match writer.target.end(stage, writer.buffers.held.as_slice()) {
         Ok(()) => Ok(()),
         Err(_) => Err(TakeFault::Failed),
     }
@@ -101,7 +105,7 @@ fn first_page<F: Shape + Drop, P: Picker + Drop>(
 }
 
 /// Writes the output rows of the records of spans, joined in order.
-pub fn execute<R: LineReader, L: Logs, F: Shape + Drop, P: Picker + Drop, S: Sink>(
+pub fn write_spans<R: LineReader, L: Logs, F: Shape + Drop, P: Picker + Drop, G: Stage>(
     alloc: Global,
     reader: &R,
     waits: bool,
@@ -111,15 +115,16 @@ pub fn execute<R: LineReader, L: Logs, F: Shape + Drop, P: Picker + Drop, S: Sin
     fresh: bool,
     shape: F,
     picker: P,
+    target: Target,
     took: &mut TookList,
-    out: &mut S,
+    stage: &mut G,
 ) -> Result<Counts, RunFault>
     requires there { Told (L.folder logs.old) (λ folder. AllSpans spans.now (λ span. span.listed ≤ length (bytes_in folder span.name))) }
     requires spans { AllSpans spans.now IsSpan }
     requires room { spans_size spans.now + length spans.now < 2 ^ 63 }
     ensures grows { OnlyGrow (L.folder logs.old) (L.folder logs.new) }
     ensures text { OnOk result (Told (L.folder logs.new) (λ folder. AreKept (R.format reader.now) waits spans.now folder
-        → Gains (S.written out.old) (S.written out.new) (F.text shape fresh names.now (picked (P.picks picker) (spans_found (R.format reader.now) waits folder spans.now))))) }
+        → Gains (G.state stage.old).written (G.state stage.new).written (F.text shape fresh names.now (picked (P.picks picker) (spans_found (R.format reader.now) waits folder spans.now))))) }
     ensures processed { IfOk result (λ counts. Told (L.folder logs.new) (λ folder. AreKept (R.format reader.now) waits spans.now folder
         → counts.processed ≡ length (spans_found (R.format reader.now) waits folder spans.now))) }
     ensures output { IfOk result (λ counts. Told (L.folder logs.new) (λ folder. AreKept (R.format reader.now) waits spans.now folder
@@ -127,16 +132,16 @@ pub fn execute<R: LineReader, L: Logs, F: Shape + Drop, P: Picker + Drop, S: Sin
     ensures bad { IfOk result (λ counts. Told (L.folder logs.new) (λ folder. AreKept (R.format reader.now) waits spans.now folder
         → counts.bad ≡ length (spans_bad (R.format reader.now) waits folder spans.now))) }
     ensures front { OnErr result (Told (L.folder logs.new) (λ folder. AreKept (R.format reader.now) waits spans.now folder
-        → GainsSome (S.written out.old) (S.written out.new) (F.text shape fresh names.now (picked (P.picks picker) (spans_found (R.format reader.now) waits folder spans.now))))) }
+        → GainsSome (G.state stage.old).written (G.state stage.new).written (F.text shape fresh names.now (picked (P.picks picker) (spans_found (R.format reader.now) waits folder spans.now))))) }
     ensures took { OnOk result (waits ≡ true → Told (L.folder logs.new) (λ folder. AreKept (R.format reader.now) true spans.now folder
         → took.new ≡ took.old ++ map (took_of (R.format reader.now) folder) spans.now)) }
     ensures given { L.given logs.new ≤ L.given logs.old + spans_size spans.now }
     ensures later_logs { L.faults logs.old ≤ L.faults logs.new }
     ensures logs { IsErrOf result RunFault.Logs → Rose (L.faults logs.old) (L.faults logs.new) }
-    ensures later { S.faults out.old ≤ S.faults out.new }
-    ensures sink { IsErrOf result RunFault.Output → Rose (S.faults out.old) (S.faults out.new) }
+    ensures later { G.faults stage.old ≤ G.faults stage.new }
+    ensures sink { IsErrOf result RunFault.Output → Rose (G.faults stage.old) (G.faults stage.new) }
 {
-    let Ok(writer) = first_writer(alloc, shape, picker, names, fresh) else {
+    let Ok(writer) = first_writer(alloc, shape, picker, names, fresh, target) else {
         return Err(RunFault::Memory);
     };
     let Ok(mut chunk) = zeros(alloc, CHUNK) else {
@@ -144,9 +149,9 @@ pub fn execute<R: LineReader, L: Logs, F: Shape + Drop, P: Picker + Drop, S: Sin
     };
     let mut page = first_page(alloc, writer);
     take_spans(
-        alloc, reader, waits, logs, spans, &mut chunk, &mut page, took, out,
+        alloc, reader, waits, logs, spans, &mut chunk, &mut page, took, stage,
     )?;
-    match finish(&mut page.taker, out) {
+    match finish(&mut page.taker, stage) {
         Ok(()) => Ok(Counts {
             processed: page.rows,
             output: page.taker.output,

@@ -5,10 +5,11 @@ mod executing;
 mod output;
 mod picker;
 mod rows;
+mod target;
 mod writer;
 mod writing;
 
-pub use executing::{Counts, execute};
-pub use output::write_all;
+pub use executing::{Counts, write_spans};
 pub use picker::{EveryRow, Picker};
-pub use writer::Writer;
+pub use target::Target;
+pub use writer::{Buffers, Writer};

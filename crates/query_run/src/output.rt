@@ -1,93 +1,91 @@
-// Rows to an output, through a buffer.
-ghost use Rattle.std.specs.Prelude.{◌≡◌, ◌≤◌, ◌<◌, ◌++◌, ◌∷◌, [], ℕ, List, Bool, true, length, take, drop, Option, OnOk, OnErr, IfOk, IsErrOf};
-ghost use Rattle.lp_model.specs.Outside.{Gains, GainsSome, HasCause, Rose};
+// Rows to a stage, through a buffer.
+ghost use Rattle.std.specs.Prelude.{◌≡◌, ◌≤◌, ◌<◌, ◌++◌, ◌∷◌, [], ℕ, List, Bool, length, Option, OnOk, OnErr, IsErrOf};
+ghost use Rattle.lp_model.specs.Outside.{GainsSome, Rose};
 ghost use Rattle.lp_values.specs.declared.value.Value.{Value};
-ghost use Rattle.query_run.specs.Output.{Moves, IsUnderWay};
+ghost use Rattle.lp_outside.specs.Moving.{Moves};
+ghost use Rattle.query_run.specs.Output.{IsUnderWay};
 
+use crate::{Buffers, Target};
 use log_reading::TakeFault;
-use lp_outside::{Sink, SinkFailed};
-use lp_values::{Bytes, ValueList, bytes_from};
+use lp_outside::Stage;
+use lp_values::{ValueList, bytes_from, bytes_to};
 use output_formats::Shape;
+use std::mem::swap;
 
-// A buffer that holds so many bytes is written.
-const FULL: usize = 4096;
+// A stage takes pieces of a multiple of so many bytes.
+const PIECE: usize = 4096;
 
-// At most so many bytes go to the output at once.
-const MOST: usize = 65536;
+// A buffer that holds so many bytes is put.
+const FULL: usize = 65536;
 
-// The first bytes, no more than go at once.
-fn first_of(bytes: &[u8]) -> &[u8]
-    ensures front { result.now ≡ take (length result.now) bytes.now }
-    ensures some { 0 < length bytes.now → 0 < length result.now }
-    ensures fits { length result.now ≤ length bytes.now }
+// Puts the whole pieces that the buffer holds, and keeps the rest.
+fn put_pieces<G: Stage>(
+    target: &mut Target,
+    buffers: &mut Buffers,
+    stage: &mut G,
+) -> Result<(), TakeFault>
+    ensures moves { OnOk result (Moves (G.state stage.old).written (G.state stage.new).written buffers.old.held buffers.new.held) }
+    ensures small { OnOk result (length buffers.new.held < 4096) }
+    ensures err { OnErr result (GainsSome (G.state stage.old).written (G.state stage.new).written buffers.old.held) }
+    ensures later { G.faults stage.old ≤ G.faults stage.new }
+    ensures failed { IsErrOf result TakeFault.Failed → Rose (G.faults stage.old) (G.faults stage.new) }
 {
-    &bytes[..bytes.len().min(MOST)]
-}
-
-/// Writes a piece whole.
-pub fn write_all<S: Sink>(out: &mut S, piece: &[u8]) -> Result<(), SinkFailed>
-    ensures ok { OnOk result (Gains (S.written out.old) (S.written out.new) piece.now) }
-    ensures err { OnErr result (GainsSome (S.written out.old) (S.written out.new) piece.now) }
-    ensures cause { HasCause (S.faults out.old) (S.faults out.new) result }
-{
-    let mut rest = piece;
-    while !rest.is_empty() {
-        let count = out.write(first_of(rest))?;
-        rest = bytes_from(rest, count);
-    }
+    let whole = buffers.held.len() - buffers.held.len() % PIECE;
+    let Ok(()) = target.put(stage, bytes_to(buffers.held.as_slice(), whole)) else {
+        return Err(TakeFault::Failed);
+    };
+    buffers.spare.clear();
+    let Ok(()) = buffers
+        .spare
+        .add(bytes_from(buffers.held.as_slice(), whole))
+    else {
+        return Err(TakeFault::Memory);
+    };
+    swap(&mut buffers.held, &mut buffers.spare);
     Ok(())
 }
 
-/// Writes what the buffer holds.
-pub fn flush<S: Sink>(out: &mut S, buffer: &mut Bytes) -> Result<(), SinkFailed>
-    ensures moves { OnOk result (Moves (S.written out.old) (S.written out.new) buffer.old buffer.new) }
-    ensures empty { OnOk result (buffer.new ≡ []) }
-    ensures err { OnErr result (GainsSome (S.written out.old) (S.written out.new) buffer.old) }
-    ensures cause { HasCause (S.faults out.old) (S.faults out.new) result }
+// Puts what the buffer holds, where that is much.
+fn put_full<G: Stage>(
+    target: &mut Target,
+    buffers: &mut Buffers,
+    stage: &mut G,
+) -> Result<(), TakeFault>
+    ensures moves { OnOk result (Moves (G.state stage.old).written (G.state stage.new).written buffers.old.held buffers.new.held) }
+    ensures small { OnOk result (length buffers.new.held < 65536) }
+    ensures err { OnErr result (GainsSome (G.state stage.old).written (G.state stage.new).written buffers.old.held) }
+    ensures later { G.faults stage.old ≤ G.faults stage.new }
+    ensures failed { IsErrOf result TakeFault.Failed → Rose (G.faults stage.old) (G.faults stage.new) }
 {
-    write_all(out, buffer.as_slice())?;
-    buffer.clear();
-    Ok(())
-}
-
-// Writes what the buffer holds, where that is a piece.
-fn flush_full<S: Sink>(out: &mut S, buffer: &mut Bytes) -> Result<(), SinkFailed>
-    ensures moves { OnOk result (Moves (S.written out.old) (S.written out.new) buffer.old buffer.new) }
-    ensures small { OnOk result (length buffer.new < 4096) }
-    ensures err { OnErr result (GainsSome (S.written out.old) (S.written out.new) buffer.old) }
-    ensures cause { HasCause (S.faults out.old) (S.faults out.new) result }
-{
-    if buffer.len() >= FULL {
-        flush(out, buffer)?;
-        Ok(())
+    if buffers.held.len() >= FULL {
+        put_pieces(target, buffers, stage)
     } else {
         Ok(())
     }
 }
 
 /// Puts a row.
-pub fn put_row<F: Shape, S: Sink>(
+pub fn put_row<F: Shape, G: Stage>(
     shape: &mut F,
     row: &ValueList,
-    buffer: &mut Bytes,
-    out: &mut S,
+    target: &mut Target,
+    buffers: &mut Buffers,
+    stage: &mut G,
 ) -> Result<(), TakeFault>
     ensures text { OnOk result ((fresh : Bool) (names : List (List ℕ)) (rows : List (List Value)) (start : Option (List ℕ))
-        → IsUnderWay (F.has_text shape.old fresh names rows) start (S.written out.old) buffer.old
-        → IsUnderWay (F.has_text shape.new fresh names (rows ++ row.now ∷ [])) start (S.written out.new) buffer.new) }
+        → IsUnderWay (F.has_text shape.old fresh names rows) start (G.state stage.old).written buffers.old.held
+        → IsUnderWay (F.has_text shape.new fresh names (rows ++ row.now ∷ [])) start (G.state stage.new).written buffers.new.held) }
     ensures front { OnErr result ((fresh : Bool) (names : List (List ℕ)) (rows more : List (List Value)) (start : Option (List ℕ))
-        → IsUnderWay (F.has_text shape.old fresh names rows) start (S.written out.old) buffer.old
-        → GainsSome start (S.written out.new) (F.text shape.old fresh names (rows ++ (row.now ∷ more)))) }
+        → IsUnderWay (F.has_text shape.old fresh names rows) start (G.state stage.old).written buffers.old.held
+        → GainsSome start (G.state stage.new).written (F.text shape.old fresh names (rows ++ (row.now ∷ more)))) }
     ensures format { F.text shape.new ≡ F.text shape.old }
-    ensures small { OnOk result (length buffer.new < 4096) }
-    ensures later { S.faults out.old ≤ S.faults out.new }
-    ensures failed { IsErrOf result TakeFault.Failed → Rose (S.faults out.old) (S.faults out.new) }
+    ensures small { OnOk result (length buffers.new.held < 65536) }
+    ensures later { G.faults stage.old ≤ G.faults stage.new }
+    ensures failed { IsErrOf result TakeFault.Failed → Rose (G.faults stage.old) (G.faults stage.new) }
 {
-    let Ok(()) = shape.row(row, buffer) else {
+    let Ok(()) = shape.row(row, &mut buffers.held) else {
         return Err(TakeFault::Memory);
     };
-    match flush_full(out, buffer) {
-        Ok(()) => Ok(()),
-        Err(_) => Err(TakeFault::Failed),
-    }
+    put_full(target, buffers, stage)?;
+    Ok(())
 }

@@ -7,18 +7,18 @@ use crate::output::put_row;
 use crate::{Picker, Writer};
 use line_input::{Columns, Fields};
 use log_reading::{TakeFault, Taker};
-use lp_outside::{Name, Sink};
+use lp_outside::{Name, Stage};
 use output_formats::Shape;
 use std::alloc::Global;
 
-impl<F: Shape + Drop, P: Picker + Drop, S: Sink> Taker<S> for Writer<F, P> {
-    ghost takes = { λ a u xs b v. Writes F.text F.has_text P.picks a (S.written u) xs b (S.written v) };
+impl<F: Shape + Drop, P: Picker + Drop, G: Stage> Taker<G> for Writer<F, P> {
+    ghost takes = { λ a u xs b v. Writes F.text F.has_text P.picks a (G.state u).written xs b (G.state v).written };
 
-    ghost stops = { λ a u xs b v. Halts F.text F.has_text P.picks a (S.written u) xs (S.written v) };
+    ghost stops = { λ a u xs b v. Halts F.text F.has_text P.picks a (G.state u).written xs (G.state v).written };
 
     ghost count = { λ w. w.taken };
 
-    ghost faults = { S.faults };
+    ghost faults = { G.faults };
 
     fn take(
         &mut self,
@@ -28,7 +28,7 @@ impl<F: Shape + Drop, P: Picker + Drop, S: Sink> Taker<S> for Writer<F, P> {
         columns: &Option<Columns>,
         line: &[u8],
         fields: &Fields,
-        out: &mut S,
+        stage: &mut G,
     ) -> Result<(), TakeFault> {
         let picked = self.picker.pick(
             alloc,
@@ -47,7 +47,13 @@ impl<F: Shape + Drop, P: Picker + Drop, S: Sink> Taker<S> for Writer<F, P> {
                 Ok(())
             }
             Ok(true) => {
-                put_row(&mut self.shape, &self.row, &mut self.buffer, out)?;
+                put_row(
+                    &mut self.shape,
+                    &self.row,
+                    &mut self.target,
+                    &mut self.buffers,
+                    stage,
+                )?;
                 self.taken += 1;
                 self.output += 1;
                 Ok(())
@@ -55,13 +61,13 @@ impl<F: Shape + Drop, P: Picker + Drop, S: Sink> Taker<S> for Writer<F, P> {
         }
     }
 
-    ghost takes_none = { λ s w. writes_none F.text F.has_text P.picks s (S.written w) };
+    ghost takes_none = { λ s w. writes_none F.text F.has_text P.picks s (G.state w).written };
 
-    ghost takes_more = { λ a b c u v w. writes_more F.text F.has_text P.picks a b c (S.written u) (S.written v) (S.written w) };
+    ghost takes_more = { λ a b c u v w. writes_more F.text F.has_text P.picks a b c (G.state u).written (G.state v).written (G.state w).written };
 
-    ghost stops_here = { λ a b u v. halts_here F.text F.has_text P.picks F.begins a b (S.written u) (S.written v) };
+    ghost stops_here = { λ a b u v. halts_here F.text F.has_text P.picks F.begins a b (G.state u).written (G.state v).written };
 
-    ghost stops_later = { λ a b c u v w. halts_later F.text F.has_text P.picks a b (S.written u) (S.written v) (S.written w) };
+    ghost stops_later = { λ a b c u v w. halts_later F.text F.has_text P.picks a b (G.state u).written (G.state v).written (G.state w).written };
 
-    ghost stops_more = { λ a c u w. halts_more F.text F.has_text P.picks a (S.written u) (S.written w) };
+    ghost stops_more = { λ a c u w. halts_more F.text F.has_text P.picks a (G.state u).written (G.state w).written };
 }

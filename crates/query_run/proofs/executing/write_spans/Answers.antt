@@ -1,0 +1,89 @@
+use Rattle.std.proofs.Common.{[], List, ℕ, ap, sym, ◌∙◌, subst}
+use Rattle.lp_model.specs.Outside.{Folder, Gains, GainsSome}
+use Rattle.query_run.specs.Output.{IsUnderWay}
+use Rattle.query_run.specs.Rows.{picked}
+use Rattle.log_reading.specs.Spans.{AreKept, spans_found, TakesSpans}
+use Rattle.query_run.specs.Writer.{Writes, Halts}
+use Rattle.query_run.specs.declared.writer.Writer.{Writer}
+use Rattle.lp_model.proofs.Results.{on_err}
+use Rattle.query_run.proofs.WholeRun.{told_all, told_map, gains_none, front_stopped, at_end}
+use Rattle.query_run.proofs.executing.write_spans.Goals as goal
+
+pub returns-in_default-clause-front : goal.returns-in_default-clause-front
+returns-in_default-clause-front g c =
+    let w = (g.G.Stage.state c.args.stage.now).written in
+    let text : Folder → List ℕ = λ folder. g.F.Shape.text c.args.shape c.args.fresh c.args.names.now (picked (g.P.Picker.picks c.args.picker) (spans_found (g.R.LineReader.format c.args.reader.now) c.args.waits folder c.args.spans.now)) in
+    told_all _ (λ folder. AreKept (g.R.LineReader.format c.args.reader.now) c.args.waits c.args.spans.now folder → GainsSome w w (text folder)) (λ folder kept. gains_none w (text folder))
+
+pub returns-in_default-zeros-clause-front : goal.returns-in_default-zeros-clause-front
+returns-in_default-zeros-clause-front g c =
+    let w = (g.G.Stage.state c.args.stage.now).written in
+    let text : Folder → List ℕ = λ folder. g.F.Shape.text c.args.shape c.args.fresh c.args.names.now (picked (g.P.Picker.picks c.args.picker) (spans_found (g.R.LineReader.format c.args.reader.now) c.args.waits folder c.args.spans.now)) in
+    told_all _ (λ folder. AreKept (g.R.LineReader.format c.args.reader.now) c.args.waits c.args.spans.now folder → GainsSome w w (text folder)) (λ folder kept. gains_none w (text folder))
+
+pub returns-in_err-take_spans-clause-front : goal.returns-in_err-take_spans-clause-front
+returns-in_err-take_spans-clause-front g c =
+    let u = (g.G.Stage.state c.args.stage.now).written in
+    let page = c.first_page-page.result in
+    let same = c.first_page-page.ensures.taker in
+    let made = c.in-Ok.ensures in
+    let format = ap (λ w. g.F.Shape.text w.shape) same ∙ made.format in
+    let picker = ap (λ w. w.picker) same ∙ made.picker in
+    let format_of = g.R.LineReader.format c.args.reader.now in
+    let Kept : Folder → Type 0 = λ folder. AreKept format_of c.args.waits c.args.spans.now folder in
+    let text : Folder → List ℕ = λ folder. g.F.Shape.text c.args.shape c.args.fresh c.args.names.now (picked (g.P.Picker.picks c.args.picker) (spans_found format_of c.args.waits folder c.args.spans.now)) in
+    let under_way = subst (λ (w : Writer g.row.F.Denot g.row.P.Denot). IsUnderWay (g.F.Shape.has_text w.shape c.args.fresh c.args.names.now []) u u w.buffers.held) (sym same) (made.text u) in
+    on_err _ c.from_residual.result (told_map _ (λ folder. Kept folder → Halts g.F.Shape.text g.F.Shape.has_text g.P.Picker.picks page.taker u (spans_found format_of c.args.waits folder c.args.spans.now) (g.G.Stage.state c.take_spans.new.out).written) (λ folder. Kept folder → GainsSome u (g.G.Stage.state c.take_spans.new.out).written (text folder)) (λ folder stopped kept.
+    front_stopped g.F.Shape.text g.F.Shape.has_text g.P.Picker.picks page.taker c.args.shape c.args.picker c.args.fresh c.args.names.now (spans_found (g.R.LineReader.format c.args.reader.now) c.args.waits folder c.args.spans.now) u (g.G.Stage.state c.take_spans.new.out).written format picker under_way (stopped kept))
+    c.in_err-take_spans.ensures.stops)
+
+pub returns-in-Ok-finish-clause-text : goal.returns-in-Ok-finish-clause-text
+returns-in-Ok-finish-clause-text g c =
+    let u = (g.G.Stage.state c.args.stage.now).written in
+    let page = c.first_page-page.result in
+    let same = c.first_page-page.ensures.taker in
+    let made = c.in-Ok.ensures in
+    let format = ap (λ w. g.F.Shape.text w.shape) same ∙ made.format in
+    let picker = ap (λ w. w.picker) same ∙ made.picker in
+    let format_of = g.R.LineReader.format c.args.reader.now in
+    let Kept : Folder → Type 0 = λ folder. AreKept format_of c.args.waits c.args.spans.now folder in
+    let text : Folder → List ℕ = λ folder. g.F.Shape.text c.args.shape c.args.fresh c.args.names.now (picked (g.P.Picker.picks c.args.picker) (spans_found format_of c.args.waits folder c.args.spans.now)) in
+    let under_way = subst (λ (w : Writer g.row.F.Denot g.row.P.Denot). IsUnderWay (g.F.Shape.has_text w.shape c.args.fresh c.args.names.now []) u u w.buffers.held) (sym same) (made.text u) in
+    told_map _ (λ folder. Kept folder → TakesSpans (λ a u' xs b v. Writes g.F.Shape.text g.F.Shape.has_text g.P.Picker.picks a (g.G.Stage.state u').written xs b (g.G.Stage.state v).written) format_of c.args.waits folder c.args.spans.now page c.take_spans.new.page c.args.stage.now c.take_spans.new.out) (λ folder. Kept folder → Gains u (g.G.Stage.state c.finish.new.stage).written (text folder)) (λ folder took kept.
+    at_end g.F.Shape.text g.F.Shape.has_text g.P.Picker.picks (λ t. Gains u (g.G.Stage.state c.finish.new.stage).written t) page.taker c.take_spans.new.page.taker c.args.shape c.args.picker c.args.fresh c.args.names.now (spans_found (g.R.LineReader.format c.args.reader.now) c.args.waits folder c.args.spans.now) u (g.G.Stage.state c.take_spans.new.out).written format picker under_way ((took kept).done)
+    (λ rows. c.in-Ok-finish.ensures.text c.args.fresh c.args.names.now rows u))
+    c.in_ok-take_spans.ensures.takes
+
+pub returns-in-Err-Memory-clause-front : goal.returns-in-Err-Memory-clause-front
+returns-in-Err-Memory-clause-front g c =
+    let u = (g.G.Stage.state c.args.stage.now).written in
+    let page = c.first_page-page.result in
+    let same = c.first_page-page.ensures.taker in
+    let made = c.in-Ok.ensures in
+    let format = ap (λ w. g.F.Shape.text w.shape) same ∙ made.format in
+    let picker = ap (λ w. w.picker) same ∙ made.picker in
+    let format_of = g.R.LineReader.format c.args.reader.now in
+    let Kept : Folder → Type 0 = λ folder. AreKept format_of c.args.waits c.args.spans.now folder in
+    let text : Folder → List ℕ = λ folder. g.F.Shape.text c.args.shape c.args.fresh c.args.names.now (picked (g.P.Picker.picks c.args.picker) (spans_found format_of c.args.waits folder c.args.spans.now)) in
+    let under_way = subst (λ (w : Writer g.row.F.Denot g.row.P.Denot). IsUnderWay (g.F.Shape.has_text w.shape c.args.fresh c.args.names.now []) u u w.buffers.held) (sym same) (made.text u) in
+    told_map _ (λ folder. Kept folder → TakesSpans (λ a u' xs b v. Writes g.F.Shape.text g.F.Shape.has_text g.P.Picker.picks a (g.G.Stage.state u').written xs b (g.G.Stage.state v).written) format_of c.args.waits folder c.args.spans.now page c.take_spans.new.page c.args.stage.now c.take_spans.new.out) (λ folder. Kept folder → GainsSome u (g.G.Stage.state c.finish.new.stage).written (text folder)) (λ folder took kept.
+    at_end g.F.Shape.text g.F.Shape.has_text g.P.Picker.picks (λ t. GainsSome u (g.G.Stage.state c.finish.new.stage).written t) page.taker c.take_spans.new.page.taker c.args.shape c.args.picker c.args.fresh c.args.names.now (spans_found (g.R.LineReader.format c.args.reader.now) c.args.waits folder c.args.spans.now) u (g.G.Stage.state c.take_spans.new.out).written format picker under_way ((took kept).done)
+    (λ rows. c.in-Err-Memory.ensures.front c.args.fresh c.args.names.now rows u))
+    c.in_ok-take_spans.ensures.takes
+
+pub returns-clause-front : goal.returns-clause-front
+returns-clause-front g c =
+    let u = (g.G.Stage.state c.args.stage.now).written in
+    let page = c.first_page-page.result in
+    let same = c.first_page-page.ensures.taker in
+    let made = c.in-Ok.ensures in
+    let format = ap (λ w. g.F.Shape.text w.shape) same ∙ made.format in
+    let picker = ap (λ w. w.picker) same ∙ made.picker in
+    let format_of = g.R.LineReader.format c.args.reader.now in
+    let Kept : Folder → Type 0 = λ folder. AreKept format_of c.args.waits c.args.spans.now folder in
+    let text : Folder → List ℕ = λ folder. g.F.Shape.text c.args.shape c.args.fresh c.args.names.now (picked (g.P.Picker.picks c.args.picker) (spans_found format_of c.args.waits folder c.args.spans.now)) in
+    let under_way = subst (λ (w : Writer g.row.F.Denot g.row.P.Denot). IsUnderWay (g.F.Shape.has_text w.shape c.args.fresh c.args.names.now []) u u w.buffers.held) (sym same) (made.text u) in
+    told_map _ (λ folder. Kept folder → TakesSpans (λ a u' xs b v. Writes g.F.Shape.text g.F.Shape.has_text g.P.Picker.picks a (g.G.Stage.state u').written xs b (g.G.Stage.state v).written) format_of c.args.waits folder c.args.spans.now page c.take_spans.new.page c.args.stage.now c.take_spans.new.out) (λ folder. Kept folder → GainsSome u (g.G.Stage.state c.finish.new.stage).written (text folder)) (λ folder took kept.
+    at_end g.F.Shape.text g.F.Shape.has_text g.P.Picker.picks (λ t. GainsSome u (g.G.Stage.state c.finish.new.stage).written t) page.taker c.take_spans.new.page.taker c.args.shape c.args.picker c.args.fresh c.args.names.now (spans_found (g.R.LineReader.format c.args.reader.now) c.args.waits folder c.args.spans.now) u (g.G.Stage.state c.take_spans.new.out).written format picker under_way ((took kept).done)
+    (λ rows. c.in-Err-Failed.ensures.front c.args.fresh c.args.names.now rows u))
+    c.in_ok-take_spans.ensures.takes
