@@ -1,0 +1,34 @@
+use Rattle.std.proofs.Common.{true, false}
+use Rattle.log_reading.specs.Spans.{AreKept}
+use Rattle.output_formats.specs.Headers.{csv_of}
+use Rattle.query_types.specs.Planned.{planned_in}
+use Rattle.input_tables.specs.Tables.{lines_of, readings_of}
+use Rattle.plan_run.specs.Rows.{plan_rows}
+use Rattle.plan_run.proofs.Sizes.{told_none}
+use Rattle.plan_run.proofs.Texts.{text_for}
+use Rattle.plan_run.proofs.formats.run_plan.Goals as goal
+
+pub returns-in-Err-clause-front : goal.returns-in-Err-clause-front
+returns-in-Err-clause-front g c =
+    told_none (g.L.Logs.folder c.args.logs.now) (g.G.Stage.state c.args.stage.now).written (λ folder. AreKept (lines_of c.args.format) false c.args.spans.now folder)
+    (λ folder. csv_of c.args.headers true c.args.plan.names (plan_rows (readings_of c.args.format) (planned_in c.args.plan) (lines_of c.args.format) folder c.args.spans.now))
+
+pub returns-in-IisW3c-clause-text : goal.returns-in-IisW3c-clause-text
+returns-in-IisW3c-clause-text g c =
+    text_for c.run_reader.result (g.L.Logs.folder c.run_reader.new.logs) c.args.format c.args.spans.now (g.G.Stage.state c.args.stage.now).written (g.G.Stage.state c.run_reader.new.stage).written
+    c.args.plan.names (planned_in c.args.plan) c.new-shape.result c.args.headers c.in-Ok.readings (readings_of c.args.format) c.new-shape.ensures c.in-Ok.ensures c.run_reader.ensures.text
+
+pub returns-in-Ncsa-clause-text : goal.returns-in-Ncsa-clause-text
+returns-in-Ncsa-clause-text g c =
+    text_for c.run_reader-in-Ncsa.result (g.L.Logs.folder c.run_reader-in-Ncsa.new.logs) c.args.format c.args.spans.now (g.G.Stage.state c.args.stage.now).written (g.G.Stage.state c.run_reader-in-Ncsa.new.stage).written
+    c.args.plan.names (planned_in c.args.plan) c.new-shape.result c.args.headers c.in-Ok.readings (readings_of c.args.format) c.new-shape.ensures c.in-Ok.ensures c.run_reader-in-Ncsa.ensures.text
+
+pub returns-in-TextWord-clause-text : goal.returns-in-TextWord-clause-text
+returns-in-TextWord-clause-text g c =
+    text_for c.run_reader-in-TextWord.result (g.L.Logs.folder c.run_reader-in-TextWord.new.logs) c.args.format c.args.spans.now (g.G.Stage.state c.args.stage.now).written (g.G.Stage.state c.run_reader-in-TextWord.new.stage).written
+    c.args.plan.names (planned_in c.args.plan) c.new-shape.result c.args.headers c.in-Ok.readings (readings_of c.args.format) c.new-shape.ensures c.in-Ok.ensures c.run_reader-in-TextWord.ensures.text
+
+pub returns-in-Csv-clause-text : goal.returns-in-Csv-clause-text
+returns-in-Csv-clause-text g c =
+    text_for c.run_reader-in-Csv.result (g.L.Logs.folder c.run_reader-in-Csv.new.logs) c.args.format c.args.spans.now (g.G.Stage.state c.args.stage.now).written (g.G.Stage.state c.run_reader-in-Csv.new.stage).written
+    c.args.plan.names (planned_in c.args.plan) c.new-shape.result c.args.headers c.in-Ok.readings (readings_of c.args.format) c.new-shape.ensures c.in-Ok.ensures c.run_reader-in-Csv.ensures.text

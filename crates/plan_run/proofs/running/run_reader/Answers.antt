@@ -1,0 +1,28 @@
+use Rattle.lp_model.proofs.Growing.{OnlyGrow-refl}
+use Rattle.log_reading.specs.Spans.{AreKept}
+use Rattle.query_types.specs.Planned.{planned_in}
+use Rattle.input_tables.specs.Tables.{lines_of}
+use Rattle.plan_run.specs.Rows.{plan_rows}
+use Rattle.plan_run.proofs.Sizes.{has_room, told_none}
+use Rattle.std.proofs.Common.{List, ℕ, true, false, OnOk, subst}
+use Rattle.lp_model.specs.Outside.{Told, Gains}
+use Rattle.lp_model.specs.Reading.{Format}
+use Rattle.plan_run.proofs.running.run_reader.Goals as goal
+
+pub write_spans-requires-clause-room : goal.write_spans-requires-clause-room
+write_spans-requires-clause-room g c = has_room c.args.spans.now c.requires.spans c.requires.few
+
+pub returns-in-Err-clause-grows : goal.returns-in-Err-clause-grows
+returns-in-Err-clause-grows g c = OnlyGrow-refl _
+
+pub returns-in-Err-clause-front : goal.returns-in-Err-clause-front
+returns-in-Err-clause-front g c =
+    let format = lines_of c.args.format in
+    told_none (g.L.Logs.folder c.args.logs.now) (g.G.Stage.state c.args.stage.now).written (λ folder. AreKept format false c.args.spans.now folder)
+    (λ folder. g.F.Shape.text c.args.shape true c.args.plan.names (plan_rows c.args.readings (planned_in c.args.plan) format folder c.args.spans.now))
+
+pub returns-clause-text : goal.returns-clause-text
+returns-clause-text g c =
+    let Of : Format → List (List ℕ) → Type 0 = λ format names. OnOk c.write_spans.result (Told (g.L.Logs.folder c.write_spans.new.logs) (λ folder. AreKept format false c.args.spans.now folder
+    → Gains (g.G.Stage.state c.args.stage.now).written (g.G.Stage.state c.write_spans.new.stage).written (g.F.Shape.text c.args.shape true names (plan_rows c.args.readings (planned_in c.args.plan) format folder c.args.spans.now)))) in
+    subst (λ (format : Format). Of format c.args.plan.names) c.requires.reads (subst (λ (names : List (List ℕ)). Of (g.R.LineReader.format c.args.reader.now) names) c.in-Ok.ensures c.write_spans.ensures.text)

@@ -1,0 +1,76 @@
+// A plan over spans, by their format.
+ghost use Rattle.std.specs.Prelude.{◌≡◌, ◌≤◌, ◌+◌, true, false, length, option_map, OnOk, OnErr, IfOk, IsErrOf};
+ghost use Rattle.lp_model.specs.Outside.{Rose, OnlyGrow, Told, bytes_in, Gains, GainsSome};
+ghost use Rattle.log_reading.specs.Spans.{AllSpans, IsSpan, AreKept, spans_found, spans_bad, spans_size};
+ghost use Rattle.output_formats.specs.Headers.{csv_of};
+ghost use Rattle.query_types.specs.Conditions.{filter_of};
+ghost use Rattle.query_types.specs.Planned.{Covers, planned_in};
+ghost use Rattle.input_tables.specs.Tables.{lines_of, columns_of, readings_of};
+ghost use Rattle.plan_run.specs.Rows.{plan_rows};
+
+use crate::running::run_reader;
+use command_words::InputFormat;
+use input_tables::readings_of;
+use line_input::{TextLines, TextWords};
+use log_reading::{RunFault, Span};
+use lp_outside::{Logs, Stage};
+use ncsa_input::Ncsa;
+use output_formats::{CsvOut, Headers};
+use query_run::{Counts, Target};
+use query_types::Plan;
+use std::alloc::Global;
+use w3c_input::IisW3c;
+
+/// Writes the CSV text of a plan's rows over the records of spans, which are read in a format and joined in order.
+pub fn run_plan<L: Logs, G: Stage>(
+    alloc: Global,
+    format: InputFormat,
+    headers: Headers,
+    plan: Plan,
+    logs: &mut L,
+    spans: &[Span],
+    target: Target,
+    stage: &mut G,
+) -> Result<Counts, RunFault>
+    requires covers { Covers plan.used plan.items (option_map filter_of plan.condition) }
+    requires size { length plan.used ≡ length (columns_of format) }
+    requires few { length spans.now ≤ 100000 }
+    requires spans { AllSpans spans.now IsSpan }
+    requires there { Told (L.folder logs.old) (λ folder. AllSpans spans.now (λ span. span.listed ≤ length (bytes_in folder span.name))) }
+    ensures grows { OnlyGrow (L.folder logs.old) (L.folder logs.new) }
+    ensures text { OnOk result (Told (L.folder logs.new) (λ folder. AreKept (lines_of format) false spans.now folder
+        → Gains (G.state stage.old).written (G.state stage.new).written (csv_of headers true plan.names (plan_rows (readings_of format) (planned_in plan) (lines_of format) folder spans.now)))) }
+    ensures processed { IfOk result (λ counts. Told (L.folder logs.new) (λ folder. AreKept (lines_of format) false spans.now folder
+        → counts.processed ≡ length (spans_found (lines_of format) false folder spans.now))) }
+    ensures output { IfOk result (λ counts. Told (L.folder logs.new) (λ folder. AreKept (lines_of format) false spans.now folder
+        → counts.output ≡ length (plan_rows (readings_of format) (planned_in plan) (lines_of format) folder spans.now))) }
+    ensures bad { IfOk result (λ counts. Told (L.folder logs.new) (λ folder. AreKept (lines_of format) false spans.now folder
+        → counts.bad ≡ length (spans_bad (lines_of format) false folder spans.now))) }
+    ensures front { OnErr result (Told (L.folder logs.new) (λ folder. AreKept (lines_of format) false spans.now folder
+        → GainsSome (G.state stage.old).written (G.state stage.new).written (csv_of headers true plan.names (plan_rows (readings_of format) (planned_in plan) (lines_of format) folder spans.now)))) }
+    ensures given { L.given logs.new ≤ L.given logs.old + spans_size spans.now }
+    ensures later_logs { L.faults logs.old ≤ L.faults logs.new }
+    ensures logs { IsErrOf result RunFault.Logs → Rose (L.faults logs.old) (L.faults logs.new) }
+    ensures later { G.faults stage.old ≤ G.faults stage.new }
+    ensures stage { IsErrOf result RunFault.Output → Rose (G.faults stage.old) (G.faults stage.new) }
+{
+    let readings = match readings_of(alloc, format) {
+        Ok(readings) => readings,
+        Err(_) => return Err(RunFault::Memory),
+    };
+    let shape = CsvOut::new(alloc, headers);
+    match format {
+        InputFormat::IisW3c => run_reader(
+            alloc, &IisW3c, format, readings, plan, logs, spans, shape, target, stage,
+        ),
+        InputFormat::Ncsa => run_reader(
+            alloc, &Ncsa, format, readings, plan, logs, spans, shape, target, stage,
+        ),
+        InputFormat::TextWord => run_reader(
+            alloc, &TextWords, format, readings, plan, logs, spans, shape, target, stage,
+        ),
+        InputFormat::Csv | InputFormat::Tsv | InputFormat::TextLine => run_reader(
+            alloc, &TextLines, format, readings, plan, logs, spans, shape, target, stage,
+        ),
+    }
+}

@@ -1,0 +1,66 @@
+// A plan over spans, read by any reader of a format.
+ghost use Rattle.std.specs.Prelude.{◌≡◌, ◌≤◌, ◌+◌, true, false, length, option_map, OnOk, OnErr, IfOk, IsErrOf};
+ghost use Rattle.lp_model.specs.Outside.{Rose, OnlyGrow, Told, bytes_in, Gains, GainsSome};
+ghost use Rattle.log_reading.specs.Spans.{AllSpans, IsSpan, AreKept, spans_found, spans_bad, spans_size};
+ghost use Rattle.query_types.specs.Conditions.{filter_of};
+ghost use Rattle.query_types.specs.Planned.{Covers, planned_in};
+ghost use Rattle.input_tables.specs.Tables.{lines_of};
+ghost use Rattle.plan_run.specs.Rows.{plan_rows};
+
+use command_words::InputFormat;
+use line_input::LineReader;
+use log_reading::{RunFault, Span, TookList};
+use lp_outside::{Logs, Stage};
+use lp_values::copy_texts;
+use output_formats::Shape;
+use plan_rows::{PlanPicker, ReadingList};
+use query_run::{Counts, Target, write_spans};
+use query_types::Plan;
+use std::alloc::Global;
+
+/// Writes the output rows of a plan over the records of spans, joined in order, by a reader of their format.
+pub fn run_reader<R: LineReader, L: Logs, F: Shape + Drop, G: Stage>(
+    alloc: Global,
+    reader: &R,
+    format: InputFormat,
+    readings: ReadingList,
+    plan: Plan,
+    logs: &mut L,
+    spans: &[Span],
+    shape: F,
+    target: Target,
+    stage: &mut G,
+) -> Result<Counts, RunFault>
+    requires reads { R.format reader.now ≡ lines_of format }
+    requires covers { Covers plan.used plan.items (option_map filter_of plan.condition) }
+    requires fits { length readings + 2 ≤ length plan.used }
+    requires few { length spans.now ≤ 100000 }
+    requires spans { AllSpans spans.now IsSpan }
+    requires there { Told (L.folder logs.old) (λ folder. AllSpans spans.now (λ span. span.listed ≤ length (bytes_in folder span.name))) }
+    ensures grows { OnlyGrow (L.folder logs.old) (L.folder logs.new) }
+    ensures text { OnOk result (Told (L.folder logs.new) (λ folder. AreKept (lines_of format) false spans.now folder
+        → Gains (G.state stage.old).written (G.state stage.new).written (F.text shape true plan.names (plan_rows readings (planned_in plan) (lines_of format) folder spans.now)))) }
+    ensures processed { IfOk result (λ counts. Told (L.folder logs.new) (λ folder. AreKept (lines_of format) false spans.now folder
+        → counts.processed ≡ length (spans_found (lines_of format) false folder spans.now))) }
+    ensures output { IfOk result (λ counts. Told (L.folder logs.new) (λ folder. AreKept (lines_of format) false spans.now folder
+        → counts.output ≡ length (plan_rows readings (planned_in plan) (lines_of format) folder spans.now))) }
+    ensures bad { IfOk result (λ counts. Told (L.folder logs.new) (λ folder. AreKept (lines_of format) false spans.now folder
+        → counts.bad ≡ length (spans_bad (lines_of format) false folder spans.now))) }
+    ensures front { OnErr result (Told (L.folder logs.new) (λ folder. AreKept (lines_of format) false spans.now folder
+        → GainsSome (G.state stage.old).written (G.state stage.new).written (F.text shape true plan.names (plan_rows readings (planned_in plan) (lines_of format) folder spans.now)))) }
+    ensures given { L.given logs.new ≤ L.given logs.old + spans_size spans.now }
+    ensures later_logs { L.faults logs.old ≤ L.faults logs.new }
+    ensures logs { IsErrOf result RunFault.Logs → Rose (L.faults logs.old) (L.faults logs.new) }
+    ensures later { G.faults stage.old ≤ G.faults stage.new }
+    ensures stage { IsErrOf result RunFault.Output → Rose (G.faults stage.old) (G.faults stage.new) }
+{
+    let names = match copy_texts(alloc, &plan.names) {
+        Ok(names) => names,
+        Err(_) => return Err(RunFault::Memory),
+    };
+    let picker = PlanPicker { plan, readings };
+    let mut took = TookList::new(alloc);
+    write_spans(
+        alloc, reader, false, logs, spans, &names, true, shape, picker, target, &mut took, stage,
+    )
+}
