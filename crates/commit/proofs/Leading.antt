@@ -3,7 +3,7 @@ use Rattle.std.proofs.Common.{◌≡◌, ◌≢◌, ℕ, ◌+◌, ◌≤◌, ◌
 use Rattle.std.proofs.lemmas.List.{take_min}
 use Rattle.ledger_model.specs.Entries.{Output}
 use Rattle.commit.specs.Stage.{Frame, IsFrame, HasNoFrame, IsChain, text_of, IsStaged, Leads, BreaksStage}
-use Rattle.commit.proofs.Frames.{one_frame}
+use Rattle.commit.specs.StagedTexts.{one_frame}
 
 -- one frame more
 pub leads_more : (stage : List ℕ) (index : ℕ) (fs : List Frame) (last size place end : ℕ) (f : Frame) → Leads stage index fs last size place end → place ≡ f.place → end ≡ f.offset + length f.bytes → IsFrame stage index f

@@ -1,7 +1,11 @@
 // Runs over a disk in memory that is stopped at each of its calls.
 use super::*;
-use ledger::{End, LastEntry, LedgerRefused, Part2, walk};
+use ledger::{
+    End, Entry, EntrySpan, EntrySpanList, InputText, LastEntry, LedgerRefused, ListValues, Output,
+    OutputList, Part2, walk,
+};
 use lp_outside::{Disk, Mark, Name};
+use lp_values::{Bytes, Part, Real, Stamp, Text, TextList, Value, ValueList};
 use memory_outside::{MemoryDisk, Torn, TornList};
 use std::alloc::Global;
 use std::test::Fail;
@@ -97,6 +101,89 @@ fn payload_of(
     Ok(payload)
 }
 
+// A text of an entry.
+fn text(alloc: Global, of: &str) -> Result<Text, Fail> {
+    Ok(Text::from_str(alloc, of)?)
+}
+
+fn input_text(alloc: Global) -> Result<InputText, Fail> {
+    let of = "-i:TEXTLINE -headerRow:ON -iSeparator:tab -iRotation:NAMES";
+    match InputText::read(text(alloc, of)?) {
+        Some(input) => Ok(input),
+        None => Err(Fail::from("no input text")),
+    }
+}
+
+fn words(alloc: Global) -> Result<TextList, Fail> {
+    let mut words = TextList::new(alloc);
+    words.push(text(alloc, "-i:TEXTLINE")?)?;
+    words.push(text(alloc, "-iCheckpoint:cp")?)?;
+    words.push(text(alloc, "-fileMode:0")?)?;
+    Ok(words)
+}
+
+fn spans(alloc: Global, from: u8, to: u8, lines: u8) -> Result<EntrySpanList, Fail> {
+    let mut standing = Bytes::new(alloc);
+    standing.add(&[lines, 0, 0, 0, 0, 0, 0, 0, 0])?;
+    let mut spans = EntrySpanList::new(alloc);
+    spans.push(EntrySpan {
+        identity: named("a.log")?,
+        from: u64::from(from),
+        to: u64::from(to),
+        standing,
+    })?;
+    Ok(spans)
+}
+
+fn outputs_of(alloc: Global, outputs: &[Written]) -> Result<OutputList, Fail> {
+    let mut list = OutputList::new(alloc);
+    let mut place: u8 = 0;
+    for output in outputs {
+        list.push(Output {
+            name: named(output.name)?,
+            base: u64::from(output.base),
+            mark: Mark {
+                last: u64::from(place),
+                length: output.text.len() as u64,
+            },
+        })?;
+        place = place
+            .wrapping_add(24)
+            .wrapping_add(short(output.text.len()));
+    }
+    Ok(list)
+}
+
+// The entry of a run that read lines of `a.log` from one place up to another.
+fn entry_of(
+    alloc: Global,
+    from: u8,
+    to: u8,
+    lines: u8,
+    outputs: &[Written],
+) -> Result<Entry, Fail> {
+    let input = input_text(alloc)?;
+    let words = words(alloc)?;
+    let query = text(alloc, "SELECT Index, Text INTO o.csv FROM a.log")?;
+    let spans = spans(alloc, from, to, lines)?;
+    let list = outputs_of(alloc, outputs)?;
+    Ok(Entry {
+        form: 1,
+        moment: 0,
+        input,
+        words,
+        query,
+        template: Bytes::new(alloc),
+        spans,
+        lists: ListValues::new(alloc),
+        staged: u64::from(staged_by(outputs)),
+        outputs: list,
+        processed: 1,
+        output: 1,
+        bad: 0,
+    })
+}
+
 // The files of a commit.
 #[derive(Drop)]
 struct Names {
@@ -128,23 +215,18 @@ fn run(
     disk: &mut MemoryDisk,
     names: &Names,
     outputs: &[Written],
-    payload: &[u8],
+    entry: &Entry,
 ) -> Result<(), CommitFault> {
-    if payload.len() > 4096 {
+    let size = entry.size();
+    if size > 4096 {
         return Err(CommitFault::DiskFault);
     }
     let place = settle_disk(disk, &names.ledger, &names.stage)?;
     start(disk, &names.stage)?;
     put_all(disk, &names.stage, outputs)?;
-    seal(disk, &names.ledger, &names.stage, place, payload)?;
+    seal(disk, &names.ledger, &names.stage, place, entry)?;
     open_gate(disk, &names.ledger, place)?;
-    finish(
-        disk,
-        &names.ledger,
-        &names.stage,
-        place,
-        payload.len() as u64,
-    )
+    finish(disk, &names.ledger, &names.stage, place, size)
 }
 
 const FIRST: [Written<'static>; 1] = [Written {
@@ -162,8 +244,8 @@ const SECOND: [Written<'static>; 1] = [Written {
 // The disk after the first run.
 fn after_one(alloc: Global) -> Result<MemoryDisk, Fail> {
     let mut disk = MemoryDisk::new(alloc);
-    let payload = payload_of(alloc, 0, 3, 1, &FIRST)?;
-    run(&mut disk, &two_names()?, &FIRST, &payload)?;
+    let entry = entry_of(alloc, 0, 3, 1, &FIRST)?;
+    run(&mut disk, &two_names()?, &FIRST, &entry)?;
     Ok(disk)
 }
 
@@ -257,12 +339,12 @@ const TORN: [Torn; 5] = [
 #[test]
 fn a_run_that_stops(rt: HostRuntime) -> Result<(), Fail> {
     let (names, output) = (two_names()?, named("o.csv")?);
-    let payload = payload_of(rt.alloc(), 3, 5, 2, &SECOND)?;
+    let entry = entry_of(rt.alloc(), 3, 5, 2, &SECOND)?;
     for torn in TORN {
         for call in 0..64 {
             let mut disk = after_one(rt.alloc())?;
             disk.stop_after(call);
-            let stopped = run(&mut disk, &names, &SECOND, &payload).is_err();
+            let stopped = run(&mut disk, &names, &SECOND, &entry).is_err();
             disk.crash(&torn_list(rt.alloc(), torn)?)?;
             settle_disk(&mut disk, &names.ledger, &names.stage)?;
             let end = walk(&mut disk, &names.ledger)?;
@@ -270,7 +352,7 @@ fn a_run_that_stops(rt: HostRuntime) -> Result<(), Fail> {
             assert!(rt; call < 63 || !stopped);
             if end.entries == 1 {
                 assert_eq!(rt; disk.bytes(&output), b"Index,Text\n1,a\n".as_slice());
-                run(&mut disk, &names, &SECOND, &payload)?;
+                run(&mut disk, &names, &SECOND, &entry)?;
             }
             assert_eq!(rt; disk.bytes(&output), b"Index,Text\n1,a\n2,b\n".as_slice());
         }
@@ -300,12 +382,12 @@ const THREE: [Written<'static>; 3] = [
 #[test]
 fn a_settling_that_stops(rt: HostRuntime) -> Result<(), Fail> {
     let names = two_names()?;
-    let payload = payload_of(rt.alloc(), 0, 3, 1, &THREE)?;
+    let entry = entry_of(rt.alloc(), 0, 3, 1, &THREE)?;
     for torn in TORN {
         for call in 0..64 {
             let mut disk = MemoryDisk::new(rt.alloc());
             disk.stop_after(call);
-            let stopped = run(&mut disk, &names, &THREE, &payload).is_err();
+            let stopped = run(&mut disk, &names, &THREE, &entry).is_err();
             assert!(rt; call < 63 || !stopped);
             disk.crash(&torn_list(rt.alloc(), torn)?)?;
             disk.stop_after(call / 2);
@@ -314,12 +396,55 @@ fn a_settling_that_stops(rt: HostRuntime) -> Result<(), Fail> {
             settle_disk(&mut disk, &names.ledger, &names.stage)?;
             if walk(&mut disk, &names.ledger)?.entries == 0 {
                 assert!(rt; stopped);
-                run(&mut disk, &names, &THREE, &payload)?;
+                run(&mut disk, &names, &THREE, &entry)?;
             }
             for output in THREE {
                 assert_eq!(rt; disk.bytes(&named(output.name)?), output.text);
             }
         }
     }
+    Ok(())
+}
+
+// A list with a value of each kind, and a text that is longer than what waits for others.
+fn many_values(alloc: Global) -> Result<ValueList, Fail> {
+    let mut long = String::new(alloc);
+    for _index in 0..500 {
+        long.push_str("0123456789")?;
+    }
+    let mut values = ValueList::new(alloc);
+    values.push(Value::Null)?;
+    values.push(Value::Int(-2))?;
+    values.push(Value::Real(Real { millionths: 513 }))?;
+    values.push(Value::Text(text(alloc, "ab")?))?;
+    if let Some(stamp) = Stamp::new(86_400, Part::Date) {
+        values.push(Value::Stamp(stamp))?;
+    }
+    values.push(Value::Text(Text::from_string(long)))?;
+    Ok(values)
+}
+
+// What those values are in a ledger, up to the last text's bytes.
+const VALUES: &[u8] =
+    b"\x01\0\0\0\x06\0\0\0\0\0\0\0\0\x01\xFE\xFF\xFF\xFF\xFF\xFF\xFF\xFF\x02\x01\x02\0\0\0\0\0\0\x03\x02\0\0\0ab\x04\0\x80\x51\x01\0\0\0\0\0\x03\x88\x13\0\00123456789";
+
+#[test]
+fn an_entry_with_values(rt: HostRuntime) -> Result<(), Fail> {
+    let mut disk = MemoryDisk::new(rt.alloc());
+    let names = two_names()?;
+    let mut entry = entry_of(rt.alloc(), 0, 3, 1, &FIRST)?;
+    entry.lists.push(many_values(rt.alloc())?)?;
+    assert_eq!(rt; entry.size(), 5336);
+    let place = settle_disk(&mut disk, &names.ledger, &names.stage)?;
+    start(&mut disk, &names.stage)?;
+    put_all(&mut disk, &names.stage, &FIRST)?;
+    seal(&mut disk, &names.ledger, &names.stage, place, &entry)?;
+    open_gate(&mut disk, &names.ledger, place)?;
+    let end = walk(&mut disk, &names.ledger)?;
+    assert_eq!(rt; end.entries, 1);
+    assert_eq!(rt; end.pair, 16 + 10 + 5336);
+    let bytes = disk.bytes(&names.ledger);
+    let behind = bytes.get(240..).unwrap_or(&[]);
+    assert!(rt; behind.starts_with(VALUES));
     Ok(())
 }

@@ -1,6 +1,5 @@
 -- Outputs that stand in a payload are read again, for their names.
-use Rattle.std.proofs.Common.{◌≡◌, ◌≢◌, ◌⊎◌, inl, inr, ⊎_elim, ℕ, ◌+◌, ◌<◌, ◌≤◌, ◌^◌, List, [], ◌∷◌, ◌++◌, length, refl, sym, ◌∙◌, ap, subst, append_assoc, arith, Result, Ok, Err, Bool, true, false}
-use Rattle.std.specs.Bool.{MatchBool}
+use Rattle.std.proofs.Common.{◌≡◌, ◌≢◌, ℕ, ◌+◌, ◌<◌, ◌^◌, List, [], ◌∷◌, ◌++◌, length, refl, sym, ◌∙◌, ap, subst, append_assoc, arith, Result, Ok, Err, Bool, true, false}
 use Rattle.std.specs.Result.{MatchResult}
 use Rattle.std.specs.Str.{bytes_eq}
 use Rattle.std.proofs.lemmas.List.{length-append, append-nil}
@@ -13,7 +12,7 @@ use Rattle.ledger_model.specs.Grammar.{IsName, IsNew, output_layout}
 use Rattle.ledger_model.proofs.Laws.{IsLawful}
 use Rattle.ledger.specs.declared.refused.LedgerRefused.{LedgerRefused}
 use Rattle.ledger.specs.declared.refused.LedgerRefused.TheVariants.{DiskFault, LedgerFault}
-use Rattle.ledger.specs.Reader.{Stood, IsRead, RefusedAt, Reads, left_of}
+use Rattle.ledger.specs.Reader.{RefusedAt, Reads, left_of}
 use Rattle.ledger.specs.Counted.{SomeItems}
 use Rattle.ledger.specs.Placing.{IsOfDisk, Compares}
 

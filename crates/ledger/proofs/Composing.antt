@@ -1,16 +1,16 @@
 -- What is read one after another, and what is refused.
-use Rattle.std.proofs.Common.{◌≡◌, ◌⊎◌, inl, inr, ℕ, ◌+◌, ◌<◌, ◌≤◌, ◌^◌, get_or, List, [], ◌∷◌, ◌++◌, length, refl, sym, ◌∙◌, ap, subst, append_assoc, arith, Result, Ok, Err, ℤ}
+use Rattle.std.proofs.Common.{◌≡◌, inl, inr, ℕ, ◌+◌, ◌<◌, ◌≤◌, ◌^◌, get_or, List, [], ◌∷◌, ◌++◌, length, refl, sym, ◌∙◌, ap, subst, append_assoc, arith, Result, Ok, Err, ℤ}
 use Rattle.std.specs.Result.{IsErrAnd, MatchResult}
 use Rattle.std.proofs.lemmas.List.{length-append}
-use Rattle.ledger_model.specs.Layouts.{Layout, field, behind, Behind}
+use Rattle.ledger_model.specs.Layouts.{Layout, field, behind}
 use Rattle.std.specs.Int.{from_le_bytes, to_le_bytes, cast_signed, cast_unsigned, w16, w32, w64}
 use Rattle.std.specs.Prelude.{FitsSigned}
 use Rattle.std.proofs.lemmas.Int.{ints, of_z-to_z}
 use Rattle.ledger.specs.Counted.{any_signed}
 use Rattle.std.proofs.lemmas.Nat.{le_bytes_2, le_bytes_4, le_bytes_8}
-use Rattle.ledger_model.specs.Numbers.{number, u16_bytes, u32_bytes, u64_bytes, i64_bytes, text_bytes, text_of}
+use Rattle.ledger_model.specs.Numbers.{number, u16_bytes, u32_bytes, u64_bytes, i64_bytes, text_of}
 use Rattle.ledger_model.proofs.Laws.{IsLawful}
-use Rattle.ledger_model.proofs.Fields.{u16_length, u32_length, u64_length, u32_one}
+use Rattle.ledger_model.proofs.Fields.{u32_length, u32_one}
 use Rattle.ledger.specs.declared.refused.LedgerRefused.{LedgerRefused}
 use Rattle.ledger.specs.declared.refused.LedgerRefused.TheVariants.{DiskFault, LedgerFault}
 use Rattle.ledger.specs.declared.refused.Part2.TheVariants.{Ledger}

@@ -1,13 +1,12 @@
 -- Items one after another.
-use Rattle.std.proofs.Common.{◌≡◌, ◌⊎◌, inl, inr, ℕ, ◌+◌, ◌<◌, ◌≤◌, List, [], ◌∷◌, ◌++◌, length, refl, sym, ◌∙◌, ap, subst, append_assoc, arith, Result, Ok, Err}
+use Rattle.std.proofs.Common.{◌≡◌, inl, inr, ℕ, ◌+◌, ◌<◌, List, [], ◌∷◌, ◌++◌, length, refl, sym, ◌∙◌, ap, subst, append_assoc, arith, Result, Ok, Err}
 use Rattle.std.proofs.lemmas.List.{length-append, append-nil}
-use Rattle.ledger_model.specs.Layouts.{Layout, field, behind, Behind, AllFit, spelled, BreaksAmong, listed, counted}
+use Rattle.ledger_model.specs.Layouts.{Layout, field, AllFit, spelled, listed, counted}
 use Rattle.ledger.specs.declared.refused.LedgerRefused.{LedgerRefused}
 use Rattle.ledger.specs.declared.refused.LedgerRefused.TheVariants.{DiskFault, LedgerFault}
-use Rattle.ledger.specs.Reader.{Stood, IsRead, SomeRead, IsBroken, RefusedAt, Checks, left_of}
+use Rattle.ledger.specs.Reader.{IsRead, SomeRead, RefusedAt, Checks, left_of}
 use Rattle.ledger.specs.Counted.{SomeItems}
 use Rattle.ledger.proofs.Moving.{stood_then, stood_as}
-use Rattle.ledger.proofs.Composing.{refused_first, refused_second}
 
 fit_snoc : {A : Type 0} (item : List A → Layout A) (before xs : List A) (x : A) → AllFit item before xs → (item (before ++ xs)).Fits x → AllFit item before (xs ++ x ∷ [])
 fit_snoc {A} item before [] x f fits = (subst (λ (b : List A). (item b).Fits x) (append-nil before) fits, tt)

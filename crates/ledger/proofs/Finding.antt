@@ -1,22 +1,22 @@
 -- What is read where it is known what stands there.
 use Rattle.std.specs.Result.{IsErrOf}
-use Rattle.std.proofs.Common.{◌≡◌, ◌⊎◌, ⊎_elim, ℕ, ◌+◌, ◌<◌, ◌≤◌, ◌^◌, Result, Ok, Err, zero, suc, List, [], ◌∷◌, ◌++◌, length, take, drop, Some, ℤ, refl, sym, ◌∙◌, ap, subst, arith, append_assoc, lit≤}
+use Rattle.std.proofs.Common.{◌≡◌, ℕ, ◌+◌, ◌<◌, ◌^◌, Result, Ok, Err, zero, suc, List, [], ◌∷◌, ◌++◌, length, take, drop, Some, ℤ, refl, sym, ◌∙◌, ap, subst, arith, append_assoc}
 use Rattle.std.specs.Prelude.{slice_get, FitsSigned}
 use Rattle.std.specs.Int.{w64}
 use Rattle.std.proofs.lemmas.Int.{ints}
 use Rattle.std.proofs.lemmas.List.{append-nil}
 use Rattle.ledger_model.specs.Entries.{Entry, Output, Span, Kept}
-use Rattle.ledger_model.specs.Layouts.{Layout, field, behind, AllFit, spelled}
-use Rattle.ledger_model.specs.Numbers.{u8_bytes, u32_bytes, u64_bytes, text_of, number, text_bytes}
+use Rattle.ledger_model.specs.Layouts.{Layout, AllFit, spelled}
+use Rattle.ledger_model.specs.Numbers.{u8_bytes, u32_bytes, u64_bytes, number, text_bytes}
 use Rattle.ledger_model.specs.Grammar.{IsEntry, payload_of, IsMoment, texts_layout, kept_layout, output_layout, counts_layout, name_field}
 use Rattle.ledger_model.proofs.Laws.{IsLawful, lawful_field, lawful_behind, same_fronts}
 use Rattle.ledger_model.proofs.Fields.{u32_one, number_law, text_law, signed_law, texts_law, kept_parts_law}
 use Rattle.disk_model.specs.Disk.{DiskState}
-use Rattle.ledger.specs.Reader.{Position, Holds, CanRead, IsRead, SomeRead, IsBroken, RefusedAt, left_of, any_byte, any_word}
+use Rattle.ledger.specs.Reader.{Position, CanRead, IsRead, SomeRead, RefusedAt, left_of, any_byte, any_word}
 use Rattle.ledger.specs.Counted.{any_signed}
 use Rattle.ledger.specs.Outputs.{loose_head, loose_front, HoldsEntry, Cursor, StandsBefore}
 use Rattle.ledger.specs.declared.refused.LedgerRefused.{LedgerRefused}
-use Rattle.ledger.specs.declared.refused.LedgerRefused.TheVariants.{DiskFault, LedgerFault}
+use Rattle.ledger.specs.declared.refused.LedgerRefused.TheVariants.{LedgerFault}
 use Rattle.ledger.specs.declared.refused.Part2.{Part2}
 
 -- a value that is read is the one that stands there

@@ -1,6 +1,6 @@
 -- A part of a text, from what was read ahead.
-use Rattle.std.proofs.Common.{◌≡◌, ◌⊎◌, ⊎_elim, ℕ, ◌+◌, ◌-◌, ◌<◌, ◌≤◌, min, List, [], ◌∷◌, ◌++◌, length, take, drop, refl, sym, ◌∙◌, ap, subst, append_assoc, arith}
-use Rattle.std.proofs.lemmas.List.{take-take, length-append, length-take-le, length-take, take-append-le, take-append-drop, append_cancel_left}
+use Rattle.std.proofs.Common.{◌≡◌, ◌⊎◌, ⊎_elim, ℕ, ◌+◌, ◌-◌, ◌<◌, ◌≤◌, min, List, [], ◌++◌, length, take, drop, refl, sym, ◌∙◌, ap, subst, append_assoc, arith}
+use Rattle.std.proofs.lemmas.List.{take-take, length-append, length-take-le, take-append-le, take-append-drop, append_cancel_left}
 use Rattle.std.proofs.Math.Seq.{take-append_seam}
 use Rattle.ledger.specs.declared.passing.TextKind.{TextKind}
 use Rattle.ledger.specs.Passing.{IsText, NoText, Passed, PassedSome}

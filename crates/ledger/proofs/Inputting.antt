@@ -1,8 +1,8 @@
 -- The words of an input text, one after another.
-use Rattle.std.proofs.Common.{◌≡◌, ◌≢◌, ◌⊎◌, ℕ, ◌+◌, ◌<◌, ◌≤◌, List, [], ◌∷◌, ◌++◌, length, drop, get_or, refl, sym, ◌∙◌, ap, subst, arith, Bool, true, false, lit≤}
+use Rattle.std.proofs.Common.{◌≡◌, ℕ, ◌≤◌, List, ◌++◌, length, drop, get_or, refl, sym, ◌∙◌, ap, arith, Bool, true, false, lit≤}
 use Rattle.std.specs.Prelude.{codes}
-use Rattle.std.proofs.lemmas.List.{append_cancel_left, append_cancel_right, length-append, append-nil}
-use Rattle.ledger_model.specs.Inputs.{Format, iisw3c, ncsa, csv, tsv, textline, textword, Separator, tab, space, byte, IsSeparator, format_word, switch_word, separator_word, rotation_word, Input, input_text, IsInput}
+use Rattle.std.proofs.lemmas.List.{append_cancel_left, length-append}
+use Rattle.ledger_model.specs.Inputs.{Format, iisw3c, ncsa, csv, tsv, textline, textword, Separator, tab, space, byte, format_word, switch_word, separator_word, rotation_word, Input, input_text, IsInput}
 
 pub format_one : (f g : Format) (r s : List ℕ) → format_word f ++ r ≡ format_word g ++ s → (f ≡ g) × (r ≡ s)
 format_one iisw3c iisw3c r s e = (refl, append_cancel_left (codes "IISW3C") r s e)

@@ -15,3 +15,4 @@ pub mod Inputting
 pub mod Pairs
 pub mod Sizing
 pub mod Wholes
+pub mod Spelled

@@ -1,5 +1,5 @@
 -- A reader moves on over bytes that it has read ahead.
-use Rattle.std.proofs.Common.{◌≡◌, ◌⊎◌, inl, inr, ⊎_elim, ℕ, ◌+◌, ◌-◌, ◌<◌, ◌≤◌, List, [], ◌++◌, length, take, drop, refl, sym, ◌∙◌, ap, subst, append_assoc, arith}
+use Rattle.std.proofs.Common.{◌≡◌, ℕ, ◌+◌, ◌-◌, ◌≤◌, List, [], ◌++◌, length, take, drop, sym, ◌∙◌, ap, subst, append_assoc, arith}
 use Rattle.std.proofs.lemmas.List.{take-take, drop-drop, length-take-le, length-drop, drop-take, length-append}
 use Rattle.std.proofs.Math.Seq.{take-add}
 use Rattle.disk_model.specs.Disk.{DiskState}

@@ -1,6 +1,6 @@
 -- A body that is written over what was there.
-use Rattle.std.proofs.Common.{◌≡◌, ℕ, ◌+◌, ◌-◌, ◌≤◌, List, [], ◌∷◌, ◌++◌, length, take, drop, replicate, refl, sym, ◌∙◌, ap, subst, append_assoc, arith}
-use Rattle.std.proofs.lemmas.List.{length-append, length-take-le, append-nil, take-append-le, drop-drop, take-take, take-append-drop}
+use Rattle.std.proofs.Common.{◌≡◌, ℕ, ◌+◌, ◌-◌, ◌≤◌, List, [], ◌∷◌, ◌++◌, length, take, drop, replicate, sym, ◌∙◌, ap, subst, append_assoc, arith}
+use Rattle.std.proofs.lemmas.List.{length-append, length-take-le, append-nil, take-append-drop}
 use Rattle.std.proofs.Math.Seq.{take-append_seam, drop-append_seam, drop-append-add}
 use Rattle.disk_model.specs.Disk.{overwritten}
 use Rattle.ledger_model.specs.Numbers.{u64_bytes}
@@ -8,16 +8,16 @@ use Rattle.ledger_model.proofs.Fields.{u64_length}
 use Rattle.ledger.specs.Writer.{Written, WritesBody}
 
 -- at or before a file's end there is no gap
-no_gap : (file bytes : List ℕ) (place : ℕ) → place ≤ length file → overwritten file place bytes ≡ take place file ++ bytes ++ drop (place + length bytes) file
+pub no_gap : (file bytes : List ℕ) (place : ℕ) → place ≤ length file → overwritten file place bytes ≡ take place file ++ bytes ++ drop (place + length bytes) file
 no_gap file bytes place le =
     let gap : place - length file ≡ 0 = omega arith in
     let front : file ++ replicate (place - length file) 0 ≡ file = ap (λ (n : ℕ). file ++ replicate n 0) gap ∙ append-nil file in
     ap (λ (t : List ℕ). take place t ++ bytes ++ drop (place + length bytes) file) front
 
-at_seam : (a b : List ℕ) (n : ℕ) → length a ≡ n → take n (a ++ b) ≡ a
+pub at_seam : (a b : List ℕ) (n : ℕ) → length a ≡ n → take n (a ++ b) ≡ a
 at_seam a b n e = subst (λ (k : ℕ). take k (a ++ b) ≡ a) e (take-append_seam a b)
 
-past_seam : (a b : List ℕ) (n : ℕ) → length a ≡ n → drop n (a ++ b) ≡ b
+pub past_seam : (a b : List ℕ) (n : ℕ) → length a ≡ n → drop n (a ++ b) ≡ b
 past_seam a b n e = subst (λ (k : ℕ). drop k (a ++ b) ≡ b) e (drop-append_seam a b)
 
 pub body_written : (w : Written) (old new : List ℕ) → new ≡ overwritten (overwritten old (w.at + 8 + w.count) (0 ∷ (0 ∷ []))) w.at (u64_bytes w.count) → WritesBody w old new

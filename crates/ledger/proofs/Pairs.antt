@@ -1,8 +1,8 @@
 -- Pairs that were walked over, one after another.
-use Rattle.std.proofs.Common.{◌≡◌, ◌≢◌, ◌==◌, inl, inr, ℕ, Bool, true, false, not, Decides, ◌+◌, ◌-◌, ◌<◌, ◌≤◌, ◌^◌, List, [], ◌∷◌, ◌++◌, length, take, drop, get_or, flat_map, Option, Some, None, refl, sym, ◌∙◌, ap, subst, append_assoc, arith}
+use Rattle.std.proofs.Common.{◌≡◌, ◌≢◌, ◌==◌, inl, inr, ℕ, Bool, true, false, not, Decides, ◌+◌, ◌<◌, ◌≤◌, List, [], ◌∷◌, ◌++◌, length, take, drop, get_or, flat_map, Some, None, refl, sym, ◌∙◌, ap, subst, append_assoc, arith}
 use Rattle.std.specs.Option.{option_map}
 use Rattle.std.specs.List.{AllByRecursion}
-use Rattle.std.proofs.lemmas.List.{length-append, length-drop, append-nil, take_all, take-append-drop}
+use Rattle.std.proofs.lemmas.List.{length-append, length-drop, append-nil, take-append-drop}
 use Rattle.std.proofs.Math.Seq.{take-append_seam, drop-append_seam}
 use Rattle.std.specs.Cmp.Lexicographic.{pointwise}
 use Rattle.std.proofs.lemmas.Bool.Decides.{Decides-eqb}
@@ -10,7 +10,7 @@ use Rattle.std.proofs.lemmas.Slice.Eq.{slice_eq-Decides}
 use Rattle.std.specs.Prelude.{nat_eq}
 use Rattle.ledger_model.specs.Numbers.{u64_bytes}
 use Rattle.ledger_model.specs.Grammar.{payload_of}
-use Rattle.ledger_model.specs.Ledgers.{Pair, IsPair, mark, body_of, spelled_pair, front_of, IsClosed, IsLedger, BreaksBody, BreaksLedger, Last, last_of}
+use Rattle.ledger_model.specs.Ledgers.{Pair, IsPair, mark, spelled_pair, front_of, IsClosed, Last, last_of}
 use Rattle.ledger_model.proofs.Fields.{u64_length}
 use Rattle.ledger.specs.declared.refused.LedgerRefused.{LedgerRefused}
 use Rattle.ledger.specs.declared.refused.LedgerRefused.TheVariants.{DiskFault, LedgerFault}

@@ -1,19 +1,18 @@
 -- A payload that was looked at whole, and bodies around payloads.
-use Rattle.std.proofs.Common.{◌≡◌, ◌⊎◌, inl, inr, ⊎_elim, ℕ, ◌+◌, ◌-◌, ◌<◌, ◌≤◌, ◌^◌, List, [], ◌∷◌, ◌++◌, length, take, drop, get_or, refl, sym, ◌∙◌, ap, subst, append_assoc, arith, Result, Ok, Err}
+use Rattle.std.proofs.Common.{◌≡◌, inl, inr, ℕ, ◌+◌, ◌-◌, ◌<◌, ◌≤◌, ◌^◌, List, [], ◌++◌, length, take, drop, get_or, refl, sym, ◌∙◌, ap, subst, append_assoc, arith}
 use Rattle.std.specs.Int.{from_le_bytes, to_le_bytes, w64}
 use Rattle.std.proofs.lemmas.Nat.{le_bytes_8}
-use Rattle.std.proofs.lemmas.List.{length-append, length-drop, length-take-le, append-nil, take_all, take-take, take-append-drop, drop-drop}
-use Rattle.std.proofs.Math.Seq.{take-append_seam, drop-append_seam}
+use Rattle.std.proofs.lemmas.List.{length-drop, length-take-le, append-nil, take_all, take-append-drop, drop-drop}
+use Rattle.std.proofs.Math.Seq.{take-append_seam}
 use Rattle.disk_model.specs.Disk.{DiskState}
-use Rattle.ledger_model.specs.Layouts.{Layout, Behind}
 use Rattle.ledger_model.specs.Numbers.{u64_bytes}
-use Rattle.ledger_model.specs.Grammar.{Parts, parts_of, parts_layout, entry_layout, IsEntry, payload_of, BreaksPayload}
-use Rattle.ledger_model.specs.Ledgers.{body_of, length_at, IsWhole, BreaksBody}
-use Rattle.ledger_model.proofs.Fields.{entry_from, u64_length}
+use Rattle.ledger_model.specs.Grammar.{Parts, parts_layout, payload_of, BreaksPayload}
+use Rattle.ledger_model.specs.Ledgers.{length_at, IsWhole}
+use Rattle.ledger_model.proofs.Fields.{entry_from}
 use Rattle.ledger.specs.declared.refused.LedgerRefused.{LedgerRefused}
 use Rattle.ledger.specs.declared.refused.LedgerRefused.TheVariants.{DiskFault, LedgerFault}
 use Rattle.ledger.specs.declared.refused.Part2.TheVariants.{Ledger}
-use Rattle.ledger.specs.Reader.{Position, Holds, CanRead, Stood, IsRead, SomeRead, IsBroken, RefusedAt, RefusedShort, left_of, moved_to}
+use Rattle.ledger.specs.Reader.{Position, Holds, CanRead, Stood, IsRead, RefusedAt, RefusedShort, left_of, moved_to}
 use Rattle.ledger.specs.Walking.{IsPayload, RefusedPayload, WalkedBody, RefusedBody}
 
 -- a new reader

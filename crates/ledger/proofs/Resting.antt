@@ -1,5 +1,5 @@
 -- Reads one after another leave a disk as it is.
-use Rattle.std.proofs.Common.{◌≡◌, ℕ, List, refl, sym, ◌∙◌}
+use Rattle.std.proofs.Common.{ℕ, List, refl, ◌∙◌}
 use Rattle.disk_model.specs.Disk.{DiskState, Nothing, Works, Shows}
 use Rattle.disk_model.proofs.DiskSteps.{Works-none, Works-then}
 use Rattle.ledger.specs.Reader.{Rests, Holds, CanRead, Position}

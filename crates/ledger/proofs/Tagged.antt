@@ -1,5 +1,5 @@
 -- Values that begin with a tag, and standings.
-use Rattle.std.proofs.Common.{◌≡◌, ◌≢◌, ◌⊎◌, inl, inr, ⊎_elim, ℕ, ◌+◌, ◌-◌, ◌<◌, ◌≤◌, ◌^◌, List, [], ◌∷◌, ◌++◌, length, refl, sym, ◌∙◌, ap, subst, append_assoc, arith, Result, Ok, Err, ℤ, Option, Some, None, Bool, ◌↔◌, lit<}
+use Rattle.std.proofs.Common.{◌≡◌, ◌≢◌, ◌⊎◌, ⊎_elim, ℕ, ◌-◌, ◌<◌, List, [], ◌∷◌, ◌++◌, length, refl, sym, ◌∙◌, ap, subst, arith, Result, Ok, Err, ℤ, Option, Some, None, Bool, ◌↔◌, lit<}
 use Rattle.std.specs.Bool.{IsTrue}
 use Rattle.std.specs.Result.{MatchResult}
 use Rattle.lp_values.specs.declared.part.Part.{Part}
@@ -8,11 +8,10 @@ use Rattle.lp_values.specs.Stamps.{IsStamp as IsStampOf}
 use Rattle.ledger.specs.Written.{part_code}
 use Rattle.std.specs.Int.{w64}
 use Rattle.std.specs.Prelude.{FitsSigned}
-use Rattle.std.proofs.lemmas.List.{length-append}
 use Rattle.std.proofs.lemmas.Int.{ints}
 use Rattle.lp_model.specs.Reading.{Columns, Standing}
-use Rattle.ledger_model.specs.Layouts.{Layout, field, behind, viewed}
-use Rattle.ledger_model.specs.Numbers.{number, u8_bytes, u64_bytes, i64_bytes, text_bytes, text_of}
+use Rattle.ledger_model.specs.Layouts.{Layout, field, viewed}
+use Rattle.ledger_model.specs.Numbers.{number, u8_bytes, i64_bytes, text_bytes, text_of}
 use Rattle.ledger_model.specs.Standings.{names_layout, AreColumns, columns_bytes, columns_field, standing_layout, IsStanding}
 use Rattle.ledger_model.specs.Entries.{Kept, null, int, real, text, stamp}
 use Rattle.ledger_model.specs.Grammar.{IsKept, IsStamp, IsMoment, kept_bytes, text_field}
@@ -23,7 +22,7 @@ use Rattle.ledger.specs.declared.refused.LedgerRefused.TheVariants.{DiskFault, L
 use Rattle.ledger.specs.declared.refused.Part2.TheVariants.{Ledger}
 use Rattle.ledger.specs.Reader.{Stood, IsRead, SomeRead, IsBroken, RefusedAt, Checks, left_of, any_byte, any_word, moved_to}
 use Rattle.ledger.specs.Counted.{any_signed, any_stamp, stamp_bytes, kept_field}
-use Rattle.ledger.proofs.Composing.{text_refused, text_read, read_both, some_read}
+use Rattle.ledger.proofs.Composing.{text_refused, text_read, some_read}
 use Rattle.ledger.proofs.Moving.{stood_then, stood_as}
 
 -- values that stand as their parts do

@@ -1,10 +1,10 @@
 -- Texts and their fronts.
-use Rattle.std.proofs.Common.{◌≡◌, ◌⊎◌, ⊎_elim, ℕ, ◌+◌, ◌-◌, ◌<◌, ◌≤◌, List, [], ◌∷◌, ◌++◌, length, take, drop, refl, sym, ◌∙◌, ap, subst, append_assoc, arith}
+use Rattle.std.proofs.Common.{◌≡◌, ℕ, ◌+◌, ◌<◌, ◌≤◌, List, [], ◌∷◌, ◌++◌, length, take, sym, ap, subst, arith}
 use Rattle.std.specs.Str.{IsUtf8, IsCharBoundary}
 use Rattle.std.specs.Prelude.{encode_utf8, encode_utf8_all}
 use Rattle.std.specs.Char.{len_utf8}
-use Rattle.std.proofs.lemmas.Str.{IsUtf8-append, IsUtf8-nil, IsUtf8-encode, IsUtf8-drop, IsUtf8-take, IsCharBoundary-from_take, IsCharBoundary-past_char, length-encode, len_utf8_bounds}
-use Rattle.std.proofs.lemmas.List.{take-take, length-append, length-take-le, take-append-le, drop-append-le, length-drop, take-append-drop, append_cancel_left}
+use Rattle.std.proofs.lemmas.Str.{IsUtf8-append, IsUtf8-nil, IsUtf8-drop, IsUtf8-take, IsCharBoundary-from_take, IsCharBoundary-past_char, length-encode, len_utf8_bounds}
+use Rattle.std.proofs.lemmas.List.{length-append}
 use Rattle.std.proofs.Math.Seq.{take-append_seam, drop-append_seam}
 use Rattle.ledger.specs.declared.passing.TextKind.{TextKind}
 use Rattle.ledger.specs.declared.passing.TextKind.TheVariants.{Any, Utf8}

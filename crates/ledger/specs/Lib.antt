@@ -9,3 +9,4 @@ pub mod Walking
 pub mod Cutting
 pub mod Sizes
 pub mod Texts
+pub mod Spelling

@@ -1,5 +1,5 @@
 -- Reading the outputs of an entry, one after another.
-use Rattle.std.specs.Prelude.{◌≡◌, ℕ, ◌<◌, List, ◌++◌, take, drop, ℤ}
+use Rattle.std.specs.Prelude.{◌≡◌, ℕ, List, ◌++◌, take, drop, ℤ}
 use Rattle.disk_model.specs.Disk.{DiskState}
 use Rattle.ledger_model.specs.Entries.{Entry, Span, Kept}
 use Rattle.ledger_model.specs.Layouts.{Layout, behind, spelled}

@@ -1,11 +1,9 @@
 -- Outputs whose names differ.
-use Rattle.std.specs.Prelude.{◌≡◌, ℕ, Bool, ◌<◌, List, Result, MatchResult, MatchBool}
+use Rattle.std.specs.Prelude.{ℕ, Bool, List, Result, MatchResult, MatchBool}
 use Rattle.std.specs.Bool.{⊤}
-use Rattle.ledger_model.specs.Entries.{Output}
 use Rattle.ledger_model.specs.Grammar.{output_layout, IsNew}
 use Rattle.ledger.specs.declared.refused.LedgerRefused.{LedgerRefused}
 use Rattle.ledger.specs.declared.refused.LedgerRefused.TheVariants.{DiskFault, LedgerFault}
-use Rattle.ledger.specs.Reader.{CanRead}
 use Rattle.ledger.specs.Counted.{SomeItems}
 
 -- the refusal is the disk's

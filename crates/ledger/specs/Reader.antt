@@ -8,7 +8,6 @@ use Rattle.ledger_model.specs.Layouts.{Layout, field}
 use Rattle.ledger_model.specs.Numbers.{u8_bytes, u16_bytes, u32_bytes, text_of}
 use Rattle.ledger.specs.declared.refused.LedgerRefused.{LedgerRefused}
 use Rattle.ledger.specs.declared.refused.LedgerRefused.TheVariants.{DiskFault, LedgerFault}
-use Rattle.ledger.specs.declared.refused.Part2.{Part2}
 use Rattle.ledger.specs.declared.refused.Part2.TheVariants.{Ledger}
 
 -- the place of the next byte, the place where reading ends, and the bytes that are read ahead

@@ -1,5 +1,5 @@
 -- What a writer of a body has written.
-use Rattle.std.specs.Prelude.{◌≡◌, ℕ, ◌+◌, ◌≤◌, List, [], ◌∷◌, ◌++◌, length, take, drop}
+use Rattle.std.specs.Prelude.{◌≡◌, ℕ, ◌+◌, List, ◌∷◌, ◌++◌, length, take, drop}
 use Rattle.ledger_model.specs.Numbers.{u64_bytes}
 
 -- where the body begins, and how many bytes of its payload are written

@@ -1,5 +1,5 @@
 -- An entry as plain lists.
-use Rattle.std.specs.Prelude.{ℕ, List, map}
+use Rattle.std.specs.Prelude.{ℕ, map}
 use Rattle.lp_values.specs.declared.part.Part.{Part}
 use Rattle.lp_values.specs.declared.part.Part.TheVariants.{Date, Time, Both}
 use Rattle.lp_values.specs.declared.value.Value.{Value}

@@ -3,6 +3,7 @@
 
 mod checking;
 mod entry;
+mod fields;
 mod heading;
 mod input_text;
 mod laws;
@@ -12,6 +13,7 @@ mod placing;
 mod reader;
 mod refused;
 mod sizes;
+mod spelling;
 mod texts;
 mod walking;
 mod writing;

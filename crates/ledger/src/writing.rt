@@ -8,7 +8,12 @@ ghost use Rattle.disk_changes.specs.Changes.{KeepsFront, StaysShort, Anything};
 ghost use Rattle.ledger.specs.Writer.{Written, WritesBody};
 ghost use Rattle.ledger_model.specs.Numbers.{u64_bytes};
 ghost use Rattle.ledger_model.specs.Ledgers.{mark};
+ghost use Rattle.ledger_model.specs.Grammar.{payload_of};
+ghost use Rattle.ledger.specs.Written.{entry_of};
 
+use crate::Entry;
+use crate::fields::add_entry;
+use crate::spelling::Speller;
 use lp_outside::{Disk, DiskFailed, Name};
 use std::marker::Model;
 
@@ -73,6 +78,46 @@ impl EntryWriter {
         Ok(())
     }
 
+    /// Writes the payload of an entry behind the pieces before it. After an `Err` any part of it may be written.
+    pub fn put_entry<D: Disk>(
+        &mut self,
+        disk: &mut D,
+        ledger: &Name,
+        entry: &Entry,
+    ) -> Result<(), DiskFailed>
+        ensures at { self.new.at ≡ self.old.at }
+        ensures count { OnOk result (self.new.count ≡ self.old.count + length (payload_of (entry_of entry.now))) }
+        ensures err { OnErr result (self.new.count ≡ self.old.count) }
+        ensures written { OnOk result ((D.state disk.old).tells → (D.state disk.new).seen ledger.now ≡ overwritten ((D.state disk.old).seen ledger.now) (self.old.at + 8 + self.old.count) (payload_of (entry_of entry.now))) }
+        ensures crash { (D.state disk.old).honest → self.old.at ≤ length ((D.state disk.old).seen ledger.now) → Works (At ledger.now (KeepsFront self.old.at)) (D.state disk.old) (D.state disk.new) }
+        ensures shows { (D.state disk.old).tells → Shows (At ledger.now Anything) (D.state disk.old) (D.state disk.new) }
+        ensures cause { HasCause (D.faults disk.old) (D.faults disk.new) result }
+    {
+        let mut speller = Speller::new(self.copy());
+        add_entry(disk, ledger, &mut speller, entry)?;
+        speller.flush(disk, ledger)?;
+        self.count = speller.count();
+        Ok(())
+    }
+
+    fn copy(&self) -> EntryWriter
+        ensures at { result.at ≡ self.now.at }
+        ensures count { result.count ≡ self.now.count }
+    {
+        EntryWriter {
+            at: self.at,
+            count: self.count,
+        }
+    }
+
+    /// How many bytes of the payload are written.
+    pub(crate) fn count(&self) -> u64
+        ensures value { result ≡ self.now.count }
+        ensures bound { result ≤ 2 ^ 62 }
+    {
+        self.count
+    }
+
     /// Writes a closed pair behind the payload, and its length before it. Nothing is made lasting.
     pub fn finish<D: Disk>(self, disk: &mut D, ledger: &Name) -> Result<(), DiskFailed>
         ensures written { OnOk result ((D.state disk.old).tells → (D.state disk.new).seen ledger.now
@@ -80,6 +125,7 @@ impl EntryWriter {
         ensures crash { (D.state disk.old).honest → self.at ≤ length ((D.state disk.old).seen ledger.now) → Works (At ledger.now (KeepsFront self.at)) (D.state disk.old) (D.state disk.new) }
         ensures shows { (D.state disk.old).tells → Shows (At ledger.now Anything) (D.state disk.old) (D.state disk.new) }
         ensures body { OnOk result ((D.state disk.old).tells → WritesBody self ((D.state disk.old).seen ledger.now) ((D.state disk.new).seen ledger.now)) }
+        ensures bound { OnOk result (self.at + 8 + self.count + 2 ≤ 2 ^ 62) }
         ensures cause { HasCause (D.faults disk.old) (D.faults disk.new) result }
     {
         let EntryWriter { at, count } = self;

@@ -6,7 +6,7 @@ use Rattle.disk_model.proofs.DiskSteps.{Works-none}
 use Rattle.disk_changes.specs.Changes.{Anything}
 use Rattle.commit.specs.Putting.{IsText}
 use Rattle.commit.proofs.Adding.{works_then, small_mod}
-use Rattle.commit.proofs.Sealed.{resting_start, resting_stage, resting_means, settled_stage}
+use Rattle.commit.proofs.SealedEntries.{resting_start, resting_stage, resting_means, settled_stage}
 use Rattle.commit.proofs.DoneBytes.{preserves_from}
 use Rattle.commit.proofs.putting.put.Goals as goal
 

@@ -1,4 +1,4 @@
-use Rattle.std.proofs.Common.{◌≡◌, ◌≤◌, ℕ, List}
+use Rattle.std.proofs.Common.{◌≤◌, ℕ, List}
 use Rattle.ledger.specs.Reader.{CanRead, Rests}
 use Rattle.ledger.specs.Counted.{SomeItems}
 use Rattle.ledger_model.specs.Grammar.{list_layout}

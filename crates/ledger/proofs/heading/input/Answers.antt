@@ -1,10 +1,5 @@
-use Rattle.std.proofs.Common.{rules, ◌≡◌, ◌≤◌, ◌<◌, ◌+◌, ◌-◌, ◌^◌, ℕ, List, [], ◌∷◌, length, inl, inr, ⊎_elim, refl, sym, ◌∙◌, ap, subst, lit≤, arith}
-use Rattle.ledger.specs.Reader.{IsRead, SomeRead, Checks, any_byte, any_short, any_word}
-use Rattle.ledger.specs.Counted.{SomeItems}
-use Rattle.ledger.proofs.Composing.{handed, short_field, narrowed, misfit, refused_narrower, refused_first, refused_second, read_both, text_refused, text_read, text_unsized, refused_here, refused_moved, checks_behind, some_read}
-use Rattle.ledger.proofs.Counting.{items_more, items_refused, items_read, counted_unsized, counted_refused, counted_read, checks_counted}
-use Rattle.ledger.proofs.Resting.{rests_then}
-use Rattle.ledger.proofs.Tagged.{byte_law, moment_fits}
+use Rattle.std.proofs.Common.{◌≤◌, ◌<◌, ◌^◌, length}
+use Rattle.ledger.proofs.Composing.{handed, narrowed, misfit, refused_narrower, refused_here, some_read}
 use Rattle.ledger_model.specs.Numbers.{text_bytes, text_of}
 use Rattle.ledger_model.specs.Inputs.{IsInput}
 use Rattle.ledger_model.proofs.Fields.{text_law}

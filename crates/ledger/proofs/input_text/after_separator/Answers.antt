@@ -1,4 +1,4 @@
-use Rattle.std.proofs.Common.{◌≡◌, ◌-◌, ℕ, List, ◌∷◌, length, drop, get_or, ◌∙◌, ap, sym, arith}
+use Rattle.std.proofs.Common.{◌-◌, ℕ, List, ◌∷◌, length, drop, get_or, ◌∙◌, ap, sym, arith}
 use Rattle.std.proofs.lemmas.List.{take_all, length-drop}
 use Rattle.ledger_model.specs.Inputs.{byte}
 use Rattle.ledger.proofs.Cutters.{two_bytes}

@@ -1,4 +1,4 @@
-use Rattle.std.proofs.Common.{◌≡◌, List, ℕ, ◌++◌, sym, ◌∙◌, ap}
+use Rattle.std.proofs.Common.{List, ℕ, ◌++◌, ◌∙◌, ap}
 use Rattle.std.specs.Prelude.{codes}
 use Rattle.ledger_model.specs.Inputs.{format_word, switch_word, separator_word}
 use Rattle.ledger.proofs.Inputting.{behind_mark, behind_format, behind_word, behind_switch, behind_separator}

@@ -1,7 +1,6 @@
-use Rattle.std.proofs.Common.{◌≡◌, ◌≢◌, ◌⊎◌, inl, inr, ⊎_elim, ℕ, ◌+◌, ◌<◌, ◌≤◌, List, [], ◌∷◌, ◌++◌, length, flat_map, refl, arith}
-use Rattle.std.specs.List.{AllByRecursion}
+use Rattle.std.proofs.Common.{◌≡◌, ◌⊎◌, inl, inr, ⊎_elim, ℕ, ◌<◌, ◌≤◌, List, [], ◌∷◌, ◌++◌, length, flat_map, refl, arith}
 use Rattle.std.proofs.lemmas.List.{length-append}
-use Rattle.ledger_model.specs.Ledgers.{Pair, IsPair, IsLedger, mark, spelled_pair, front_of}
+use Rattle.ledger_model.specs.Ledgers.{Pair, mark, spelled_pair, front_of}
 use Rattle.ledger_model.proofs.Reading.{one_ledger, ledger_apart, ledger_place}
 use Rattle.ledger.proofs.Pairs.{pair_length}
 use Rattle.ledger.proofs.laws.ledgers_are_read_in_one_way.Goals as goal

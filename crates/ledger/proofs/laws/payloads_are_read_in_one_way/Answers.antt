@@ -1,4 +1,4 @@
-use Rattle.std.proofs.Common.{◌≡◌, List, [], ◌++◌, ap, sym, ◌∙◌}
+use Rattle.std.proofs.Common.{[], sym, ◌∙◌}
 use Rattle.std.proofs.lemmas.List.{append-nil}
 use Rattle.ledger_model.specs.Grammar.{payload_of}
 use Rattle.ledger_model.proofs.Reading.{one_payload, payload_apart, payload_place}

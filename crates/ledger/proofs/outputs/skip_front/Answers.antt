@@ -1,4 +1,3 @@
-use Rattle.std.proofs.Common.{List, ℕ}
 use Rattle.ledger_model.specs.Layouts.{behind}
 use Rattle.ledger_model.specs.Grammar.{texts_layout, kept_layout}
 use Rattle.ledger.specs.Outputs.{loose_head}

@@ -1,4 +1,3 @@
-use Rattle.std.proofs.Common.{List, ℕ}
 use Rattle.ledger_model.specs.Layouts.{behind}
 use Rattle.ledger_model.specs.Numbers.{text_of}
 use Rattle.ledger.specs.Reader.{any_byte}

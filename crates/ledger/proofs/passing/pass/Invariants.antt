@@ -1,4 +1,4 @@
-use Rattle.std.proofs.Common.{◌-◌, ◌≡◌, ◌≤◌, ℕ, List}
+use Rattle.std.proofs.Common.{◌-◌, ◌≤◌, ℕ, List}
 use Rattle.ledger.specs.Reader.{CanRead, Rests}
 use Rattle.ledger.specs.Passing.{Passed}
 use Rattle.ledger.proofs.passing.pass.Given as goal

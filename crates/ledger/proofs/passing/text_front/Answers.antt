@@ -1,4 +1,4 @@
-use Rattle.std.proofs.Common.{◌<◌, arith}
+use Rattle.std.proofs.Common.{arith}
 use Rattle.ledger.proofs.passing.text_front.Goals as goal
 
 pub returns-in-Err-clause-longest : goal.returns-in-Err-clause-longest

@@ -1,10 +1,10 @@
-use Rattle.std.proofs.Common.{◌≡◌, ◌≤◌, ◌<◌, ◌+◌, ℕ, List, refl, sym, ◌∙◌, ap, subst, arith, Ok, Err}
+use Rattle.std.proofs.Common.{sym, ◌∙◌, arith, Ok, Err}
 use Rattle.ledger_model.specs.Numbers.{number}
 use Rattle.ledger_model.specs.Grammar.{name_field, IsName}
 use Rattle.ledger_model.proofs.Fields.{text_law, number_law}
 use Rattle.ledger.proofs.Resting.{rests_then}
 use Rattle.ledger.proofs.Composing.{handed}
-use Rattle.ledger.proofs.Comparing.{Past, gives_front, past_ahead, past_all, same_name, other_name}
+use Rattle.ledger.proofs.Comparing.{gives_front, past_ahead, past_all, same_name, other_name}
 use Rattle.ledger.proofs.placing.is_taken.Goals as goal
 
 pub returns-in_err-other-clause-compares : goal.returns-in_err-other-clause-compares

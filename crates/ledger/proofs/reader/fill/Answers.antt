@@ -1,4 +1,4 @@
-use Rattle.std.proofs.Common.{rules, ◌≡◌, ◌≤◌, ◌<◌, ◌+◌, length, take, drop, ℕ, ◌-◌, sym, ◌∙◌, ap, arith, List}
+use Rattle.std.proofs.Common.{rules, ◌≡◌, ◌≤◌, ◌+◌, length, take, drop, ℕ, ◌-◌, sym, ◌∙◌, ap, arith, List}
 use Rattle.std.proofs.lemmas.List.{drop-drop, length-drop}
 use borrow.Rule.Slice.PartMut.{put_mid}
 use Rattle.ledger.proofs.Filling.{filled}

@@ -1,5 +1,4 @@
 use Rattle.std.proofs.Common.{◌-◌, ◌≡◌, ℕ, ◌≤◌, List, length, take, drop}
-use Rattle.disk_model.specs.Disk.{DiskState}
 use Rattle.ledger.specs.Reader.{Holds, Rests}
 use Rattle.ledger.proofs.reader.fill.Given as goal
 

@@ -1,4 +1,4 @@
-use Rattle.std.proofs.Common.{◌≡◌, ◌+◌, ◌-◌, ◌^◌, min, take, sum_by}
+use Rattle.std.proofs.Common.{◌≡◌, ◌-◌, ◌^◌, min, take, sum_by}
 use Rattle.ledger.specs.Sizes.{span_length}
 use Rattle.ledger.proofs.sizes.spans_size.Given as goal
 

@@ -1,5 +1,4 @@
-use Rattle.std.proofs.Common.{◌≡◌, ◌<◌, ◌≤◌, ◌-◌, ◌+◌, ℕ, length, subst, arith}
-use Rattle.ledger.specs.Reader.{left_of}
+use Rattle.std.proofs.Common.{◌-◌, ℕ, subst, arith}
 use Rattle.ledger.specs.Texts.{Added}
 use Rattle.ledger.proofs.Resting.{rests_then}
 use Rattle.ledger.proofs.Wholes.{added_then, added_short}

@@ -1,4 +1,4 @@
-use Rattle.std.proofs.Common.{◌-◌, ◌≡◌, ◌≤◌, ℕ, List}
+use Rattle.std.proofs.Common.{◌-◌, ◌≤◌, ℕ, List}
 use Rattle.ledger.specs.Reader.{CanRead, Rests}
 use Rattle.ledger.specs.Texts.{Added}
 use Rattle.ledger.proofs.texts.add_bytes.Given as goal

@@ -1,6 +1,6 @@
-use Rattle.std.proofs.Common.{◌≡◌, ◌<◌, ◌≤◌, ◌^◌, ℕ, List, length, refl, sym, ◌∙◌, ap, subst, arith}
+use Rattle.std.proofs.Common.{◌<◌, ℕ, length, subst, arith}
 use Rattle.ledger.specs.Reader.{left_of}
-use Rattle.ledger.specs.Texts.{Added, any_text}
+use Rattle.ledger.specs.Texts.{Added}
 use Rattle.ledger.proofs.Wholes.{text_unread, text_cut, text_whole, text_unfaulted}
 use Rattle.ledger.proofs.texts.find_text.Goals as goal
 

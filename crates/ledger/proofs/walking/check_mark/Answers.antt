@@ -1,4 +1,4 @@
-use Rattle.std.proofs.Common.{drop, rules, ◌≡◌, ◌≤◌, ◌<◌, ◌+◌, ℕ, List, length, refl, sym, ◌∙◌, ap, subst, arith}
+use Rattle.std.proofs.Common.{rules, ◌≡◌, ℕ, length, ◌∙◌, subst, arith}
 use Rattle.ledger.specs.Reader.{Stood, RefusedShort}
 use Rattle.ledger_model.specs.Ledgers.{mark}
 use Rattle.ledger.proofs.Composing.{handed}

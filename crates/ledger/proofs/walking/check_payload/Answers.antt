@@ -1,10 +1,6 @@
-use Rattle.std.proofs.Common.{rules, ◌≡◌, ◌≤◌, ◌<◌, ◌+◌, ◌-◌, ◌^◌, ℕ, List, [], ◌∷◌, length, inl, inr, ⊎_elim, refl, sym, ◌∙◌, ap, subst, lit≤, arith}
-use Rattle.ledger.specs.Reader.{IsRead, SomeRead, Checks, any_byte, any_short, any_word}
-use Rattle.ledger.specs.Counted.{SomeItems}
-use Rattle.ledger.proofs.Composing.{handed, short_field, narrowed, misfit, refused_narrower, refused_first, refused_second, read_both, text_refused, text_read, text_unsized, refused_here, refused_moved, checks_behind, some_read}
-use Rattle.ledger.proofs.Counting.{items_more, items_refused, items_read, counted_unsized, counted_refused, counted_read, checks_counted}
-use Rattle.ledger.proofs.Resting.{rests_then}
-use Rattle.ledger.proofs.Payloads.{can_new, payload_refused, payload_left, payload_read, body_short, body_cut, body_broken, body_walked}
+use Rattle.std.proofs.Common.{arith}
+use Rattle.ledger.proofs.Composing.{handed, refused_first, refused_second, read_both}
+use Rattle.ledger.proofs.Payloads.{payload_refused, payload_left, payload_read}
 use Rattle.ledger_model.specs.Layouts.{behind}
 use Rattle.ledger_model.specs.Grammar.{head_layout, texts_layout, kept_layout, ending_layout}
 use Rattle.ledger.proofs.walking.check_payload.Goals as goal

@@ -1,11 +1,8 @@
-use Rattle.std.proofs.Common.{drop, rules, ◌≡◌, ◌≤◌, ◌<◌, ◌+◌, ◌-◌, ◌^◌, ℕ, List, [], ◌∷◌, length, inl, inr, ⊎_elim, refl, sym, ◌∙◌, ap, subst, lit≤, arith}
-use Rattle.ledger.specs.Reader.{IsRead, SomeRead, Checks, any_byte, any_short, any_word}
-use Rattle.ledger.specs.Counted.{SomeItems}
-use Rattle.ledger.proofs.Composing.{handed, short_field, narrowed, misfit, refused_narrower, refused_first, refused_second, read_both, text_refused, text_read, text_unsized, refused_here, refused_moved, checks_behind, some_read}
-use Rattle.ledger.proofs.Counting.{items_more, items_refused, items_read, counted_unsized, counted_refused, counted_read, checks_counted}
-use Rattle.ledger.proofs.Resting.{rests_then, rests_holds}
-use Rattle.ledger.proofs.Payloads.{can_new, payload_refused, payload_left, payload_read, body_short, body_cut, body_broken, body_walked}
-use Rattle.ledger.specs.Reader.{CanRead, Stood, RefusedShort, moved_to, left_of}
+use Rattle.std.proofs.Common.{drop, rules, ◌≡◌, ◌≤◌, ◌+◌, ◌-◌, ℕ, length, sym, subst, arith}
+use Rattle.ledger.proofs.Composing.{handed}
+use Rattle.ledger.proofs.Resting.{rests_holds}
+use Rattle.ledger.proofs.Payloads.{can_new, body_short, body_cut, body_broken, body_walked}
+use Rattle.ledger.specs.Reader.{Stood, RefusedShort, left_of}
 use Rattle.ledger.specs.Walking.{RefusedBody, RefusedPayload, IsPayload}
 use Rattle.ledger.specs.declared.refused.LedgerRefused.{LedgerRefused}
 use Rattle.ledger.proofs.walking.walk_body.Goals as goal

@@ -1,4 +1,4 @@
-use Rattle.std.proofs.Common.{drop, get_or, rules, ◌≡◌, ◌≤◌, ◌<◌, ◌+◌, ◌-◌, ◌^◌, ℕ, List, [], ◌∷◌, length, refl, sym, ◌∙◌, ap, subst, arith}
+use Rattle.std.proofs.Common.{rules, ◌≡◌, ℕ, length, refl, subst}
 use Rattle.ledger.specs.Reader.{Stood, RefusedShort}
 use Rattle.ledger.proofs.Composing.{handed}
 use Rattle.ledger.proofs.Resting.{rests_holds}

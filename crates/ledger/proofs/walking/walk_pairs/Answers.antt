@@ -1,9 +1,9 @@
-use Rattle.std.proofs.Common.{drop, rules, ◌≡◌, ◌≤◌, ◌<◌, ◌+◌, ℕ, List, length, Option, Some, None, refl, sym, ◌∙◌, ap, subst, arith}
+use Rattle.std.proofs.Common.{drop, ◌≡◌, ◌≤◌, ◌+◌, Option, subst, arith}
 use Rattle.std.specs.Option.{IfSome}
 use Rattle.ledger.specs.declared.walking.LastEntry.{LastEntry}
 use Rattle.ledger.specs.Walking.{FindsPair}
 use Rattle.ledger.proofs.Resting.{rests_none, rests_then, rests_holds}
-use Rattle.ledger.proofs.Pairs.{pairs_none, pairs_more, pairs_end, pairs_broken}
+use Rattle.ledger.proofs.Pairs.{pairs_none, pairs_more}
 use Rattle.ledger.proofs.walking.walk_pairs.Goals as goal
 
 pub pairs-init : goal.pairs-init

@@ -1,4 +1,4 @@
-use Rattle.std.proofs.Common.{◌+◌, arith}
+use Rattle.std.proofs.Common.{arith}
 use Rattle.disk_model.specs.Disk.{At}
 use Rattle.disk_changes.specs.Changes.{StaysShort}
 use Rattle.disk_model.proofs.DiskSteps.{Works-rests}

@@ -1,4 +1,4 @@
-use Rattle.std.proofs.Common.{◌≡◌, ◌+◌, arith}
+use Rattle.std.proofs.Common.{arith}
 use Rattle.ledger.proofs.Sizing.{payload_length}
 use Rattle.ledger.proofs.entry.Entry.size.Goals as goal
 

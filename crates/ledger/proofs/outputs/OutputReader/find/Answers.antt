@@ -1,7 +1,5 @@
-use Rattle.std.proofs.Common.{◌≡◌, ◌+◌, ◌<◌, ℕ, List, refl, sym, ◌∙◌, ap, arith}
-use Rattle.ledger.specs.declared.entry.Output.{Output}
+use Rattle.std.proofs.Common.{refl}
 use Rattle.ledger.specs.declared.outputs.OutputReader.{OutputReader}
-use Rattle.ledger.specs.Outputs.{Cursor}
 use Rattle.ledger.proofs.Finding.{can_find, no_front, no_staged, no_count, found_all}
 use Rattle.ledger.proofs.outputs.OutputReader.find.Goals as goal
 

@@ -1,6 +1,5 @@
-use Rattle.std.proofs.Common.{◌≡◌, ◌+◌, ◌<◌, ◌≤◌, ◌^◌, ℕ, List, refl, sym, ◌∙◌, ap, arith}
+use Rattle.std.proofs.Common.{◌+◌, ◌<◌, ◌^◌, ap, arith}
 use Rattle.ledger.specs.declared.entry.Output.{Output}
-use Rattle.ledger.specs.declared.outputs.OutputReader.{OutputReader}
 use Rattle.ledger.specs.Outputs.{Cursor}
 use Rattle.ledger.proofs.Finding.{can_take, no_name, no_base, no_size, no_last, ends_low, taken_all}
 use Rattle.ledger.proofs.outputs.OutputReader.take.Goals as goal

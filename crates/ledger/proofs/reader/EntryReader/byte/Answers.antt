@@ -1,4 +1,4 @@
-use Rattle.std.proofs.Common.{rules, ◌≡◌, ◌≤◌, ◌<◌, ◌^◌, ℕ, length, get_or, refl, arith}
+use Rattle.std.proofs.Common.{rules, refl, arith}
 use Rattle.ledger_model.specs.Numbers.{u8_bytes}
 use Rattle.ledger.proofs.Composing.{handed, short_field, read_u8}
 use Rattle.ledger.proofs.reader.EntryReader.byte.Goals as goal

@@ -1,8 +1,8 @@
-use Rattle.std.proofs.Common.{rules, ◌≡◌, ◌≤◌, ◌<◌, ◌-◌, ℕ, List, length, take, drop, sym, ◌∙◌, ap, subst, arith}
+use Rattle.std.proofs.Common.{ℕ, List, sym, subst}
 use Rattle.ledger_model.proofs.Fields.{text_law}
-use Rattle.ledger_model.specs.Grammar.{IsName, name_field}
+use Rattle.ledger_model.specs.Grammar.{name_field}
 use Rattle.ledger_model.specs.Numbers.{text_bytes}
-use Rattle.ledger.specs.Reader.{IsRead, text_within}
+use Rattle.ledger.specs.Reader.{IsRead}
 use Rattle.ledger.proofs.Composing.{handed, narrowed, misfit, refused_narrower, refused_here}
 use Rattle.ledger.proofs.reader.EntryReader.find_name.Goals as goal
 

@@ -1,4 +1,3 @@
-use Rattle.std.proofs.Common.{◌≡◌}
 use Rattle.ledger.proofs.Moving.{rewound}
 use Rattle.ledger.proofs.reader.EntryReader.take_name.Goals as goal
 

@@ -1,4 +1,4 @@
-use Rattle.std.proofs.Common.{rules, ◌≡◌, ◌≤◌, ◌<◌, ◌^◌, ℕ, length, refl, arith}
+use Rattle.std.proofs.Common.{rules, arith}
 use Rattle.ledger_model.specs.Numbers.{u32_bytes}
 use Rattle.ledger_model.proofs.Fields.{u32_length}
 use Rattle.ledger.proofs.Composing.{handed, short_field, read_u32}

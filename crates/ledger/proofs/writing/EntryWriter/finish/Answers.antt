@@ -1,9 +1,9 @@
-use Rattle.std.proofs.Common.{rules, ◌≡◌, ℕ, ◌+◌, List, [], ◌∷◌, sym, ◌∙◌, ap, Result, Ok, Err, OnOk}
+use Rattle.std.proofs.Common.{rules, ◌≡◌, ℕ, ◌+◌, List, [], ◌∷◌, ◌∙◌, ap, Result, Ok, Err, OnOk}
 use Rattle.disk_model.specs.Disk.{overwritten}
 use Rattle.ledger_model.specs.Numbers.{u64_bytes}
 use Rattle.ledger.specs.Writer.{Written}
 use Rattle.ledger.proofs.Overwriting.{body_written}
-use Rattle.std.proofs.Common.{refl, arith, ◌≤◌}
+use Rattle.std.proofs.Common.{refl, arith}
 use Rattle.ledger.specs.Writer.{Written}
 use Rattle.disk_changes.proofs.Fronts.{one_write_keeps, more_keeps}
 use Rattle.disk_changes.proofs.Showing.{shows_any, shows_then}

@@ -1,4 +1,4 @@
-use Rattle.std.proofs.Common.{◌+◌, ◌≤◌, ap, arith}
+use Rattle.std.proofs.Common.{ap, arith}
 use Rattle.ledger.specs.Writer.{Written}
 use Rattle.disk_changes.proofs.Fronts.{one_write_keeps}
 use Rattle.disk_changes.proofs.Showing.{shows_any}
