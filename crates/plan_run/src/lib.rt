@@ -1,0 +1,10 @@
+//! A plan over whole logs.
+//!
+//! To the crate above: [`run_plan`] writes exactly the text of the rows that the plan makes of the logs' records, each log
+//! from its start up to its cut, joined in order; after a refusal the front of it.
+#![tactic(auto)]
+
+mod running;
+mod spans;
+
+pub use running::run_plan;
