@@ -1,0 +1,54 @@
+-- What the run of a plan says of its query.
+use Rattle.std.proofs.Common.{◌≡◌, ◌⊎◌, true, false, List, ℕ, length, Option, Some, None, Result, Ok, subst}
+use Rattle.grammar.specs.Trees as model
+use Rattle.lp_model.specs.Outside.{Folder, Told, Gains, GainsSome}
+use Rattle.command_words.specs.declared.spec.Spec.{Spec}
+use Rattle.command_words.specs.declared.formats.InputFormat.{InputFormat}
+use Rattle.log_reading.specs.declared.span.Span.{Span}
+use Rattle.log_reading.specs.Spans.{AreKept, spans_found, spans_bad}
+use Rattle.output_formats.specs.Headers.{csv_of}
+use Rattle.query_run.specs.declared.executing.Counts.{Counts}
+use Rattle.query_types.specs.Planned.{Planned, plan_of}
+use Rattle.input_tables.specs.Tables.{lines_of, table_of}
+use Rattle.execution.specs.Formats.{input_of}
+use Rattle.execution.specs.Executed.{rows_in, Writes, IsExecuted, IsFront}
+
+abbrev Kept : InputFormat → List Span → Folder → Type 0
+Kept format spans folder = AreKept (lines_of format) false spans folder
+
+written_all : (told : Option Folder) (before now : Option (List ℕ)) (spec : Spec) (format : InputFormat) (plan : Planned) (spans : List Span) (counts : Counts)
+    → Told told (λ folder. Kept format spans folder → Gains before now (csv_of spec.headers true plan.names (rows_in format plan folder spans)))
+    → Told told (λ folder. Kept format spans folder → counts.processed ≡ length (spans_found (lines_of format) false folder spans))
+    → Told told (λ folder. Kept format spans folder → counts.output ≡ length (rows_in format plan folder spans))
+    → Told told (λ folder. Kept format spans folder → counts.bad ≡ length (spans_bad (lines_of format) false folder spans))
+    → Told told (λ folder. Kept format spans folder → Writes before now spec format plan spans counts folder)
+written_all None before now spec format plan spans counts text processed output bad = tt
+written_all (Some folder) before now spec format plan spans counts text processed output bad =
+    λ kept. record { text = text kept; processed = processed kept; output = output kept; bad = bad kept }
+
+pub executed : (told : Option Folder) (before now : Option (List ℕ)) (spec : Spec) (q : model.Query) (format : InputFormat) (plan : Planned) (slice spans : List Span) (counts : Counts)
+    → format ≡ input_of spec q → slice ≡ spans → plan_of (table_of format) q ≡ Ok plan
+    → Told told (λ folder. Kept format slice folder → Gains before now (csv_of spec.headers true plan.names (rows_in format plan folder slice)))
+    → Told told (λ folder. Kept format slice folder → counts.processed ≡ length (spans_found (lines_of format) false folder slice))
+    → Told told (λ folder. Kept format slice folder → counts.output ≡ length (rows_in format plan folder slice))
+    → Told told (λ folder. Kept format slice folder → counts.bad ≡ length (spans_bad (lines_of format) false folder slice))
+    → IsExecuted told before now spec q spans counts
+executed told before now spec q format plan slice spans counts same listed planned text processed output bad =
+    let Of : InputFormat → List Span → Type 0 = λ f s. Told told (λ folder. Kept f s folder → Writes before now spec f plan s counts folder) in
+    record {
+      plan = plan;
+      is_planned = subst (λ (f : InputFormat). plan_of (table_of f) q ≡ Ok plan) same planned;
+      written = subst (λ (s : List Span). Of (input_of spec q) s) listed (subst (λ (f : InputFormat). Of f slice) same (written_all told before now spec format plan slice counts text processed output bad));
+    }
+
+pub front : (told : Option Folder) (before now : Option (List ℕ)) (spec : Spec) (q : model.Query) (format : InputFormat) (plan : Planned) (slice spans : List Span)
+    → format ≡ input_of spec q → slice ≡ spans → plan_of (table_of format) q ≡ Ok plan
+    → Told told (λ folder. Kept format slice folder → GainsSome before now (csv_of spec.headers true plan.names (rows_in format plan folder slice)))
+    → IsFront told before now spec q spans
+front told before now spec q format plan slice spans same listed planned text =
+    let Of : InputFormat → List Span → Type 0 = λ f s. Told told (λ folder. Kept f s folder → GainsSome before now (csv_of spec.headers true plan.names (rows_in f plan folder s))) in
+    record {
+      plan = plan;
+      is_planned = subst (λ (f : InputFormat). plan_of (table_of f) q ≡ Ok plan) same planned;
+      front = subst (λ (s : List Span). Of (input_of spec q) s) listed (subst (λ (f : InputFormat). Of f slice) same text);
+    }

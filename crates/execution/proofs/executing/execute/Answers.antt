@@ -1,0 +1,31 @@
+use Rattle.std.proofs.Common.{inr}
+use Rattle.lp_model.proofs.Growing.{OnlyGrow-refl}
+use Rattle.query_tree.specs.Views.{query_of}
+use Rattle.query_types.specs.Planned.{planned_in}
+use Rattle.execution.proofs.Runs.{executed, front}
+use Rattle.execution.proofs.executing.execute.Goals as goal
+
+pub returns-in-Err-clause-grows : goal.returns-in-Err-clause-grows
+returns-in-Err-clause-grows g c = OnlyGrow-refl _
+
+pub returns-in-Ok-run_plan-clause-ran : goal.returns-in-Ok-run_plan-clause-ran
+returns-in-Ok-run_plan-clause-ran g c =
+    let run = c.in-Ok-run_plan.ensures in
+    executed (g.L.Logs.folder c.run_plan.new.logs) (g.G.Stage.state c.args.stage.now).written (g.G.Stage.state c.run_plan.new.stage).written c.args.spec.now (query_of c.args.query.now)
+    c.input_of-format.result (planned_in c.in-Ok.plan) c.as_slice.result.now c.args.spans.now c.in-Ok-run_plan.counts c.input_of-format.ensures c.as_slice.ensures c.in-Ok.ensures.plan
+    run.text run.processed run.output run.bad
+
+pub returns-in-Err-Memory-clause-stopped : goal.returns-in-Err-Memory-clause-stopped
+returns-in-Err-Memory-clause-stopped g c = inr
+    (front (g.L.Logs.folder c.run_plan.new.logs) (g.G.Stage.state c.args.stage.now).written (g.G.Stage.state c.run_plan.new.stage).written c.args.spec.now (query_of c.args.query.now)
+    c.input_of-format.result (planned_in c.in-Ok.plan) c.as_slice.result.now c.args.spans.now c.input_of-format.ensures c.as_slice.ensures c.in-Ok.ensures.plan c.in-Err-Memory.ensures.front)
+
+pub returns-in-Err-Logs-clause-stopped : goal.returns-in-Err-Logs-clause-stopped
+returns-in-Err-Logs-clause-stopped g c = inr
+    (front (g.L.Logs.folder c.run_plan.new.logs) (g.G.Stage.state c.args.stage.now).written (g.G.Stage.state c.run_plan.new.stage).written c.args.spec.now (query_of c.args.query.now)
+    c.input_of-format.result (planned_in c.in-Ok.plan) c.as_slice.result.now c.args.spans.now c.input_of-format.ensures c.as_slice.ensures c.in-Ok.ensures.plan c.in-Err-Logs.ensures.front)
+
+pub returns-in-Err-Output-clause-stopped : goal.returns-in-Err-Output-clause-stopped
+returns-in-Err-Output-clause-stopped g c = inr
+    (front (g.L.Logs.folder c.run_plan.new.logs) (g.G.Stage.state c.args.stage.now).written (g.G.Stage.state c.run_plan.new.stage).written c.args.spec.now (query_of c.args.query.now)
+    c.input_of-format.result (planned_in c.in-Ok.plan) c.as_slice.result.now c.args.spans.now c.input_of-format.ensures c.as_slice.ensures c.in-Ok.ensures.plan c.in-Err-Output.ensures.front)

@@ -1,0 +1,4 @@
+pub mod Formats
+pub mod Built
+pub mod Executed
+pub mod Faults
