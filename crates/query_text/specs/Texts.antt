@@ -1,5 +1,5 @@
 -- Which bytes are which query, and which fault they have.
-use Rattle.std.specs.Prelude.{◌≡◌, ◌≢◌, ℕ, ◌≤◌, ◌<◌, List, length, map, Option, Some, None, Result, Ok, Err, ⊤}
+use Rattle.std.specs.Prelude.{◌≡◌, ◌≢◌, ℕ, ◌≤◌, ◌<◌, List, length, map, Some, None, Err, ⊤}
 use Rattle.std.specs.Str.{IsUtf8}
 use Rattle.grammar.specs.Rules.{query}
 use Rattle.grammar.specs.Trees as model
@@ -9,7 +9,6 @@ use Rattle.query_lexer.specs.declared.fault.LexFault.TheVariants as lex
 use Rattle.query_lexer.specs.Reading.{IsLexed}
 use Rattle.query_lexer.specs.Reading.{IsFault as IsLexFault}
 use Rattle.query_tree.specs.Tokens.{seen}
-use Rattle.query_tree.specs.declared.query.Query.{Query}
 use Rattle.query_parser.specs.declared.fault.ParseFault.TheVariants as parse
 use Rattle.query_parser.specs.Parsed.{IsFault as IsParseFault}
 use Rattle.query_text.specs.Stdin.{misplaced}

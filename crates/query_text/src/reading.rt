@@ -93,7 +93,10 @@ fn check_stdin(query: Query) -> Result<Query, ReadFault>
 {
     match misplaced(&query) {
         None => Ok(query),
-        Some(at) => Err(ReadFault::Query(QueryFault::StdinMisplaced(at))),
+        Some(at) => {
+            drop(query);
+            Err(ReadFault::Query(QueryFault::StdinMisplaced(at)))
+        }
     }
 }
 

@@ -1,5 +1,5 @@
 -- A query file's bytes up to its length.
-use Rattle.std.proofs.Common.{◌≡◌, ◌≤◌, ◌<◌, ◌+◌, ℕ, List, ◌++◌, length, take, Option, Some, None, IsSome, option_map, unwrap_or, replicate, refl, sym, ◌∙◌, ap, arith}
+use Rattle.std.proofs.Common.{◌≡◌, ◌≤◌, ◌<◌, ◌+◌, ℕ, List, [], ◌++◌, length, take, Option, Some, None, IsSome, option_map, unwrap_or, replicate, refl, sym, ◌∙◌, ap, arith}
 use Rattle.std.proofs.lemmas.List.{take_all, length-replicate}
 use Rattle.lp_model.specs.Outside.{Folder, OnlyGrow, Rose, Told, bytes_in}
 use Rattle.lp_model.specs.Pieces.{IsPiece}
@@ -21,7 +21,7 @@ some_is count None e = absurd (cc)
 some_is count (Some bytes) e = refl
 
 none_is : (file : Option (List ℕ)) → None ≡ option_map length file → file ≡ None
-none_is None e = e
+none_is None e = refl
 none_is (Some bytes) e = absurd (cc)
 
 -- a file without a length isn't there
@@ -58,9 +58,9 @@ is_cut before (Some y) (Some z) name bytes cut first second h same = record {
 -- a length over that of the longest query
 pub too_long : (before now : Option Folder) (name : List ℕ) (cut : ℕ) → OnlyGrow before now → IsLengthOf now name cut → 65_536 < cut → IsTooLong before now name
 too_long before None name cut grow h over = record {
-  text = replicate cut 0;
+  text = replicate {A = ℕ} cut 0;
   cut = tt;
-  long = let size : length (replicate cut 0) ≡ cut = length-replicate cut 0 in omega arith;
+  long = let size : length (replicate {A = ℕ} cut 0) ≡ cut = length-replicate {A = ℕ} cut 0 in omega arith;
 }
 too_long before (Some y) name cut grow h over = record {
   text = bytes_in y name;

@@ -1,5 +1,5 @@
 -- `file:` before a name.
-use Rattle.std.proofs.Common.{◌≡◌, ℕ, ◌<◌, ◌≤◌, Bool, true, false, IsTrue, ◌↔◌, List, length, take, drop, map, get_or, min, codes, Option, Some, None, refl, sym, ◌∙◌, ap, subst, inl, inr, arith, lit<}
+use Rattle.std.proofs.Common.{◌≡◌, ℕ, ◌<◌, ◌≤◌, Bool, true, false, IsTrue, ◌↔◌, List, [], ◌∷◌, length, take, drop, map, get_or, min, codes, Option, Some, None, refl, sym, ◌∙◌, ap, subst, inl, inr, arith, lit<}
 use Rattle.std.specs.Char.{to_ascii_lowercase}
 use Rattle.std.specs.Str.{IsUtf8, IsAscii, IsCharBoundary}
 use Rattle.std.proofs.Math.ListN.{get_or-map}
@@ -19,7 +19,7 @@ ascii_lowered : (xs : List ℕ) → IsAscii (map to_ascii_lowercase xs) → IsAs
 ascii_lowered xs h = λ i. lower_ascii (get_or xs i 0) (subst (λ (c : ℕ). c < 128) (get_or-map to_ascii_lowercase xs i 0) (h i))
 
 file_ascii : IsAscii (map to_ascii_lowercase (codes "file:"))
-file_ascii = IsAscii-cons 102 _ (lit< tt) (IsAscii-cons 105 _ (lit< tt) (IsAscii-cons 108 _ (lit< tt) (IsAscii-cons 101 _ (lit< tt) (IsAscii-cons 58 _ (lit< tt) IsAscii-nil))))
+file_ascii = IsAscii-cons 102 (105 ∷ 108 ∷ 101 ∷ 58 ∷ []) (lit< tt) (IsAscii-cons 105 (108 ∷ 101 ∷ 58 ∷ []) (lit< tt) (IsAscii-cons 108 (101 ∷ 58 ∷ []) (lit< tt) (IsAscii-cons 101 (58 ∷ []) (lit< tt) (IsAscii-cons 58 [] (lit< tt) IsAscii-nil))))
 
 -- a character ends behind `file:`
 ends : (word : List ℕ) → IsUtf8 word → map to_ascii_lowercase (take 5 word) ≡ map to_ascii_lowercase (codes "file:") → IsCharBoundary word 5

@@ -1,4 +1,3 @@
-use Rattle.std.proofs.Common.{length}
 use Rattle.std.proofs.lemmas.Result.{err_from_is_err_and, IfOk-weaker, IfErr-weaker}
 use Rattle.query_tree.specs.Views.{query_of}
 use Rattle.query_text.specs.Texts.{Parses, IsOnlyQuery, IsReadFault, HasNone}

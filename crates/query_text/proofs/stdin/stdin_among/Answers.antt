@@ -1,4 +1,4 @@
-use Rattle.std.proofs.Common.{◌∙◌, refl, sym, ap, List}
+use Rattle.std.proofs.Common.{◌∙◌, refl, sym, ap}
 use Rattle.query_text.specs.Stdin.{is_stdin}
 use Rattle.query_text.proofs.Placing.{passes}
 use Rattle.query_text.proofs.stdin.stdin_among.Goals as goal
