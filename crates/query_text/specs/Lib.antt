@@ -1,0 +1,3 @@
+pub mod Stdin
+pub mod Texts
+pub mod Refusals

@@ -1,0 +1,4 @@
+pub mod Growing
+mod Cutting
+mod Naming
+mod Refusing
