@@ -1,0 +1,73 @@
+-- What a refusal is called.
+use Rattle.std.specs.Prelude.{ℕ, List, [], ◌∷◌, ◌++◌, codes, decimal, Bool, true, false, Option, Some, None}
+use Rattle.command_words.specs.Usage.{usage_text}
+use Rattle.query_lexer.specs.declared.fault.LexFault.{LexFault}
+use Rattle.query_lexer.specs.declared.fault.LexFault.TheVariants as lex
+use Rattle.query_parser.specs.declared.fault.ParseFault.{ParseFault}
+use Rattle.query_parser.specs.declared.fault.ParseFault.TheVariants as parse
+use Rattle.query_types.specs.declared.fault.TypeFault.{TypeFault}
+use Rattle.query_types.specs.declared.fault.TypeFault.TheVariants as type
+use Rattle.query_text.specs.declared.fault.QueryFault.{QueryFault}
+use Rattle.query_text.specs.declared.fault.QueryFault.TheVariants as query
+use Rattle.reports.specs.declared.status.Status.{Status}
+use Rattle.reports.specs.declared.status.Status.TheVariants.{Done, Memory, Clock, Usage, Query, NotBuilt, NoSuchLog, BadName, TooManyLogs, LogsFault, SinkFault}
+
+-- a kind of fault at a place of the query
+abbrev pub at_place : ℕ → List ℕ → List ℕ
+at_place at kind = codes "query: at " ++ decimal at ++ (codes ": " ++ kind)
+
+abbrev pub lex_reason : LexFault → List ℕ
+lex_reason (lex.BadCharacter at) = at_place at (codes "bad character")
+lex_reason (lex.OpenString at) = at_place at (codes "open string")
+lex_reason (lex.OpenBracket at) = at_place at (codes "open bracket")
+lex_reason (lex.NumberTooLarge at) = at_place at (codes "number too large")
+lex_reason lex.Memory = codes "out of memory"
+
+abbrev pub parse_reason : ParseFault → List ℕ
+parse_reason (parse.Syntax at) = at_place at (codes "syntax")
+parse_reason (parse.TooDeep at) = at_place at (codes "too deep")
+parse_reason parse.Memory = codes "out of memory"
+
+abbrev pub type_reason : TypeFault → List ℕ
+type_reason (type.UnknownField at) = at_place at (codes "unknown field")
+type_reason (type.UnknownFunction at) = at_place at (codes "unknown function")
+type_reason (type.KindMismatch at) = at_place at (codes "kind mismatch")
+type_reason (type.TooFewColumns at) = at_place at (codes "too few columns")
+type_reason type.Memory = codes "out of memory"
+
+abbrev pub query_reason : QueryFault → List ℕ
+query_reason query.TooLong = codes "query: too long"
+query_reason query.NotUtf8 = codes "query: not UTF-8"
+query_reason (query.Lex fault) = lex_reason fault
+query_reason (query.Parse fault) = parse_reason fault
+query_reason (query.StdinMisplaced at) = at_place at (codes "STDIN misplaced")
+query_reason (query.Plan fault) = type_reason fault
+
+-- a kind of fault as it is written behind a place, where there is one
+abbrev pub placed : Option ℕ → List ℕ → List ℕ
+placed None kind = kind
+placed (Some at) kind = codes "query: at " ++ decimal at ++ kind
+
+-- a refusal whose reason has a number
+abbrev pub is_counted : Status → Bool
+is_counted (Usage fault) = true
+is_counted (Query fault) = true
+is_counted other = false
+
+-- what a refusal is called
+abbrev pub reason : Status → List ℕ
+reason Done = []
+reason Memory = codes "out of memory"
+reason (Clock moment) = codes "clock"
+reason (Usage fault) = codes "usage: word " ++ decimal fault.word ++ (codes ": " ++ usage_text fault.kind)
+reason (Query fault) = query_reason fault
+reason NotBuilt = codes "not built"
+reason (NoSuchLog name) = codes "input: no such log " ++ name
+reason (BadName fault) = codes "input: bad name"
+reason TooManyLogs = codes "input: more than 100000 logs"
+reason LogsFault = codes "read fault: logs"
+reason SinkFault = codes "write fault"
+
+-- the line that tells of a refusal
+abbrev pub message : Status → List ℕ
+message status = codes "logparser: " ++ reason status ++ 10 ∷ []

@@ -1,0 +1,103 @@
+// What a run tells of itself.
+ghost use Rattle.std.specs.Prelude.{◌≡◌, ◌++◌, ◌∷◌, [], codes, decimal, OnOk, OnErr};
+ghost use Rattle.lp_model.specs.Outside.{Gains, GainsSome, HasCause};
+ghost use Rattle.lp_model.specs.Report.{statistics, bad_report};
+ghost use Rattle.reports.specs.Status.{reason, message};
+
+use crate::Status;
+use itoa::Buffer;
+use lp_outside::{Sink, SinkFailed, write_all};
+
+// Writes three pieces, one behind the other.
+fn write_three<E: Sink>(
+    err: &mut E,
+    first: &[u8],
+    second: &[u8],
+    third: &[u8],
+) -> Result<(), SinkFailed>
+    ensures ok { OnOk result (Gains (E.written err.old) (E.written err.new) (first.now ++ second.now ++ third.now)) }
+    ensures err { OnErr result (GainsSome (E.written err.old) (E.written err.new) (first.now ++ second.now ++ third.now)) }
+    ensures cause { HasCause (E.faults err.old) (E.faults err.new) result }
+{
+    write_all(err, first)?;
+    write_all(err, second)?;
+    write_all(err, third)?;
+    Ok(())
+}
+
+// Writes a number between two texts.
+fn write_number<E: Sink>(
+    err: &mut E,
+    head: &[u8],
+    number: u64,
+    tail: &[u8],
+) -> Result<(), SinkFailed>
+    ensures ok { OnOk result (Gains (E.written err.old) (E.written err.new) (head.now ++ decimal number ++ tail.now)) }
+    ensures err { OnErr result (GainsSome (E.written err.old) (E.written err.new) (head.now ++ decimal number ++ tail.now)) }
+    ensures cause { HasCause (E.faults err.old) (E.faults err.new) result }
+{
+    let mut buffer = Buffer::new();
+    write_three(err, head, buffer.format(number).as_bytes(), tail)
+}
+
+// Writes the count of bad lines, where any were met.
+fn write_bad<E: Sink>(err: &mut E, bad: u64) -> Result<(), SinkFailed>
+    ensures ok { OnOk result (Gains (E.written err.old) (E.written err.new) (bad_report bad)) }
+    ensures err { OnErr result (GainsSome (E.written err.old) (E.written err.new) (bad_report bad)) }
+    ensures cause { HasCause (E.faults err.old) (E.faults err.new) result }
+{
+    if bad == 0 {
+        Ok(())
+    } else {
+        write_number(err, b"Lines not read:     ", bad, b"\n")
+    }
+}
+
+/// Writes the statistics. It takes no memory.
+pub fn write_statistics<E: Sink>(
+    err: &mut E,
+    processed: u64,
+    output: u64,
+    bad: u64,
+) -> Result<(), SinkFailed>
+    ensures ok { OnOk result (Gains (E.written err.old) (E.written err.new) (statistics processed output bad)) }
+    ensures err { OnErr result (GainsSome (E.written err.old) (E.written err.new) (statistics processed output bad)) }
+    ensures cause { HasCause (E.faults err.old) (E.faults err.new) result }
+{
+    write_number(
+        err,
+        b"Statistics:\n-----------\nElements processed: ",
+        processed,
+        b"\n",
+    )?;
+    write_number(err, b"Elements output:    ", output, b"\n")?;
+    write_bad(err, bad)?;
+    Ok(())
+}
+
+// What a refusal is called, and the name that belongs to it.
+fn reason(status: &Status) -> (&str, &str)
+    ensures { result.0.now ++ result.1.now ≡ reason status.now }
+{
+    match status {
+        Status::Done => ("", ""),
+        Status::Memory => ("out of memory", ""),
+        Status::Clock(_) => ("clock", ""),
+        Status::NotBuilt => ("not built", ""),
+        Status::NoSuchLog(name) => ("input: no such log ", name.as_str()),
+        Status::LogsFault => ("read fault: logs", ""),
+        Status::SinkFault => ("write fault", ""),
+    }
+}
+
+/// Writes the line that tells of a refusal. It takes no memory.
+pub fn write_message<E: Sink>(err: &mut E, status: &Status) -> Result<(), SinkFailed>
+    ensures ok { OnOk result (Gains (E.written err.old) (E.written err.new) (message status.now)) }
+    ensures err { OnErr result (GainsSome (E.written err.old) (E.written err.new) (message status.now)) }
+    ensures cause { HasCause (E.faults err.old) (E.faults err.new) result }
+{
+    let (kind, name) = reason(status);
+    write_all(err, b"logparser: ")?;
+    write_three(err, kind.as_bytes(), name.as_bytes(), b"\n")?;
+    Ok(())
+}

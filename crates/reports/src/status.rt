@@ -1,0 +1,41 @@
+// How a run ends.
+ghost use Rattle.std.specs.Prelude.{◌≡◌};
+
+use lp_outside::Name;
+
+/// The answer of a run. Each variant but `Done` is a refusal, with what it names.
+#[derive(Drop)]
+pub enum Status {
+    /// The run is whole.
+    Done,
+    /// Memory was refused.
+    Memory,
+    /// The clock's whole seconds since 1970, which lie outside years 1970 to 9999.
+    Clock(i64),
+    /// The words ask for something that isn't built yet.
+    NotBuilt,
+    /// No file has this name.
+    NoSuchLog(Name),
+    /// A log couldn't be read.
+    LogsFault,
+    /// The output couldn't be written.
+    SinkFault,
+}
+
+impl Status {
+    ghost use Rattle.reports.specs.Status.{code};
+
+    /// The exit status of the program.
+    pub fn code(&self) -> u8
+        ensures { result ≡ code self.now }
+    {
+        match self {
+            Status::Done => 0,
+            Status::Memory => 1,
+            Status::Clock(_) | Status::NotBuilt => 2,
+            Status::NoSuchLog(_) => 4,
+            Status::LogsFault => 5,
+            Status::SinkFault => 7,
+        }
+    }
+}
