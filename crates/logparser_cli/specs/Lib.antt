@@ -1,3 +1,3 @@
-pub mod Status
+pub mod Logs
 pub mod Whole
-pub mod Words
+pub mod Answers

@@ -1,68 +1,57 @@
--- What a run over a text log writes.
-use Rattle.std.specs.Prelude.{◌≡◌, ◌⊎◌, ◌≤◌, ℕ, ℤ, true, false, List, [], ◌∷◌, length, take, map, codes, pos, ◌≤ℤ◌, ◌<ℤ◌, Option, IsSome}
-use Rattle.lp_model.specs.Outside.{Folder, Told, bytes_in, Gains, GainsSome}
-use Rattle.lp_model.specs.Reading.{records_of, bad_lines_of, text_lines}
+-- What a run writes.
+use Rattle.std.specs.Prelude.{◌≡◌, ◌⊎◌, ℕ, Bool, true, false, List, [], Option}
+use Rattle.grammar.specs.Trees as model
+use Rattle.lp_model.specs.Outside.{Folder, Told, Gains, GainsSome, Rose}
 use Rattle.lp_model.specs.Report.{statistics}
-use Rattle.lp_values.specs.declared.value.Value.{Value}
-use Rattle.log_reading.specs.Found.{found_of}
-use Rattle.output_formats.specs.declared.csv.Headers.TheVariants.{Auto}
+use Rattle.command_words.specs.declared.spec.Spec.{Spec}
+use Rattle.checkpoint.specs.Wholes.{whole_spans}
+use Rattle.execution.specs.Executed.{Writes, IsPlanned, rows_in}
+use Rattle.execution.specs.Formats.{input_of}
+use Rattle.log_listing.specs.declared.lengths.NameLength.{NameLength}
 use Rattle.output_formats.specs.Headers.{csv_of}
-use Rattle.query_run.specs.Rows.{row_of}
+use Rattle.query_run.specs.declared.executing.Counts.{Counts}
+use Rattle.query_types.specs.Planned.{Planned}
+use Rattle.logparser_cli.specs.Logs.{AreLogs}
 
--- from 1970-01-01 00:00:00 to 9999-12-31 23:59:59
-abbrev pub IsMoment : ℤ → Type 0
-IsMoment moment = (pos 0 ≤ℤ moment) × (moment <ℤ pos 253402300800)
+-- what is known of the outside at one moment: the logs' files, what the two outputs have, and how often each has failed
+pub record World : Type 0 where
+  pub folder : Option Folder
+  pub logs_faults : ℕ
+  pub out : Option (List ℕ)
+  pub out_faults : ℕ
+  pub err : Option (List ℕ)
+  pub err_faults : ℕ
 
-abbrev pub text_names : List (List ℕ)
-text_names = codes "LogFilename" ∷ codes "Index" ∷ codes "Text" ∷ []
-
--- the rows of a text log
-abbrev pub log_rows : List ℕ → List ℕ → List (List Value)
-log_rows name bytes = map row_of (found_of name (records_of text_lines bytes false 0 (length bytes)))
-
--- how many of its lines are bad
-abbrev pub bad_count : List ℕ → ℕ
-bad_count bytes = length (bad_lines_of text_lines bytes false 0 (length bytes))
-
--- the CSV text of a text log
-abbrev pub log_text : List ℕ → List ℕ → List ℕ
-log_text name bytes = csv_of Auto true text_names (log_rows name bytes)
-
--- a log's bytes up to a cut: its length at some moment of the call
-pub record IsCut (before : Option Folder) (folder : Folder) (name bytes : List ℕ) : Type 0 where
-  pub there : IsSome (folder name)
-  pub cut : ℕ
-  pub at_least : Told before (λ old. length (bytes_in old name) ≤ cut)
-  pub at_most : cut ≤ length (bytes_in folder name)
-  pub bytes_are : bytes ≡ take cut (bytes_in folder name)
-
--- the output gains the CSV text of a log up to a cut; so many records, so many rows and so many bad lines were met
-pub record WritesLog (before : Option Folder) (written_before written_now : Option (List ℕ)) (name : List ℕ) (processed output bad : ℕ) (folder : Folder) : Type 0 where
-  pub bytes : List ℕ
-  pub is_cut : IsCut before folder name bytes
-  pub text : Gains written_before written_now (log_text name bytes)
-  pub records : processed ≡ length (log_rows name bytes)
-  pub rows : output ≡ length (log_rows name bytes)
-  pub bad_lines : bad ≡ bad_count bytes
+-- a query is run over these logs by this plan
+pub record Runs (before now : Option Folder) (spec : Spec) (q : model.Query) (logs : List NameLength) (plan : Planned) : Type 0 where
+  pub are_logs : AreLogs before now q logs
+  pub is_planned : IsPlanned spec q plan
 
 -- an output gains a text, or the front of it where its faults rose
 abbrev pub Tells : Option (List ℕ) → Option (List ℕ) → List ℕ → Type 0 → Type 0
 Tells before now text Rises = Gains before now text ⊎ (GainsSome before now text × Rises)
 
--- the output gains the CSV text of a log, and the other the statistics
-pub record IsWhole (before now : Option Folder) (out_before out_now err_before err_now : Option (List ℕ)) (ErrRose : Type 0) (name : List ℕ) : Type 0 where
-  pub processed : ℕ
-  pub output : ℕ
-  pub bad : ℕ
-  pub written : Told now (WritesLog before out_before out_now name processed output bad)
-  pub told : Tells err_before err_now (statistics processed output bad) ErrRose
+-- the statistics, unless they are switched off
+abbrev pub told_statistics : Bool → Counts → List ℕ
+told_statistics true counts = statistics counts.processed counts.output counts.bad
+told_statistics false counts = []
 
--- the output holds the front of the CSV text of a log up to a cut
-pub record WritesFront (before : Option Folder) (written_before written_now : Option (List ℕ)) (name : List ℕ) (folder : Folder) : Type 0 where
-  pub bytes : List ℕ
-  pub is_cut : IsCut before folder name bytes
-  pub front : GainsSome written_before written_now (log_text name bytes)
+-- a whole run: the output gains the text of the query's rows over the whole logs, and the other output the statistics
+pub record IsWhole (old new : World) (spec : Spec) (q : model.Query) : Type 0 where
+  pub logs : List NameLength
+  pub plan : Planned
+  pub runs : Runs old.folder new.folder spec q logs plan
+  pub counts : Counts
+  pub written : Told new.folder (Writes old.out new.out spec (input_of spec q) plan (whole_spans logs) counts)
+  pub told : Tells old.err new.err (told_statistics spec.stats counts) (Rose old.err_faults new.err_faults)
 
--- an output is as it was, or holds the front of a log's text
-abbrev pub IsFront : Option Folder → Option Folder → Option (List ℕ) → Option (List ℕ) → List ℕ → Type 0
-IsFront before now written_before written_now name = (written_now ≡ written_before) ⊎ Told now (WritesFront before written_before written_now name)
+-- the output holds the front of that text
+pub record HoldsFront (before now : Option Folder) (out_before out_now : Option (List ℕ)) (spec : Spec) (q : model.Query) : Type 0 where
+  pub logs : List NameLength
+  pub plan : Planned
+  pub runs : Runs before now spec q logs plan
+  pub front : Told now (λ folder. GainsSome out_before out_now (csv_of spec.headers true plan.names (rows_in (input_of spec q) plan folder (whole_spans logs))))
+
+-- nothing was written
+abbrev pub IsUnwritten : World → World → Type 0
+IsUnwritten old new = new.out ≡ old.out

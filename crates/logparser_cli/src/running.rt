@@ -1,109 +1,70 @@
 // The run.
-ghost use Rattle.std.specs.Prelude.{◌≡◌, ◌≤◌, ◌^◌, ℕ, ℤ, List, Option, Some, None, IsSome, IsSomeAnd, IfOk, OnOk, OnErr, IsErrOf, length, take};
-ghost use Rattle.lp_model.specs.Outside.{Rose, Told, OnlyGrow, Gains, GainsSome, bytes_in};
-ghost use Rattle.lp_model.specs.Report.{statistics};
-ghost use Rattle.logparser_cli.specs.Status.{OnDone, IfClock, OnNotBuilt, IfNoSuchLog, OnLogsFault, OnSinkFault, OnRefused, OnRefusedBefore, OnStopped, message};
-ghost use Rattle.logparser_cli.specs.Whole.{IsMoment, IsWhole, IsFront, Tells, text_names, log_rows, log_text, bad_count};
-ghost use Rattle.logparser_cli.specs.Words.{asked};
+ghost use Rattle.std.specs.Prelude.{◌≡◌, ◌≤◌, ℕ, ℤ, true};
+ghost use Rattle.lp_model.specs.Outside.{Rose, OnlyGrow};
+ghost use Rattle.query_tree.specs.Views.{query_of};
+ghost use Rattle.execution.specs.Built.{all_built};
+ghost use Rattle.execution.specs.Executed.{IsMoment};
+ghost use Rattle.reports.specs.Messages.{message};
+ghost use Rattle.reports.specs.Status.{OnRefused};
+ghost use Rattle.logparser_cli.specs.Answers.{Answers, AnswersBuilt, AnswersQuery, stopped, unasked};
+ghost use Rattle.logparser_cli.specs.Whole.{World, Tells, told_statistics};
 
 use crate::Status;
-use crate::report::{write_message, write_statistics};
-use crate::words::asked;
-use line_input::{Standing, TextLines};
-use log_reading::{RunFault, Span, TookList};
-use lp_outside::{Disk, Logs, Name, Sink, Source};
-use lp_values::{Text, TextList};
-use output_formats::{CsvOut, Headers};
-use query_run::{Counts, EveryRow, execute};
-use std::alloc::{AllocError, Global};
+use crate::listing::find_spans;
+use command_words::Spec;
+use execution::{RunFault, all_built, execute};
+use lp_outside::{Disk, Logs, Sink, Source};
+use lp_values::TextList;
+use query_run::Counts;
+use query_text::QueryFault;
+use query_tree::Query;
+use reports::{write_message, write_statistics};
+use requests::{RequestFault, read_request};
+use std::alloc::Global;
 
 const MOMENTS: i64 = 253402300800;
 
-// The names of a text log's columns.
-fn text_names(alloc: Global) -> Result<TextList, AllocError>
-    ensures { IfOk result (λ names. names ≡ text_names) }
+// What a refusal of the words or the query is.
+fn unasked(fault: RequestFault) -> Status
+    ensures { result ≡ unasked fault }
 {
-    let mut names = TextList::new(alloc);
-    names.push(Text::from_str(alloc, "LogFilename")?)?;
-    names.push(Text::from_str(alloc, "Index")?)?;
-    names.push(Text::from_str(alloc, "Text")?)?;
-    Ok(names)
-}
-
-// The span of a log from its start up to a cut.
-fn span_to(name: &Name, cut: u64) -> Span
-    ensures name { result.name ≡ name.now }
-    ensures identity { result.identity ≡ name.now }
-    ensures from { result.from ≡ 0 }
-    ensures listed { result.listed ≡ cut }
-    ensures lines { result.standing.lines ≡ 0 }
-    ensures columns { result.standing.columns ≡ None }
-{
-    Span {
-        name: name.copy(),
-        identity: name.copy(),
-        from: 0,
-        listed: cut,
-        standing: Standing::new(),
+    match fault {
+        RequestFault::Usage(fault) => Status::Usage(fault),
+        RequestFault::BadName(fault) => Status::BadName(fault),
+        RequestFault::NoSuchLog(name) => Status::NoSuchLog(name),
+        RequestFault::Query(fault) => Status::Query(fault),
+        RequestFault::Logs => Status::LogsFault,
+        RequestFault::Memory => Status::Memory,
     }
 }
 
-// Writes the CSV text of a log up to a cut.
-fn write_log<L: Logs, S: Sink>(
-    alloc: Global,
-    name: &Name,
-    cut: u64,
-    logs: &mut L,
-    out: &mut S,
-) -> Result<Counts, RunFault>
-    requires there { Told (L.folder logs.old) (λ folder. cut ≤ length (bytes_in folder name.now)) }
-    requires bounded { cut ≤ 2 ^ 46 }
-    ensures grows { OnlyGrow (L.folder logs.old) (L.folder logs.new) }
-    ensures text { OnOk result (Told (L.folder logs.new) (λ folder. Gains (S.written out.old) (S.written out.new) (log_text name.now (take cut (bytes_in folder name.now))))) }
-    ensures processed { IfOk result (λ counts. Told (L.folder logs.new) (λ folder. counts.processed ≡ length (log_rows name.now (take cut (bytes_in folder name.now))))) }
-    ensures output { IfOk result (λ counts. Told (L.folder logs.new) (λ folder. counts.output ≡ length (log_rows name.now (take cut (bytes_in folder name.now))))) }
-    ensures bad { IfOk result (λ counts. Told (L.folder logs.new) (λ folder. counts.bad ≡ bad_count (take cut (bytes_in folder name.now)))) }
-    ensures front { OnErr result (Told (L.folder logs.new) (λ folder. GainsSome (S.written out.old) (S.written out.new) (log_text name.now (take cut (bytes_in folder name.now))))) }
-    ensures later_logs { L.faults logs.old ≤ L.faults logs.new }
-    ensures logs { IsErrOf result RunFault.Logs → Rose (L.faults logs.old) (L.faults logs.new) }
-    ensures later { S.faults out.old ≤ S.faults out.new }
-    ensures sink { IsErrOf result RunFault.Output → Rose (S.faults out.old) (S.faults out.new) }
+// What a run of a query is that stopped.
+fn stopped(fault: RunFault) -> Status
+    ensures { result ≡ stopped fault }
 {
-    let Ok(names) = text_names(alloc) else {
-        return Err(RunFault::Memory);
-    };
-    let spans = [span_to(name, cut)];
-    let mut took = TookList::new(alloc);
-    execute(
-        alloc,
-        &TextLines,
-        false,
-        logs,
-        &spans,
-        &names,
-        true,
-        CsvOut::new(alloc, Headers::Auto),
-        EveryRow,
-        &mut took,
-        out,
-    )
+    match fault {
+        RunFault::Plan(fault) => Status::Query(QueryFault::Plan(fault)),
+        RunFault::LogsFault => Status::LogsFault,
+        RunFault::StageFault => Status::SinkFault,
+        RunFault::Memory => Status::Memory,
+    }
 }
 
-// Tells the statistics, as far as the output takes them.
-fn tell_statistics<E: Sink>(err: &mut E, counts: &Counts)
-    ensures told { Tells (E.written err.old) (E.written err.new) (statistics counts.now.processed counts.now.output counts.now.bad) (Rose (E.faults err.old) (E.faults err.new)) }
-    ensures later { E.faults err.old ≤ E.faults err.new }
+// Tells the statistics, unless they are switched off, as far as the output takes them.
+fn tell_statistics<E: Sink>(err: &mut E, stats: bool, counts: &Counts)
+    ensures told { Tells (E.written err.old) (E.written err.new) (told_statistics stats counts.now) (Rose (E.faults err.old) (E.faults err.new)) }
 {
-    match write_statistics(err, counts.processed, counts.output, counts.bad) {
-        Ok(()) => {}
-        Err(_) => {}
+    if stats {
+        match write_statistics(err, counts.processed, counts.output, counts.bad) {
+            Ok(()) => {}
+            Err(_) => {}
+        }
     }
 }
 
 // Tells of a refusal, as far as the output takes it.
 fn tell_refusal<E: Sink>(err: &mut E, status: &Status)
     ensures told { Tells (E.written err.old) (E.written err.new) (message status.now) (Rose (E.faults err.old) (E.faults err.new)) }
-    ensures later { E.faults err.old ≤ E.faults err.new }
 {
     match write_message(err, status) {
         Ok(()) => {}
@@ -111,73 +72,113 @@ fn tell_refusal<E: Sink>(err: &mut E, status: &Status)
     }
 }
 
-// The run over one log, before its refusal is told.
-fn run_log<L: Logs, S: Sink, E: Sink>(
+// Runs a query that is built, before a refusal is told.
+fn run_built<L: Logs, I: Source, S: Sink, E: Sink>(
     alloc: Global,
-    name: Name,
+    spec: &Spec,
+    query: &Query,
+    moment: i64,
     logs: &mut L,
+    input: &mut I,
     out: &mut S,
     err: &mut E,
 ) -> Status
-    ensures done { OnDone result (IsWhole (L.folder logs.old) (L.folder logs.new) (S.written out.old) (S.written out.new) (E.written err.old) (E.written err.new) (Rose (E.faults err.old) (E.faults err.new)) name) }
-    ensures clock { IfClock result (λ kept. ⊥) }
-    ensures not_built { OnNotBuilt result ⊥ }
-    ensures no_such_log { IfNoSuchLog result (λ missing. (missing ≡ name) × Told (L.folder logs.new) (λ folder. folder name ≡ None)) }
-    ensures logs_fault { OnLogsFault result (Rose (L.faults logs.old) (L.faults logs.new)) }
-    ensures sink_fault { OnSinkFault result (Rose (S.faults out.old) (S.faults out.new)) }
-    ensures untouched { OnRefusedBefore result (S.written out.new ≡ S.written out.old) }
-    ensures front { OnStopped result (IsFront (L.folder logs.old) (L.folder logs.new) (S.written out.old) (S.written out.new) name) }
+    requires moment { IsMoment moment }
+    requires built { all_built spec.now (query_of query.now) ≡ true }
+    ensures grows { OnlyGrow (L.folder logs.old) (L.folder logs.new) }
+    ensures later { L.faults logs.old ≤ L.faults logs.new }
+    ensures answers { AnswersBuilt
+        (record { folder = L.folder logs.old; logs_faults = L.faults logs.old; out = S.written out.old; out_faults = S.faults out.old; err = E.written err.old; err_faults = E.faults err.old })
+        (record { folder = L.folder logs.new; logs_faults = L.faults logs.new; out = S.written out.new; out_faults = S.faults out.new; err = E.written err.new; err_faults = E.faults err.new })
+        spec.now (query_of query.now) result }
+    ensures input { input.new ≡ input.old }
     ensures silent { OnRefused result (err.new ≡ err.old) }
 {
-    let cut = match logs.length(&name) {
-        Ok(Some(cut)) => cut,
-        Ok(None) => return Status::NoSuchLog(name),
-        Err(_) => return Status::LogsFault,
+    let spans = match find_spans(alloc, logs, query) {
+        Ok(spans) => spans,
+        Err(status) => return status,
     };
-    match write_log(alloc, &name, cut, logs, out) {
-        Ok(counts) => {
-            tell_statistics(err, &counts);
+    match execute(alloc, spec, query, moment, logs, input, &spans, out) {
+        Ok(ran) => {
+            tell_statistics(err, spec.stats, &ran.counts);
             Status::Done
         }
-        Err(RunFault::Memory) => Status::Memory,
-        Err(RunFault::Logs) => Status::LogsFault,
-        Err(RunFault::Output) => Status::SinkFault,
+        Err(fault) => stopped(fault),
     }
 }
 
-// The run before its refusal is told.
-fn run_words<L: Logs, S: Sink, E: Sink>(
+// Runs a query, before a refusal is told.
+fn run_query<L: Logs, I: Source, S: Sink, E: Sink>(
+    alloc: Global,
+    spec: &Spec,
+    query: &Query,
+    moment: i64,
+    logs: &mut L,
+    input: &mut I,
+    out: &mut S,
+    err: &mut E,
+) -> Status
+    requires moment { IsMoment moment }
+    ensures grows { OnlyGrow (L.folder logs.old) (L.folder logs.new) }
+    ensures later { L.faults logs.old ≤ L.faults logs.new }
+    ensures answers { AnswersQuery
+        (record { folder = L.folder logs.old; logs_faults = L.faults logs.old; out = S.written out.old; out_faults = S.faults out.old; err = E.written err.old; err_faults = E.faults err.old })
+        (record { folder = L.folder logs.new; logs_faults = L.faults logs.new; out = S.written out.new; out_faults = S.faults out.new; err = E.written err.new; err_faults = E.faults err.new })
+        spec.now (query_of query.now) result }
+    ensures input { input.new ≡ input.old }
+    ensures silent { OnRefused result (err.new ≡ err.old) }
+{
+    if all_built(spec, query) {
+        run_built(alloc, spec, query, moment, logs, input, out, err)
+    } else {
+        Status::NotBuilt
+    }
+}
+
+// Does what the words ask for, before a refusal is told.
+fn run_words<L: Logs, I: Source, S: Sink, E: Sink>(
     alloc: Global,
     words: &TextList,
     moment: i64,
     logs: &mut L,
+    input: &mut I,
     out: &mut S,
     err: &mut E,
 ) -> Status
-    ensures done { OnDone result (IsMoment moment × IsSomeAnd (asked words.now) (λ name. IsWhole (L.folder logs.old) (L.folder logs.new) (S.written out.old) (S.written out.new) (E.written err.old) (E.written err.new) (Rose (E.faults err.old) (E.faults err.new)) name)) }
-    ensures clock { IfClock result (λ kept. (kept ≡ moment) × ¬ IsMoment moment) }
-    ensures not_built { OnNotBuilt result (IsMoment moment × (asked words.now ≡ None)) }
-    ensures no_such_log { IfNoSuchLog result (λ name. IsMoment moment × (asked words.now ≡ Some name) × Told (L.folder logs.new) (λ folder. folder name ≡ None)) }
-    ensures logs_fault { OnLogsFault result (IsMoment moment × IsSome (asked words.now) × Rose (L.faults logs.old) (L.faults logs.new)) }
-    ensures sink_fault { OnSinkFault result (IsMoment moment × IsSome (asked words.now) × Rose (S.faults out.old) (S.faults out.new)) }
-    ensures untouched { OnRefusedBefore result (S.written out.new ≡ S.written out.old) }
-    ensures front { OnStopped result (IsMoment moment × IsSomeAnd (asked words.now) (λ name. IsFront (L.folder logs.old) (L.folder logs.new) (S.written out.old) (S.written out.new) name)) }
+    ensures answers { Answers moment words.now
+        (record { folder = L.folder logs.old; logs_faults = L.faults logs.old; out = S.written out.old; out_faults = S.faults out.old; err = E.written err.old; err_faults = E.faults err.old })
+        (record { folder = L.folder logs.new; logs_faults = L.faults logs.new; out = S.written out.new; out_faults = S.faults out.new; err = E.written err.new; err_faults = E.faults err.new })
+        result }
+    ensures input { input.new ≡ input.old }
     ensures silent { OnRefused result (err.new ≡ err.old) }
 {
     if moment < 0 || moment >= MOMENTS {
         return Status::Clock(moment);
     }
-    match asked(words) {
-        Some(name) => run_log(alloc, name, logs, out, err),
-        None => Status::NotBuilt,
+    match read_request(alloc, words, logs) {
+        Ok(request) => {
+            let status = run_query(
+                alloc,
+                &request.spec,
+                &request.query,
+                moment,
+                logs,
+                input,
+                out,
+                err,
+            );
+            drop(request);
+            status
+        }
+        Err(fault) => unasked(fault),
     }
 }
 
 /// Does all that the words ask for, as the clock's whole seconds since 1970 are `moment`.
 ///
-/// At `Done` the output has gained the text of the query over the log's bytes up to its length at some moment of the
-/// call, and `err` the statistics; at every refusal `err` has gained its message. Of either `err` holds the front where
-/// it failed. `disk` and `input` are left as they are.
+/// At `Done` the output has gained the text of the query over the records of the logs that FROM names, each up to its length
+/// at some moment of the call, and `err` the statistics; at every refusal `err` has gained its message. Of either `err` holds
+/// the front where it failed. `disk` and `input` are left as they are.
 pub fn run<L: Logs, D: Disk, I: Source, S: Sink, E: Sink>(
     alloc: Global,
     words: &TextList,
@@ -188,19 +189,15 @@ pub fn run<L: Logs, D: Disk, I: Source, S: Sink, E: Sink>(
     out: &mut S,
     err: &mut E,
 ) -> Status
-    ensures done { OnDone result (IsMoment moment × IsSomeAnd (asked words.now) (λ name. IsWhole (L.folder logs.old) (L.folder logs.new) (S.written out.old) (S.written out.new) (E.written err.old) (E.written err.new) (Rose (E.faults err.old) (E.faults err.new)) name)) }
-    ensures clock { IfClock result (λ kept. (kept ≡ moment) × ¬ IsMoment moment) }
-    ensures not_built { OnNotBuilt result (IsMoment moment × (asked words.now ≡ None)) }
-    ensures no_such_log { IfNoSuchLog result (λ name. IsMoment moment × (asked words.now ≡ Some name) × Told (L.folder logs.new) (λ folder. folder name ≡ None)) }
-    ensures logs_fault { OnLogsFault result (IsMoment moment × IsSome (asked words.now) × Rose (L.faults logs.old) (L.faults logs.new)) }
-    ensures sink_fault { OnSinkFault result (IsMoment moment × IsSome (asked words.now) × Rose (S.faults out.old) (S.faults out.new)) }
-    ensures untouched { OnRefusedBefore result (S.written out.new ≡ S.written out.old) }
-    ensures front { OnStopped result (IsMoment moment × IsSomeAnd (asked words.now) (λ name. IsFront (L.folder logs.old) (L.folder logs.new) (S.written out.old) (S.written out.new) name)) }
+    ensures answers { Answers moment words.now
+        (record { folder = L.folder logs.old; logs_faults = L.faults logs.old; out = S.written out.old; out_faults = S.faults out.old; err = E.written err.old; err_faults = E.faults err.old })
+        (record { folder = L.folder logs.new; logs_faults = L.faults logs.new; out = S.written out.new; out_faults = S.faults out.new; err = E.written err.new; err_faults = E.faults err.new })
+        result }
     ensures told { OnRefused result (Tells (E.written err.old) (E.written err.new) (message result) (Rose (E.faults err.old) (E.faults err.new))) }
     ensures disk { disk.new ≡ disk.old }
     ensures input { input.new ≡ input.old }
 {
-    match run_words(alloc, words, moment, logs, out, err) {
+    match run_words(alloc, words, moment, logs, input, out, err) {
         Status::Done => Status::Done,
         refusal => {
             tell_refusal(err, &refusal);

@@ -1,4 +1,0 @@
-pub mod Prefix
-pub mod Reporting
-pub mod WholeLog
-pub mod Cuts

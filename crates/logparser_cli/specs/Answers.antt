@@ -1,0 +1,96 @@
+-- What each answer of a run says.
+use Rattle.std.specs.Prelude.{◌≡◌, ◌⊎◌, ℕ, ℤ, Bool, true, false, List, ⊤}
+use Rattle.grammar.specs.Trees as model
+use Rattle.lp_model.specs.Outside.{Rose}
+use Rattle.command_words.specs.declared.spec.Spec.{Spec}
+use Rattle.execution.specs.Built.{all_built}
+use Rattle.execution.specs.Executed.{IsMoment, IsUnplanned}
+use Rattle.query_text.specs.declared.fault.QueryFault.{QueryFault}
+use Rattle.query_text.specs.declared.fault.QueryFault.TheVariants as Q
+use Rattle.reports.specs.declared.status.Status.{Status}
+use Rattle.reports.specs.declared.status.Status.TheVariants.{Done, Memory, Clock, Usage, Query, NotBuilt, NoSuchLog, BadName, TooManyLogs, LogsFault, SinkFault}
+use Rattle.requests.specs.Requests.{Asks, IsRefused}
+use Rattle.requests.specs.declared.fault.RequestFault.{RequestFault}
+use Rattle.requests.specs.declared.fault.RequestFault.TheVariants as R
+use Rattle.execution.specs.declared.fault.RunFault.{RunFault}
+use Rattle.execution.specs.declared.fault.RunFault.TheVariants as X
+use Rattle.logparser_cli.specs.Logs.{IsUnlisted}
+use Rattle.logparser_cli.specs.Whole.{World, IsWhole, HoldsFront, IsUnwritten}
+
+-- the query's fault is one of its plan
+abbrev pub IsUnplannable : Spec → model.Query → QueryFault → Type 0
+IsUnplannable spec q Q.TooLong = ⊥
+IsUnplannable spec q Q.NotUtf8 = ⊥
+IsUnplannable spec q (Q.Lex fault) = ⊥
+IsUnplannable spec q (Q.Parse fault) = ⊥
+IsUnplannable spec q (Q.StdinMisplaced at) = ⊥
+IsUnplannable spec q (Q.Plan fault) = IsUnplanned spec q fault
+
+-- the run stopped before it wrote anything, or while it wrote
+abbrev pub IsStopped : World → World → Spec → model.Query → Type 0
+IsStopped old new spec q = IsUnwritten old new ⊎ HoldsFront old.folder new.folder old.out new.out spec q
+
+-- what an answer says of a query that is built
+abbrev pub AnswersBuilt : World → World → Spec → model.Query → Status → Type 0
+AnswersBuilt old new spec q Done = IsWhole old new spec q
+AnswersBuilt old new spec q Memory = IsStopped old new spec q
+AnswersBuilt old new spec q (Clock moment) = ⊥
+AnswersBuilt old new spec q (Usage fault) = ⊥
+AnswersBuilt old new spec q (Query fault) = IsUnplannable spec q fault × IsUnwritten old new
+AnswersBuilt old new spec q NotBuilt = ⊥
+AnswersBuilt old new spec q (NoSuchLog name) = IsUnlisted new.folder q (NoSuchLog name) × IsUnwritten old new
+AnswersBuilt old new spec q (BadName fault) = IsUnlisted new.folder q (BadName fault) × IsUnwritten old new
+AnswersBuilt old new spec q TooManyLogs = IsUnlisted new.folder q TooManyLogs × IsUnwritten old new
+AnswersBuilt old new spec q LogsFault = IsStopped old new spec q × Rose old.logs_faults new.logs_faults
+AnswersBuilt old new spec q SinkFault = IsStopped old new spec q × Rose old.out_faults new.out_faults
+
+-- what an answer says of a query: that it isn't built, or what became of it
+abbrev pub AnswersQuery : World → World → Spec → model.Query → Status → Type 0
+AnswersQuery old new spec q status = (all_built spec q ≡ false) × (status ≡ NotBuilt) × IsUnwritten old new ⊎ (all_built spec q ≡ true) × AnswersBuilt old new spec q status
+
+-- the words ask for these options and this query, of which the answer tells
+pub record Asked (old new : World) (words : List (List ℕ)) (status : Status) : Type 0 where
+  pub spec : Spec
+  pub q : model.Query
+  pub asks : Asks old.folder new.folder words spec q
+  pub answers : AnswersQuery old new spec q status
+
+-- the words ask for nothing that can be done, and the answer tells why
+abbrev pub IsUnasked : World → World → List (List ℕ) → Status → Type 0
+IsUnasked old new words Done = ⊥
+IsUnasked old new words Memory = IsUnwritten old new
+IsUnasked old new words (Clock moment) = ⊥
+IsUnasked old new words (Usage fault) = IsRefused old.folder new.folder words (R.Usage fault) × IsUnwritten old new
+IsUnasked old new words (Query fault) = IsRefused old.folder new.folder words (R.Query fault) × IsUnwritten old new
+IsUnasked old new words NotBuilt = ⊥
+IsUnasked old new words (NoSuchLog name) = IsRefused old.folder new.folder words (R.NoSuchLog name) × IsUnwritten old new
+IsUnasked old new words (BadName fault) = IsRefused old.folder new.folder words (R.BadName fault) × IsUnwritten old new
+IsUnasked old new words TooManyLogs = ⊥
+IsUnasked old new words LogsFault = Rose old.logs_faults new.logs_faults × IsUnwritten old new
+IsUnasked old new words SinkFault = ⊥
+
+-- the clock gives no moment
+pub record IsClock (moment : ℤ) (old new : World) (status : Status) : Type 0 where
+  pub same : status ≡ Clock moment
+  pub none : ¬ IsMoment moment
+  pub unwritten : IsUnwritten old new
+
+-- what an answer says of words at a moment
+abbrev pub Answers : ℤ → List (List ℕ) → World → World → Status → Type 0
+Answers moment words old new status = IsClock moment old new status ⊎ IsMoment moment × (IsUnasked old new words status ⊎ Asked old new words status)
+
+-- what a refusal of the words or the query is
+abbrev pub unasked : RequestFault → Status
+unasked (R.Usage fault) = Usage fault
+unasked (R.BadName fault) = BadName fault
+unasked (R.NoSuchLog name) = NoSuchLog name
+unasked (R.Query fault) = Query fault
+unasked R.Logs = LogsFault
+unasked R.Memory = Memory
+
+-- what a run of a query is that stopped
+abbrev pub stopped : RunFault → Status
+stopped (X.Plan fault) = Query (Q.Plan fault)
+stopped X.LogsFault = LogsFault
+stopped X.StageFault = SinkFault
+stopped X.Memory = Memory

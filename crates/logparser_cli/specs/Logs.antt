@@ -1,0 +1,52 @@
+-- The logs that a query reads.
+use Rattle.std.specs.Prelude.{◌≡◌, ℕ, List, map, Option, All, ⊤}
+use Rattle.grammar.specs.Trees as model
+use Rattle.lp_model.specs.Outside.{Folder}
+use Rattle.checkpoint.specs.Wholes.{whole_spans}
+use Rattle.log_listing.specs.declared.lengths.NameLength.{NameLength}
+use Rattle.log_listing.specs.declared.fault.ListFault.{ListFault}
+use Rattle.log_listing.specs.declared.fault.ListFault.TheVariants as L
+use Rattle.log_listing.specs.Lengths.{IsLength}
+use Rattle.log_listing.specs.Lengths.{names_in as listed_names}
+use Rattle.log_listing.specs.Listed.{Lists, IsRefused}
+use Rattle.log_reading.specs.declared.span.Span.{Span}
+use Rattle.query_text.specs.Stdin.{names_in}
+use Rattle.reports.specs.declared.status.Status.{Status}
+use Rattle.reports.specs.declared.status.Status.TheVariants.{Done, Memory, Clock, Usage, Query, NotBuilt, NoSuchLog, BadName, TooManyLogs, LogsFault, SinkFault}
+
+-- the names behind FROM
+abbrev pub from_names : model.Query → List (List ℕ)
+from_names q = map (λ name. name.text) (names_in q)
+
+-- these are the logs of the FROM names, each with its length at some moment between two
+pub record AreLogs (before now : Option Folder) (q : model.Query) (logs : List NameLength) : Type 0 where
+  pub listed : Lists now (from_names q) (listed_names logs)
+  pub lengths : All (IsLength before now) logs
+
+-- these are the spans of the logs of the FROM names, each whole
+pub record AreSpans (before now : Option Folder) (q : model.Query) (spans : List Span) : Type 0 where
+  pub logs : List NameLength
+  pub are_logs : AreLogs before now q logs
+  pub wholes : spans ≡ whole_spans logs
+
+-- why the FROM names list no logs
+abbrev pub IsUnlisted : Option Folder → model.Query → Status → Type 0
+IsUnlisted now q Done = ⊥
+IsUnlisted now q Memory = ⊤
+IsUnlisted now q (Clock moment) = ⊥
+IsUnlisted now q (Usage fault) = ⊥
+IsUnlisted now q (Query fault) = ⊥
+IsUnlisted now q NotBuilt = ⊥
+IsUnlisted now q (NoSuchLog name) = IsRefused now (from_names q) (L.NoSuchLog name)
+IsUnlisted now q (BadName fault) = IsRefused now (from_names q) (L.BadName fault)
+IsUnlisted now q TooManyLogs = IsRefused now (from_names q) L.TooManyLogs
+IsUnlisted now q LogsFault = ⊤
+IsUnlisted now q SinkFault = ⊥
+
+-- what a refusal of the list of logs is
+abbrev pub unlisted : ListFault → Status
+unlisted (L.BadName fault) = BadName fault
+unlisted (L.NoSuchLog name) = NoSuchLog name
+unlisted L.TooManyLogs = TooManyLogs
+unlisted L.Logs = LogsFault
+unlisted L.Memory = Memory
