@@ -1,5 +1,5 @@
 -- A query file's bytes up to its length.
-use Rattle.std.proofs.Common.{◌≡◌, ◌≤◌, ◌<◌, ◌+◌, ℕ, List, [], ◌++◌, length, take, Option, Some, None, IsSome, option_map, unwrap_or, replicate, refl, sym, ◌∙◌, ap, arith}
+use Rattle.std.proofs.Common.{◌≡◌, ◌≤◌, ◌<◌, ℕ, List, [], ◌++◌, length, take, Option, Some, None, IsSome, option_map, unwrap_or, replicate, refl, sym, ◌∙◌, ap, arith}
 use Rattle.std.proofs.lemmas.List.{take_all, length-replicate}
 use Rattle.lp_model.specs.Outside.{Folder, OnlyGrow, Rose, Told, bytes_in}
 use Rattle.lp_model.specs.Pieces.{IsPiece}

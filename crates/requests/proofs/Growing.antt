@@ -1,8 +1,8 @@
 -- What words ask for stays so while the logs grow.
-use Rattle.std.proofs.Common.{◌≡◌, ◌≤◌, ℕ, List, length, take, Option, Some, None, IsSome, MatchOption, IsSomeAnd, refl, sym, ◌∙◌}
+use Rattle.std.proofs.Common.{◌≡◌, ℕ, List, Option, Some, None, IsSome, MatchOption, IsSomeAnd, refl, sym, ◌∙◌}
 use Rattle.std.proofs.lemmas.Bool.{false≢true}
 use Rattle.grammar.specs.Trees as model
-use Rattle.lp_model.specs.Outside.{Folder, Begins, Grows, OnlyGrow, Told, bytes_in}
+use Rattle.lp_model.specs.Outside.{Folder, Begins, Grows, OnlyGrow, Told}
 use Rattle.lp_model.proofs.Pieces.{length_grown, take_grown}
 use Rattle.command_words.specs.declared.spec.Spec.{Spec}
 use Rattle.command_words.specs.Words.{query_in}

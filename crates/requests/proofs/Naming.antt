@@ -1,5 +1,5 @@
 -- `file:` before a name.
-use Rattle.std.proofs.Common.{◌≡◌, ℕ, ◌<◌, ◌≤◌, Bool, true, false, IsTrue, ◌↔◌, List, [], ◌∷◌, length, take, drop, map, get_or, min, codes, Option, Some, None, refl, sym, ◌∙◌, ap, subst, inl, inr, arith, lit<}
+use Rattle.std.proofs.Common.{◌≡◌, ℕ, ◌<◌, List, [], ◌∷◌, length, take, map, get_or, min, codes, None, refl, sym, ◌∙◌, ap, subst, inl, inr, arith, lit<}
 use Rattle.std.specs.Char.{to_ascii_lowercase}
 use Rattle.std.specs.Str.{IsUtf8, IsAscii, IsCharBoundary}
 use Rattle.std.proofs.Math.ListN.{get_or-map}
