@@ -1,5 +1,5 @@
 -- What a refusal is called.
-use Rattle.std.specs.Prelude.{ℕ, List, [], ◌∷◌, ◌++◌, codes, decimal, Bool, true, false, Option, Some, None}
+use Rattle.std.specs.Prelude.{ℕ, List, [], ◌∷◌, ◌++◌, codes, decimal, Option, Some, None}
 use Rattle.command_words.specs.Usage.{usage_text}
 use Rattle.query_lexer.specs.declared.fault.LexFault.{LexFault}
 use Rattle.query_lexer.specs.declared.fault.LexFault.TheVariants as lex
@@ -12,9 +12,14 @@ use Rattle.query_text.specs.declared.fault.QueryFault.TheVariants as query
 use Rattle.reports.specs.declared.status.Status.{Status}
 use Rattle.reports.specs.declared.status.Status.TheVariants.{Done, Memory, Clock, Usage, Query, NotBuilt, NoSuchLog, BadName, TooManyLogs, LogsFault, SinkFault}
 
+-- a number, where there is one, with what parts it from the text behind
+abbrev pub counted : Option ℕ → List ℕ
+counted None = []
+counted (Some number) = decimal number ++ codes ": "
+
 -- a kind of fault at a place of the query
 abbrev pub at_place : ℕ → List ℕ → List ℕ
-at_place at kind = codes "query: at " ++ decimal at ++ (codes ": " ++ kind)
+at_place at kind = codes "query: at " ++ counted (Some at) ++ kind
 
 abbrev pub lex_reason : LexFault → List ℕ
 lex_reason (lex.BadCharacter at) = at_place at (codes "bad character")
@@ -43,23 +48,12 @@ query_reason (query.Parse fault) = parse_reason fault
 query_reason (query.StdinMisplaced at) = at_place at (codes "STDIN misplaced")
 query_reason (query.Plan fault) = type_reason fault
 
--- a kind of fault as it is written behind a place, where there is one
-abbrev pub placed : Option ℕ → List ℕ → List ℕ
-placed None kind = kind
-placed (Some at) kind = codes "query: at " ++ decimal at ++ kind
-
--- a refusal whose reason has a number
-abbrev pub is_counted : Status → Bool
-is_counted (Usage fault) = true
-is_counted (Query fault) = true
-is_counted other = false
-
 -- what a refusal is called
 abbrev pub reason : Status → List ℕ
 reason Done = []
 reason Memory = codes "out of memory"
 reason (Clock moment) = codes "clock"
-reason (Usage fault) = codes "usage: word " ++ decimal fault.word ++ (codes ": " ++ usage_text fault.kind)
+reason (Usage fault) = codes "usage: word " ++ counted (Some fault.word) ++ usage_text fault.kind
 reason (Query fault) = query_reason fault
 reason NotBuilt = codes "not built"
 reason (NoSuchLog name) = codes "input: no such log " ++ name

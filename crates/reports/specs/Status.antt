@@ -1,7 +1,10 @@
--- Facts on one answer of the run, and its message.
-use Rattle.std.specs.Prelude.{ℕ, ℤ, List, [], ◌∷◌, ◌++◌, codes, ⊤}
+-- Facts on one answer of the run, and its exit status.
+use Rattle.std.specs.Prelude.{ℕ, ℤ, List, ⊤}
+use Rattle.command_words.specs.declared.usage.UsageFault.{UsageFault}
+use Rattle.query_text.specs.declared.fault.QueryFault.{QueryFault}
+use Rattle.lp_outside.specs.declared.name.NameFault.{NameFault}
 use Rattle.reports.specs.declared.status.Status.{Status}
-use Rattle.reports.specs.declared.status.Status.TheVariants.{Done, Memory, Clock, NotBuilt, NoSuchLog, LogsFault, SinkFault}
+use Rattle.reports.specs.declared.status.Status.TheVariants.{Done, Memory, Clock, Usage, Query, NotBuilt, NoSuchLog, BadName, TooManyLogs, LogsFault, SinkFault}
 
 abbrev pub OnDone : Status → Type 0 → Type 0
 OnDone Done P = P
@@ -11,6 +14,14 @@ abbrev pub IfClock : Status → (ℤ → Type 0) → Type 0
 IfClock (Clock moment) P = P moment
 IfClock other P = ⊤
 
+abbrev pub IfUsage : Status → (UsageFault → Type 0) → Type 0
+IfUsage (Usage fault) P = P fault
+IfUsage other P = ⊤
+
+abbrev pub IfQuery : Status → (QueryFault → Type 0) → Type 0
+IfQuery (Query fault) P = P fault
+IfQuery other P = ⊤
+
 abbrev pub OnNotBuilt : Status → Type 0 → Type 0
 OnNotBuilt NotBuilt P = P
 OnNotBuilt other P = ⊤
@@ -18,6 +29,14 @@ OnNotBuilt other P = ⊤
 abbrev pub IfNoSuchLog : Status → (List ℕ → Type 0) → Type 0
 IfNoSuchLog (NoSuchLog name) P = P name
 IfNoSuchLog other P = ⊤
+
+abbrev pub IfBadName : Status → (NameFault → Type 0) → Type 0
+IfBadName (BadName fault) P = P fault
+IfBadName other P = ⊤
+
+abbrev pub OnTooManyLogs : Status → Type 0 → Type 0
+OnTooManyLogs TooManyLogs P = P
+OnTooManyLogs other P = ⊤
 
 abbrev pub OnLogsFault : Status → Type 0 → Type 0
 OnLogsFault LogsFault P = P
@@ -42,30 +61,24 @@ OnStopped other P = ⊤
 -- an answer that comes before anything is written
 abbrev pub OnRefusedBefore : Status → Type 0 → Type 0
 OnRefusedBefore (Clock moment) P = P
+OnRefusedBefore (Usage fault) P = P
+OnRefusedBefore (Query fault) P = P
 OnRefusedBefore NotBuilt P = P
 OnRefusedBefore (NoSuchLog name) P = P
+OnRefusedBefore (BadName fault) P = P
+OnRefusedBefore TooManyLogs P = P
 OnRefusedBefore other P = ⊤
-
--- what a refusal is called
-abbrev pub reason : Status → List ℕ
-reason Done = []
-reason Memory = codes "out of memory"
-reason (Clock moment) = codes "clock"
-reason NotBuilt = codes "not built"
-reason (NoSuchLog name) = codes "input: no such log " ++ name
-reason LogsFault = codes "read fault: logs"
-reason SinkFault = codes "write fault"
-
--- the line that tells of a refusal
-abbrev pub message : Status → List ℕ
-message status = codes "logparser: " ++ reason status ++ 10 ∷ []
 
 -- the exit status of the program
 abbrev pub code : Status → ℕ
 code Done = 0
 code Memory = 1
 code (Clock moment) = 2
+code (Usage fault) = 2
+code (Query fault) = 3
 code NotBuilt = 2
 code (NoSuchLog name) = 4
+code (BadName fault) = 4
+code TooManyLogs = 4
 code LogsFault = 5
 code SinkFault = 7

@@ -5,6 +5,7 @@
 //! of them where the output fails. Neither takes memory.
 #![tactic(auto)]
 
+mod reason;
 mod report;
 mod status;
 

@@ -2,9 +2,10 @@
 ghost use Rattle.std.specs.Prelude.{◌≡◌, ◌++◌, ◌∷◌, [], codes, decimal, OnOk, OnErr};
 ghost use Rattle.lp_model.specs.Outside.{Gains, GainsSome, HasCause};
 ghost use Rattle.lp_model.specs.Report.{statistics, bad_report};
-ghost use Rattle.reports.specs.Status.{reason, message};
+ghost use Rattle.reports.specs.Messages.{counted, message};
 
 use crate::Status;
+use crate::reason::reason;
 use itoa::Buffer;
 use lp_outside::{Sink, SinkFailed, write_all};
 
@@ -75,19 +76,33 @@ pub fn write_statistics<E: Sink>(
     Ok(())
 }
 
-// What a refusal is called, and the name that belongs to it.
-fn reason(status: &Status) -> (&str, &str)
-    ensures { result.0.now ++ result.1.now ≡ reason status.now }
+// Writes a number and what parts it from the text behind, where there is a number.
+fn write_counted<E: Sink>(err: &mut E, number: Option<u32>) -> Result<(), SinkFailed>
+    ensures ok { OnOk result (Gains (E.written err.old) (E.written err.new) (counted number)) }
+    ensures err { OnErr result (GainsSome (E.written err.old) (E.written err.new) (counted number)) }
+    ensures cause { HasCause (E.faults err.old) (E.faults err.new) result }
 {
-    match status {
-        Status::Done => ("", ""),
-        Status::Memory => ("out of memory", ""),
-        Status::Clock(_) => ("clock", ""),
-        Status::NotBuilt => ("not built", ""),
-        Status::NoSuchLog(name) => ("input: no such log ", name.as_str()),
-        Status::LogsFault => ("read fault: logs", ""),
-        Status::SinkFault => ("write fault", ""),
+    match number {
+        None => Ok(()),
+        Some(number) => write_number(err, b"", u64::from(number), b": "),
     }
+}
+
+// Writes a refusal's texts, with the number between them.
+fn write_reason<E: Sink>(
+    err: &mut E,
+    head: &[u8],
+    number: Option<u32>,
+    tail: &[u8],
+) -> Result<(), SinkFailed>
+    ensures ok { OnOk result (Gains (E.written err.old) (E.written err.new) (head.now ++ counted number ++ tail.now)) }
+    ensures err { OnErr result (GainsSome (E.written err.old) (E.written err.new) (head.now ++ counted number ++ tail.now)) }
+    ensures cause { HasCause (E.faults err.old) (E.faults err.new) result }
+{
+    write_all(err, head)?;
+    write_counted(err, number)?;
+    write_all(err, tail)?;
+    Ok(())
 }
 
 /// Writes the line that tells of a refusal. It takes no memory.
@@ -96,8 +111,9 @@ pub fn write_message<E: Sink>(err: &mut E, status: &Status) -> Result<(), SinkFa
     ensures err { OnErr result (GainsSome (E.written err.old) (E.written err.new) (message status.now)) }
     ensures cause { HasCause (E.faults err.old) (E.faults err.new) result }
 {
-    let (kind, name) = reason(status);
+    let (head, number, tail) = reason(status);
     write_all(err, b"logparser: ")?;
-    write_three(err, kind.as_bytes(), name.as_bytes(), b"\n")?;
+    write_reason(err, head.as_bytes(), number, tail.as_bytes())?;
+    write_all(err, b"\n")?;
     Ok(())
 }

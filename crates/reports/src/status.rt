@@ -1,7 +1,9 @@
 // How a run ends.
 ghost use Rattle.std.specs.Prelude.{◌≡◌};
 
-use lp_outside::Name;
+use command_words::UsageFault;
+use lp_outside::{Name, NameFault};
+use query_text::QueryFault;
 
 /// The answer of a run. Each variant but `Done` is a refusal, with what it names.
 #[derive(Drop)]
@@ -12,10 +14,18 @@ pub enum Status {
     Memory,
     /// The clock's whole seconds since 1970, which lie outside years 1970 to 9999.
     Clock(i64),
+    /// The words are refused.
+    Usage(UsageFault),
+    /// The query is refused.
+    Query(QueryFault),
     /// The words ask for something that isn't built yet.
     NotBuilt,
     /// No file has this name.
     NoSuchLog(Name),
+    /// A name is no name of a file.
+    BadName(NameFault),
+    /// More than 100,000 logs are named.
+    TooManyLogs,
     /// A log couldn't be read.
     LogsFault,
     /// The output couldn't be written.
@@ -32,8 +42,9 @@ impl Status {
         match self {
             Status::Done => 0,
             Status::Memory => 1,
-            Status::Clock(_) | Status::NotBuilt => 2,
-            Status::NoSuchLog(_) => 4,
+            Status::Clock(_) | Status::Usage(_) | Status::NotBuilt => 2,
+            Status::Query(_) => 3,
+            Status::NoSuchLog(_) | Status::BadName(_) | Status::TooManyLogs => 4,
             Status::LogsFault => 5,
             Status::SinkFault => 7,
         }

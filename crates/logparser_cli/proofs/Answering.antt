@@ -1,0 +1,186 @@
+-- What the steps of a run make of its answer.
+use Rattle.std.proofs.Common.{◌≡◌, ◌⊎◌, ℕ, ℤ, ◌+◌, ◌-◌, ◌^◌, ◌≤◌, min, true, false, List, Option, Some, None, Ok, Err, refl, inl, inr, subst, arith}
+use Rattle.grammar.specs.Trees as model
+use Rattle.lp_model.specs.Outside.{Folder, OnlyGrow, Told, GainsSome, Rose}
+use Rattle.checkpoint.specs.Wholes.{whole_spans}
+use Rattle.command_words.specs.declared.spec.Spec.{Spec}
+use Rattle.execution.specs.Built.{all_built}
+use Rattle.execution.specs.Executed.{IsExecuted, IsFront, IsMoment, IsUnplanned, Writes, rows_in}
+use Rattle.execution.specs.Executed.{IsStopped as IsHalted}
+use Rattle.execution.specs.Formats.{input_of}
+use Rattle.execution.specs.Faults.{IfPlan}
+use Rattle.execution.specs.declared.fault.RunFault.{RunFault}
+use Rattle.execution.specs.declared.fault.RunFault.TheVariants as X
+use Rattle.log_reading.specs.declared.span.Span.{Span}
+use Rattle.output_formats.specs.Headers.{csv_of}
+use Rattle.query_run.specs.declared.executing.Counts.{Counts}
+use Rattle.query_text.specs.declared.fault.QueryFault.TheVariants as Q
+use Rattle.query_types.specs.declared.fault.TypeFault.{TypeFault}
+use Rattle.query_types.specs.Planned.{Planned}
+use Rattle.log_listing.specs.declared.lengths.NameLength.{NameLength}
+use Rattle.reports.specs.declared.status.Status.{Status}
+use Rattle.reports.specs.declared.status.Status.TheVariants.{Done, Memory, Clock, Usage, Query, NotBuilt, NoSuchLog, BadName, TooManyLogs, LogsFault, SinkFault}
+use Rattle.reports.specs.Status.{OnRefused}
+use Rattle.requests.specs.Requests.{Asks, IsRefused}
+use Rattle.requests.specs.declared.fault.RequestFault.{RequestFault}
+use Rattle.requests.specs.declared.fault.RequestFault.TheVariants as R
+use Rattle.requests.proofs.Growing.{asks_grown}
+use Rattle.logparser_cli.specs.Logs.{AreSpans, IsUnlisted}
+use Rattle.logparser_cli.specs.Whole.{World, Runs, Tells, told_statistics, IsWhole, HoldsFront, IsUnwritten}
+use Rattle.logparser_cli.specs.Answers.{IsStopped, IsUnplannable, AnswersBuilt, AnswersQuery, Asked, IsUnasked, Answers, unasked, stopped}
+use Rattle.logparser_cli.proofs.Listing.{whole_told, logs_later, logs_earlier}
+
+pub on_refused : (status : Status) (P : Type 0) → P → OnRefused status P
+on_refused Done P p = tt
+on_refused Memory P p = p
+on_refused (Clock moment) P p = p
+on_refused (Usage fault) P p = p
+on_refused (Query fault) P p = p
+on_refused NotBuilt P p = p
+on_refused (NoSuchLog name) P p = p
+on_refused (BadName fault) P p = p
+on_refused TooManyLogs P p = p
+on_refused LogsFault P p = p
+on_refused SinkFault P p = p
+
+-- a count that rose since a later moment has risen since an earlier one
+pub rose_since : (a b c : ℕ) → a ≤ b → Rose b c → Rose a c
+rose_since a b c later rose = omega arith
+
+-- the FROM names list no logs
+pub unlisted_answers : (old new : World) (spec : Spec) (q : model.Query) (status : Status) → IsUnlisted new.folder q status → new.out ≡ old.out → (status ≡ LogsFault → Rose old.logs_faults new.logs_faults) → AnswersBuilt old new spec q status
+unlisted_answers old new spec q Done is same rose = absurd is
+unlisted_answers old new spec q Memory is same rose = inl same
+unlisted_answers old new spec q (Clock moment) is same rose = absurd is
+unlisted_answers old new spec q (Usage fault) is same rose = absurd is
+unlisted_answers old new spec q (Query fault) is same rose = absurd is
+unlisted_answers old new spec q NotBuilt is same rose = absurd is
+unlisted_answers old new spec q (NoSuchLog name) is same rose = (is, same)
+unlisted_answers old new spec q (BadName fault) is same rose = (is, same)
+unlisted_answers old new spec q TooManyLogs is same rose = (is, same)
+unlisted_answers old new spec q LogsFault is same rose = (inl same, rose refl)
+unlisted_answers old new spec q SinkFault is same rose = absurd is
+
+-- a query was run over whole logs
+pub whole : (old new : World) (mid : Option Folder) (spec : Spec) (q : model.Query) (spans : List Span) (counts : Counts) → AreSpans old.folder mid q spans → OnlyGrow mid new.folder
+    → IsExecuted new.folder old.out new.out spec q spans counts → Tells old.err new.err (told_statistics spec.stats counts) (Rose old.err_faults new.err_faults) → IsWhole old new spec q
+whole old new mid spec q spans counts found grow ran told = record {
+  logs = found.logs;
+  plan = ran.plan;
+  runs = record { are_logs = logs_later old.folder mid new.folder q found.logs grow found.are_logs; is_planned = ran.is_planned };
+  counts = counts;
+  written = whole_told new.folder (input_of spec q) found.logs spans (λ s folder. Writes old.out new.out spec (input_of spec q) ran.plan s counts folder) found.wholes ran.written;
+  told = told;
+}
+
+-- it stopped
+halted : (old new : World) (mid : Option Folder) (spec : Spec) (q : model.Query) (spans : List Span) → AreSpans old.folder mid q spans → OnlyGrow mid new.folder → IsHalted new.folder old.out new.out spec q spans → IsStopped old new spec q
+halted old new mid spec q spans found grow (inl same) = inl same
+halted old new mid spec q spans found grow (inr front) = inr (record {
+  logs = found.logs;
+  plan = front.plan;
+  runs = record { are_logs = logs_later old.folder mid new.folder q found.logs grow found.are_logs; is_planned = front.is_planned };
+  front = whole_told new.folder (input_of spec q) found.logs spans (λ s folder. GainsSome old.out new.out (csv_of spec.headers true front.plan.names (rows_in (input_of spec q) front.plan folder s))) found.wholes front.front;
+})
+
+stopped_by : (old new : World) (spec : Spec) (q : model.Query) (fault : RunFault) → IsStopped old new spec q → IfPlan {T = Unit {0}} (Err fault) (IsUnplanned spec q) → IfPlan {T = Unit {0}} (Err fault) (λ f. new.out ≡ old.out)
+    → (fault ≡ X.LogsFault → Rose old.logs_faults new.logs_faults) → (fault ≡ X.StageFault → Rose old.out_faults new.out_faults) → AnswersBuilt old new spec q (stopped fault)
+stopped_by old new spec q (X.Plan fault) stop plan before logs stage = (plan, before)
+stopped_by old new spec q X.LogsFault stop plan before logs stage = (stop, logs refl)
+stopped_by old new spec q X.StageFault stop plan before logs stage = (stop, stage refl)
+stopped_by old new spec q X.Memory stop plan before logs stage = stop
+
+pub stopped_answers : (old new : World) (mid : Option Folder) (spec : Spec) (q : model.Query) (spans : List Span) (fault : RunFault) → AreSpans old.folder mid q spans → OnlyGrow mid new.folder
+    → IsHalted new.folder old.out new.out spec q spans → IfPlan {T = Unit {0}} (Err fault) (IsUnplanned spec q) → IfPlan {T = Unit {0}} (Err fault) (λ f. new.out ≡ old.out)
+    → (fault ≡ X.LogsFault → Rose old.logs_faults new.logs_faults) → (fault ≡ X.StageFault → Rose old.out_faults new.out_faults) → AnswersBuilt old new spec q (stopped fault)
+stopped_answers old new mid spec q spans fault found grow stop plan before logs stage = stopped_by old new spec q fault (halted old new mid spec q spans found grow stop) plan before logs stage
+
+-- the same world with the logs as they were before
+abbrev with_logs : World → Option Folder → ℕ → World
+with_logs world folder faults = record { folder = folder; logs_faults = faults; out = world.out; out_faults = world.out_faults; err = world.err; err_faults = world.err_faults }
+
+runs_earlier : (before mid now : Option Folder) (spec : Spec) (q : model.Query) (logs : List NameLength) (plan : Planned) → OnlyGrow before mid → Runs mid now spec q logs plan → Runs before now spec q logs plan
+runs_earlier before mid now spec q logs plan grow runs = record { are_logs = logs_earlier before mid now q logs grow runs.are_logs; is_planned = runs.is_planned }
+
+stop_earlier : (mid new : World) (before : Option Folder) (faults : ℕ) (spec : Spec) (q : model.Query) → OnlyGrow before mid.folder → IsStopped mid new spec q → IsStopped (with_logs mid before faults) new spec q
+stop_earlier mid new before faults spec q grow (inl same) = inl same
+stop_earlier mid new before faults spec q grow (inr front) = inr (record { logs = front.logs; plan = front.plan; runs = runs_earlier before mid.folder new.folder spec q front.logs front.plan grow front.runs; front = front.front })
+
+built_earlier : (mid new : World) (before : Option Folder) (faults : ℕ) (spec : Spec) (q : model.Query) (status : Status) → OnlyGrow before mid.folder → faults ≤ mid.logs_faults
+    → AnswersBuilt mid new spec q status → AnswersBuilt (with_logs mid before faults) new spec q status
+built_earlier mid new before faults spec q Done grow later w = record { logs = w.logs; plan = w.plan; runs = runs_earlier before mid.folder new.folder spec q w.logs w.plan grow w.runs; counts = w.counts; written = w.written; told = w.told }
+built_earlier mid new before faults spec q Memory grow later s = stop_earlier mid new before faults spec q grow s
+built_earlier mid new before faults spec q (Clock moment) grow later s = absurd s
+built_earlier mid new before faults spec q (Usage fault) grow later s = absurd s
+built_earlier mid new before faults spec q (Query fault) grow later s = s
+built_earlier mid new before faults spec q NotBuilt grow later s = absurd s
+built_earlier mid new before faults spec q (NoSuchLog name) grow later s = s
+built_earlier mid new before faults spec q (BadName fault) grow later s = s
+built_earlier mid new before faults spec q TooManyLogs grow later s = s
+built_earlier mid new before faults spec q LogsFault grow later s = (stop_earlier mid new before faults spec q grow s.0, rose_since faults mid.logs_faults new.logs_faults later s.1)
+built_earlier mid new before faults spec q SinkFault grow later s = (stop_earlier mid new before faults spec q grow s.0, s.1)
+
+query_earlier : (mid new : World) (before : Option Folder) (faults : ℕ) (spec : Spec) (q : model.Query) (status : Status) → OnlyGrow before mid.folder → faults ≤ mid.logs_faults
+    → AnswersQuery mid new spec q status → AnswersQuery (with_logs mid before faults) new spec q status
+query_earlier mid new before faults spec q status grow later (inl none) = inl none
+query_earlier mid new before faults spec q status grow later (inr (built, answers)) = inr (built, built_earlier mid new before faults spec q status grow later answers)
+
+-- the words ask for a query, and the answer tells of it
+pub asked_answers : (mid new : World) (before : Option Folder) (faults : ℕ) (moment : ℤ) (words : List (List ℕ)) (spec : Spec) (q : model.Query) (status : Status) → IsMoment moment → OnlyGrow before mid.folder → faults ≤ mid.logs_faults
+    → OnlyGrow mid.folder new.folder → Asks before mid.folder words spec q → AnswersQuery mid new spec q status → Answers moment words (with_logs mid before faults) new status
+asked_answers mid new before faults moment words spec q status now grow later grew asks answers =
+    inr (now, inr (record { spec = spec; q = q; asks = asks_grown before mid.folder new.folder words spec q grew asks; answers = query_earlier mid new before faults spec q status grow later answers }))
+
+is_unasked : (old new : World) (words : List (List ℕ)) (fault : RequestFault) → IsRefused old.folder new.folder words fault → new.out ≡ old.out → (fault ≡ R.Logs → Rose old.logs_faults new.logs_faults) → IsUnasked old new words (unasked fault)
+is_unasked old new words (R.Usage fault) refused same rose = (refused, same)
+is_unasked old new words (R.BadName fault) refused same rose = (refused, same)
+is_unasked old new words (R.NoSuchLog name) refused same rose = (refused, same)
+is_unasked old new words (R.Query fault) refused same rose = (refused, same)
+is_unasked old new words R.Logs refused same rose = (rose refl, same)
+is_unasked old new words R.Memory refused same rose = same
+
+-- the words ask for nothing that can be done
+pub unasked_answers : (old new : World) (moment : ℤ) (words : List (List ℕ)) (fault : RequestFault) → IsMoment moment → IsRefused old.folder new.folder words fault → new.out ≡ old.out → (fault ≡ R.Logs → Rose old.logs_faults new.logs_faults)
+    → Answers moment words old new (unasked fault)
+unasked_answers old new moment words fault now refused same rose = inr (now, inl (is_unasked old new words fault refused same rose))
+
+-- the same world with more told on `err`
+abbrev with_err : World → Option (List ℕ) → ℕ → World
+with_err world err faults = record { folder = world.folder; logs_faults = world.logs_faults; out = world.out; out_faults = world.out_faults; err = err; err_faults = faults }
+
+built_told : (old new : World) (err : Option (List ℕ)) (faults : ℕ) (spec : Spec) (q : model.Query) (status : Status) → (status ≡ Done → ⊥) → AnswersBuilt old new spec q status → AnswersBuilt old (with_err new err faults) spec q status
+built_told old new err faults spec q Done refused s = absurd (refused refl)
+built_told old new err faults spec q Memory refused s = s
+built_told old new err faults spec q (Clock moment) refused s = s
+built_told old new err faults spec q (Usage fault) refused s = s
+built_told old new err faults spec q (Query fault) refused s = s
+built_told old new err faults spec q NotBuilt refused s = s
+built_told old new err faults spec q (NoSuchLog name) refused s = s
+built_told old new err faults spec q (BadName fault) refused s = s
+built_told old new err faults spec q TooManyLogs refused s = s
+built_told old new err faults spec q LogsFault refused s = s
+built_told old new err faults spec q SinkFault refused s = s
+
+query_told : (old new : World) (err : Option (List ℕ)) (faults : ℕ) (spec : Spec) (q : model.Query) (status : Status) → (status ≡ Done → ⊥) → AnswersQuery old new spec q status → AnswersQuery old (with_err new err faults) spec q status
+query_told old new err faults spec q status refused (inl none) = inl none
+query_told old new err faults spec q status refused (inr (built, answers)) = inr (built, built_told old new err faults spec q status refused answers)
+
+unasked_told : (old new : World) (err : Option (List ℕ)) (faults : ℕ) (words : List (List ℕ)) (status : Status) → IsUnasked old new words status → IsUnasked old (with_err new err faults) words status
+unasked_told old new err faults words Done s = s
+unasked_told old new err faults words Memory s = s
+unasked_told old new err faults words (Clock moment) s = s
+unasked_told old new err faults words (Usage fault) s = s
+unasked_told old new err faults words (Query fault) s = s
+unasked_told old new err faults words NotBuilt s = s
+unasked_told old new err faults words (NoSuchLog name) s = s
+unasked_told old new err faults words (BadName fault) s = s
+unasked_told old new err faults words TooManyLogs s = s
+unasked_told old new err faults words LogsFault s = s
+unasked_told old new err faults words SinkFault s = s
+
+-- a refusal says the same once it is told
+pub told_answers : (old new : World) (err : Option (List ℕ)) (faults : ℕ) (moment : ℤ) (words : List (List ℕ)) (status : Status) → (status ≡ Done → ⊥) → Answers moment words old new status → Answers moment words old (with_err new err faults) status
+told_answers old new err faults moment words status refused (inl clock) = inl (record { same = clock.same; none = clock.none; unwritten = clock.unwritten })
+told_answers old new err faults moment words status refused (inr (now, inl none)) = inr (now, inl (unasked_told old new err faults words status none))
+told_answers old new err faults moment words status refused (inr (now, inr asked)) =
+    inr (now, inr (record { spec = asked.spec; q = asked.q; asks = asked.asks; answers = query_told old new err faults asked.spec asked.q status refused asked.answers }))

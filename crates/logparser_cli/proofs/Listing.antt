@@ -1,0 +1,84 @@
+-- The spans of the logs that FROM names list.
+use Rattle.std.proofs.Common.{◌≡◌, ℕ, ◌<◌, ◌≤◌, List, length, get_or, All, false, Option, Some, None, refl, sym, subst, arith}
+use Rattle.std.proofs.lemmas.List.Elements.{All-weaker}
+use Rattle.grammar.specs.Trees as model
+use Rattle.lp_model.specs.Outside.{Folder, OnlyGrow, Told, bytes_in}
+use Rattle.lp_model.proofs.Pieces.{length_grown, there_grown}
+use Rattle.log_listing.specs.declared.fault.ListFault.{ListFault}
+use Rattle.log_listing.specs.declared.fault.ListFault.TheVariants as L
+use Rattle.log_listing.specs.declared.lengths.NameLength.{NameLength}
+use Rattle.log_listing.specs.Lengths.{IsLength}
+use Rattle.log_listing.specs.Lengths.{names_in as listed_names}
+use Rattle.log_listing.specs.Listed.{IsRefused}
+use Rattle.log_listing.proofs.Grown.{lists_grown}
+use Rattle.log_reading.specs.declared.span.Span.{Span}
+use Rattle.log_reading.specs.Spans.{AllSpans, IsSpan, AreKept}
+use Rattle.checkpoint.specs.Wholes.{whole_spans}
+use Rattle.checkpoint.proofs.Spanning.{are_spans, are_kept, told_there}
+use Rattle.command_words.specs.declared.formats.InputFormat.{InputFormat}
+use Rattle.input_tables.specs.Tables.{lines_of}
+use Rattle.input_tables.proofs.Formats.{lines_start}
+use Rattle.reports.specs.declared.status.Status.TheVariants.{LogsFault}
+use Rattle.logparser_cli.specs.Logs.{AreLogs, IsUnlisted, from_names, unlisted}
+
+pub spans_of : (before now : Option Folder) (logs : List NameLength) (spans : List Span) → spans ≡ whole_spans logs → All (IsLength before now) logs → AllSpans spans IsSpan
+spans_of before now logs spans wholes lengths = subst (λ (s : List Span). AllSpans s IsSpan) (sym wholes) (are_spans logs (λ k d here. (lengths k d here).bounded))
+
+most_told : (now : Option Folder) (logs : List NameLength) → ((k : ℕ) (d : NameLength) → k < length logs → Told now (λ files. (get_or logs k d).length ≤ length (bytes_in files (get_or logs k d).name)))
+    → Told now (λ files. All (λ (log : NameLength). log.length ≤ length (bytes_in files log.name)) logs)
+most_told None logs most = tt
+most_told (Some files) logs most = most
+
+pub there_of : (before now : Option Folder) (logs : List NameLength) (spans : List Span) → spans ≡ whole_spans logs → All (IsLength before now) logs
+    → Told now (λ files. AllSpans spans (λ span. span.listed ≤ length (bytes_in files span.name)))
+there_of before now logs spans wholes lengths =
+    subst (λ (s : List Span). Told now (λ files. AllSpans s (λ span. span.listed ≤ length (bytes_in files span.name)))) (sym wholes)
+    (told_there now logs (most_told now logs (λ k d here. (lengths k d here).most)))
+
+-- what holds of spans that begin as their logs were kept holds of whole logs
+pub whole_told : (told : Option Folder) (format : InputFormat) (logs : List NameLength) (spans : List Span) (P : List Span → Folder → Type 0) → spans ≡ whole_spans logs
+    → Told told (λ folder. AreKept (lines_of format) false spans folder → P spans folder) → Told told (P (whole_spans logs))
+whole_told None format logs spans P wholes h = tt
+whole_told (Some folder) format logs spans P wholes h =
+    let kept : AreKept (lines_of format) false spans folder = subst (λ (s : List Span). AreKept (lines_of format) false s folder) (sym wholes) (are_kept (lines_of format) folder logs (lines_start format)) in
+    subst (λ (s : List Span). P s folder) wholes (h kept)
+
+length_later : (before mid now : Option Folder) → OnlyGrow mid now → (log : NameLength) → IsLength before mid log → IsLength before now log
+length_later before mid now grow log is = record { least = is.least; most = there_grown mid now log.name log.length grow is.most; bounded = is.bounded }
+
+least_earlier : (before mid : Option Folder) (log : NameLength) → OnlyGrow before mid → Told mid (λ files. length (bytes_in files log.name) ≤ log.length) → Told before (λ files. length (bytes_in files log.name) ≤ log.length)
+least_earlier None mid log grow least = tt
+least_earlier (Some x) None log grow least = absurd grow
+least_earlier (Some x) (Some y) log grow least =
+    let more = length_grown x y log.name (length (bytes_in x log.name)) grow (omega arith) in
+    omega arith
+
+length_earlier : (before mid now : Option Folder) → OnlyGrow before mid → (log : NameLength) → IsLength mid now log → IsLength before now log
+length_earlier before mid now grow log is = record { least = least_earlier before mid log grow is.least; most = is.most; bounded = is.bounded }
+
+-- listed logs stay so while they grow
+pub logs_later : (before mid now : Option Folder) (q : model.Query) (logs : List NameLength) → OnlyGrow mid now → AreLogs before mid q logs → AreLogs before now q logs
+logs_later before mid now q logs grow are = record {
+  listed = lists_grown mid now (from_names q) (listed_names logs) grow are.listed;
+  lengths = All-weaker (IsLength before mid) (IsLength before now) (length_later before mid now grow) logs are.lengths;
+}
+
+pub logs_earlier : (before mid now : Option Folder) (q : model.Query) (logs : List NameLength) → OnlyGrow before mid → AreLogs mid now q logs → AreLogs before now q logs
+logs_earlier before mid now q logs grow are = record {
+  listed = are.listed;
+  lengths = All-weaker (IsLength mid now) (IsLength before now) (length_earlier before mid now grow) logs are.lengths;
+}
+
+pub is_unlisted : (now : Option Folder) (q : model.Query) (fault : ListFault) → IsRefused now (from_names q) fault → IsUnlisted now q (unlisted fault)
+is_unlisted now q (L.BadName fault) refused = refused
+is_unlisted now q (L.NoSuchLog name) refused = refused
+is_unlisted now q L.TooManyLogs refused = refused
+is_unlisted now q L.Logs refused = tt
+is_unlisted now q L.Memory refused = tt
+
+pub logs_failed : (fault : ListFault) → unlisted fault ≡ LogsFault → fault ≡ L.Logs
+logs_failed (L.BadName fault) e = absurd (cc)
+logs_failed (L.NoSuchLog name) e = absurd (cc)
+logs_failed L.TooManyLogs e = absurd (cc)
+logs_failed L.Logs e = refl
+logs_failed L.Memory e = absurd (cc)

@@ -1,0 +1,74 @@
+// What a refusal is called: a text, a number where there is one, and a text behind it.
+ghost use Rattle.std.specs.Prelude.{◌≡◌, ◌++◌};
+ghost use Rattle.reports.specs.Messages.{counted, lex_reason, parse_reason, type_reason, query_reason, reason};
+
+use crate::Status;
+use query_lexer::LexFault;
+use query_parser::ParseFault;
+use query_text::QueryFault;
+use query_types::TypeFault;
+
+fn lex_reason(fault: LexFault) -> (&'static str, Option<u32>, &'static str)
+    ensures { result.0.now ++ counted result.1 ++ result.2.now ≡ lex_reason fault }
+{
+    match fault {
+        LexFault::BadCharacter { at } => ("query: at ", Some(at), "bad character"),
+        LexFault::OpenString { at } => ("query: at ", Some(at), "open string"),
+        LexFault::OpenBracket { at } => ("query: at ", Some(at), "open bracket"),
+        LexFault::NumberTooLarge { at } => ("query: at ", Some(at), "number too large"),
+        LexFault::Memory => ("out of memory", None, ""),
+    }
+}
+
+fn parse_reason(fault: ParseFault) -> (&'static str, Option<u32>, &'static str)
+    ensures { result.0.now ++ counted result.1 ++ result.2.now ≡ parse_reason fault }
+{
+    match fault {
+        ParseFault::Syntax { at } => ("query: at ", Some(at), "syntax"),
+        ParseFault::TooDeep { at } => ("query: at ", Some(at), "too deep"),
+        ParseFault::Memory => ("out of memory", None, ""),
+    }
+}
+
+fn type_reason(fault: TypeFault) -> (&'static str, Option<u32>, &'static str)
+    ensures { result.0.now ++ counted result.1 ++ result.2.now ≡ type_reason fault }
+{
+    match fault {
+        TypeFault::UnknownField { at } => ("query: at ", Some(at), "unknown field"),
+        TypeFault::UnknownFunction { at } => ("query: at ", Some(at), "unknown function"),
+        TypeFault::KindMismatch { at } => ("query: at ", Some(at), "kind mismatch"),
+        TypeFault::TooFewColumns { at } => ("query: at ", Some(at), "too few columns"),
+        TypeFault::Memory => ("out of memory", None, ""),
+    }
+}
+
+fn query_reason(fault: QueryFault) -> (&'static str, Option<u32>, &'static str)
+    ensures { result.0.now ++ counted result.1 ++ result.2.now ≡ query_reason fault }
+{
+    match fault {
+        QueryFault::TooLong => ("query: too long", None, ""),
+        QueryFault::NotUtf8 => ("query: not UTF-8", None, ""),
+        QueryFault::Lex(fault) => lex_reason(fault),
+        QueryFault::Parse(fault) => parse_reason(fault),
+        QueryFault::StdinMisplaced(at) => ("query: at ", Some(at), "STDIN misplaced"),
+        QueryFault::Plan(fault) => type_reason(fault),
+    }
+}
+
+pub(crate) fn reason(status: &Status) -> (&str, Option<u32>, &str)
+    ensures { result.0.now ++ counted result.1 ++ result.2.now ≡ reason status.now }
+{
+    match status {
+        Status::Done => ("", None, ""),
+        Status::Memory => ("out of memory", None, ""),
+        Status::Clock(_) => ("clock", None, ""),
+        Status::Usage(fault) => ("usage: word ", Some(fault.word), fault.kind.as_str()),
+        Status::Query(fault) => query_reason(*fault),
+        Status::NotBuilt => ("not built", None, ""),
+        Status::NoSuchLog(name) => ("input: no such log ", None, name.as_str()),
+        Status::BadName(_) => ("input: bad name", None, ""),
+        Status::TooManyLogs => ("input: more than 100000 logs", None, ""),
+        Status::LogsFault => ("read fault: logs", None, ""),
+        Status::SinkFault => ("write fault", None, ""),
+    }
+}
