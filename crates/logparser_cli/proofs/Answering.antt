@@ -28,7 +28,7 @@ use Rattle.requests.proofs.Growing.{asks_grown}
 use Rattle.logparser_cli.specs.Logs.{AreSpans, IsUnlisted}
 use Rattle.logparser_cli.specs.Whole.{World, Runs, Tells, told_statistics, IsWhole, HoldsFront, IsUnwritten}
 use Rattle.logparser_cli.specs.Answers.{IsStopped, IsUnplannable, AnswersBuilt, AnswersQuery, Asked, IsUnasked, Answers, unasked, stopped}
-use Rattle.logparser_cli.proofs.Listing.{whole_told, logs_later, logs_earlier}
+use Rattle.logparser_cli.proofs.Wholes.{whole_told, logs_later, logs_earlier}
 
 pub on_refused : (status : Status) (P : Type 0) → P → OnRefused status P
 on_refused Done P p = tt
