@@ -1,5 +1,5 @@
 -- The spans of the logs that FROM names list.
-use Rattle.std.proofs.Common.{◌≡◌, ℕ, ◌<◌, ◌≤◌, List, length, get_or, All, false, Option, Some, None, refl, sym, subst, arith}
+use Rattle.std.proofs.Common.{◌≡◌, ℕ, ◌<◌, ◌≤◌, List, length, get_or, All, false, Option, Some, None, map, ap, refl, sym, subst, arith}
 use Rattle.std.proofs.lemmas.List.Elements.{All-weaker}
 use Rattle.grammar.specs.Trees as model
 use Rattle.lp_model.specs.Outside.{Folder, OnlyGrow, Told, bytes_in}
@@ -19,6 +19,8 @@ use Rattle.command_words.specs.declared.formats.InputFormat.{InputFormat}
 use Rattle.input_tables.specs.Tables.{lines_of}
 use Rattle.input_tables.proofs.Formats.{lines_start}
 use Rattle.reports.specs.declared.status.Status.TheVariants.{LogsFault}
+use Rattle.query_tree.specs.declared.query.Query.{Query, Query', out-Query}
+use Rattle.query_tree.specs.Views.{placed_all, query_of}
 use Rattle.logparser_cli.specs.Logs.{AreLogs, IsUnlisted, from_names, unlisted}
 
 pub spans_of : (before now : Option Folder) (logs : List NameLength) (spans : List Span) → spans ≡ whole_spans logs → All (IsLength before now) logs → AllSpans spans IsSpan
@@ -82,3 +84,8 @@ logs_failed (L.NoSuchLog name) e = absurd (cc)
 logs_failed L.TooManyLogs e = absurd (cc)
 logs_failed L.Logs e = refl
 logs_failed L.Memory e = absurd (cc)
+
+-- the FROM names of a query as it stands in memory
+pub names_behind : (q : Query) → map (λ (name : model.Placed). name.text) (placed_all (out-Query q).names) ≡ from_names (query_of q)
+unfolding out-Query denote.Hole.Carrier.out
+names_behind (Query' top distinct star items aliases into names condition keys rollup having order descending subqueries) = refl
