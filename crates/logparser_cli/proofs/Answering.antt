@@ -184,3 +184,17 @@ told_answers old new err faults moment words status refused (inl clock) = inl (r
 told_answers old new err faults moment words status refused (inr (now, inl none)) = inr (now, inl (unasked_told old new err faults words status none))
 told_answers old new err faults moment words status refused (inr (now, inr asked)) =
     inr (now, inr (record { spec = asked.spec; q = asked.q; asks = asked.asks; answers = query_told old new err faults asked.spec asked.q status refused asked.answers }))
+
+-- what a refusal says
+pub refused_is : (status : Status) (P : Type 0) → (status ≡ Done → ⊥) → OnRefused status P → P
+refused_is Done P refused p = absurd (refused refl)
+refused_is Memory P refused p = p
+refused_is (Clock moment) P refused p = p
+refused_is (Usage fault) P refused p = p
+refused_is (Query fault) P refused p = p
+refused_is NotBuilt P refused p = p
+refused_is (NoSuchLog name) P refused p = p
+refused_is (BadName fault) P refused p = p
+refused_is TooManyLogs P refused p = p
+refused_is LogsFault P refused p = p
+refused_is SinkFault P refused p = p

@@ -1,0 +1,23 @@
+use Rattle.std.proofs.Common.{◌≡◌, ℤ, refl, subst}
+use Rattle.std.proofs.lemmas.Int.{to_z-of_z}
+use Rattle.lp_model.specs.Outside.{Rose}
+use Rattle.reports.specs.Messages.{message}
+use Rattle.logparser_cli.specs.Answers.{Answers}
+use Rattle.logparser_cli.specs.Whole.{World, Tells}
+use Rattle.logparser_cli.proofs.Answering.{on_refused, refused_is, told_answers}
+use Rattle.logparser_cli.proofs.running.run.Goals as goal
+
+pub returns-in_default : goal.returns-in_default
+returns-in_default g c =
+    let old : World = record { folder = g.L.Logs.folder c.args.logs.now; logs_faults = g.L.Logs.faults c.args.logs.now; out = g.S.Sink.written c.args.out.now; out_faults = g.S.Sink.faults c.args.out.now; err = g.E.Sink.written c.args.err.now; err_faults = g.E.Sink.faults c.args.err.now } in
+    let new : World = record { folder = g.L.Logs.folder c.run_words.new.logs; logs_faults = g.L.Logs.faults c.run_words.new.logs; out = g.S.Sink.written c.run_words.new.out; out_faults = g.S.Sink.faults c.run_words.new.out; err = g.E.Sink.written c.run_words.new.err; err_faults = g.E.Sink.faults c.run_words.new.err } in
+    let status = c.run_words.result in
+    let same : c.run_words.new.err ≡ c.args.err.now = refused_is status (c.run_words.new.err ≡ c.args.err.now) c.in_default.not-Done c.run_words.ensures.silent in
+    record {
+      answers = told_answers old new (g.E.Sink.written c.tell_refusal.new.err) (g.E.Sink.faults c.tell_refusal.new.err) c.args.moment c.args.words.now status c.in_default.not-Done
+          (subst (λ (moment : ℤ). Answers moment c.args.words.now old new status) (to_z-of_z _ c.args.moment c.ranges.moment) c.run_words.ensures.answers);
+      told = on_refused status (Tells (g.E.Sink.written c.args.err.now) (g.E.Sink.written c.tell_refusal.new.err) (message status) (Rose (g.E.Sink.faults c.args.err.now) (g.E.Sink.faults c.tell_refusal.new.err)))
+          (subst (λ (err : g.row.E.Denot). Tells (g.E.Sink.written err) (g.E.Sink.written c.tell_refusal.new.err) (message status) (Rose (g.E.Sink.faults err) (g.E.Sink.faults c.tell_refusal.new.err))) same c.tell_refusal.ensures.told);
+      disk = refl;
+      input = c.run_words.ensures.input;
+    }
