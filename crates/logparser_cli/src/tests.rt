@@ -1,12 +1,10 @@
 // The run over objects in memory.
 use crate::{Status, run};
 use lp_outside::Name;
-use lp_values::{Bytes, Part, Stamp, Text, TextList};
+use lp_values::{Bytes, Text, TextList};
 use memory_outside::{MemoryDisk, MemoryLogs, MemorySink, MemorySource};
 use std::alloc::Global;
 use std::test::Fail;
-
-const TWO_LINES: &[u8] = b"LogFilename,Index,Text\na.log,1,a\na.log,2,b\n";
 
 // The outside of a run, with one log.
 #[derive(Drop)]
@@ -18,9 +16,9 @@ struct Outside {
     err: MemorySink,
 }
 
-fn with_log(alloc: Global, log: &[u8]) -> Result<Outside, Fail> {
+fn with_log(alloc: Global, name: &str, log: &[u8]) -> Result<Outside, Fail> {
     let mut logs = MemoryLogs::new(alloc);
-    let name = Name::read("a.log").ok().ok_or("name")?;
+    let name = Name::read(name).ok().ok_or("name")?;
     logs.put(&name, log)?;
     Ok(Outside {
         logs,
@@ -31,19 +29,19 @@ fn with_log(alloc: Global, log: &[u8]) -> Result<Outside, Fail> {
     })
 }
 
-fn run_query(
+fn run_words(
     alloc: Global,
-    query: &str,
+    words: &[&str],
     moment: i64,
     outside: &mut Outside,
 ) -> Result<Status, Fail> {
-    let mut words = TextList::new(alloc);
-    words.push(Text::from_str(alloc, "-i:TEXTLINE")?)?;
-    words.push(Text::from_str(alloc, "-o:CSV")?)?;
-    words.push(Text::from_str(alloc, query)?)?;
+    let mut list = TextList::new(alloc);
+    for word in words {
+        list.push(Text::from_str(alloc, word)?)?;
+    }
     Ok(run(
         alloc,
-        &words,
+        &list,
         moment,
         &mut outside.logs,
         &mut outside.disk,
@@ -53,69 +51,171 @@ fn run_query(
     ))
 }
 
-// One run, and what it is to leave.
+// One run at moment 0, and what it is to leave.
 struct Case {
+    name: &'static str,
     log: &'static [u8],
-    query: &'static str,
-    moment: i64,
+    words: &'static [&'static str],
     code: u8,
     out: &'static [u8],
     err: &'static [u8],
 }
 
-const CASES: [Case; 7] = [
+const W3C: &[u8] =
+    b"#Fields: date time cs-uri-stem sc-bytes\n2001-01-01 00:00:01 /a 10\n#Fields: date time cs-uri-stem\n2001-01-01 00:00:02 /b\n";
+
+const NCSA: &[u8] = b"10.0.0.1 - frank [10/Oct/2000:13:55:36 -0700] \"GET /a HTTP/1.0\" 200 -\n";
+
+// Cases whose expected texts were written by hand.
+const CASES: [Case; 17] = [
     Case {
+        name: "e.log",
         log: b"",
-        query: "SELECT * FROM a.log",
-        moment: 0,
+        words: &["-i:TEXTLINE", "-o:CSV", "SELECT * FROM e.log"],
         code: 0,
         out: b"LogFilename,Index,Text\n",
         err: b"Statistics:\n-----------\nElements processed: 0\nElements output:    0\n",
     },
     Case {
+        name: "a.log",
         log: b"a\r\nb",
-        query: "SELECT * FROM a.log",
-        moment: 253402300799,
+        words: &["-i:TEXTLINE", "-o:CSV", "SELECT * FROM a.log"],
         code: 0,
-        out: TWO_LINES,
+        out: b"LogFilename,Index,Text\na.log,1,a\na.log,2,b\n",
         err: b"Statistics:\n-----------\nElements processed: 2\nElements output:    2\n",
     },
     Case {
-        log: b"\xEF\xBB\xBFx,\"y\"\n\n\xFF",
-        query: "SELECT * FROM a.log",
-        moment: 0,
+        name: "a.log",
+        log: b"x\ny\nz\n",
+        words: &[
+            "-o:csv",
+            "SELECT Text AS t, Index FROM *.log WHERE t > 'x' AND NOT Index IN (2; 9)",
+            "-stats:off",
+        ],
         code: 0,
-        out: b"LogFilename,Index,Text\na.log,1,\"x,\"\"y\"\"\"\na.log,2,\na.log,3,\xEF\xBF\xBD\n",
+        out: b"t,Index\nz,3\n",
+        err: b"",
+    },
+    Case {
+        name: "w.log",
+        log: W3C,
+        words: &[
+            "-i:IISW3C",
+            "-o:CSV",
+            "SELECT LogRow, time, cs-uri-stem, sc-bytes FROM w.log",
+        ],
+        code: 0,
+        out: b"LogRow,time,cs-uri-stem,sc-bytes\n2,00:00:01,/a,10\n4,00:00:02,/b,\n",
+        err: b"Statistics:\n-----------\nElements processed: 2\nElements output:    2\n",
+    },
+    Case {
+        name: "n.log",
+        log: NCSA,
+        words: &[
+            "-i:NCSA",
+            "-o:CSV",
+            "SELECT RemoteHostName, RemoteLogName, UserName, DateTime, Request, StatusCode, BytesSent, Referer FROM n.log",
+        ],
+        code: 0,
+        out: b"RemoteHostName,RemoteLogName,UserName,DateTime,Request,StatusCode,BytesSent,Referer\n10.0.0.1,,frank,2000-10-10 20:55:36,GET /a HTTP/1.0,200,,\n",
+        err: b"Statistics:\n-----------\nElements processed: 1\nElements output:    1\n",
+    },
+    Case {
+        name: "w.txt",
+        log: b"x y\nz",
+        words: &["-i:TEXTWORD", "-o:CSV", "SELECT Index, Text FROM w.txt"],
+        code: 0,
+        out: b"Index,Text\n1,x\n1,y\n2,z\n",
         err: b"Statistics:\n-----------\nElements processed: 3\nElements output:    3\n",
     },
     Case {
+        name: "a.log",
         log: b"a",
-        query: "SELECT * FROM a.log",
-        moment: -1,
+        words: &["-z:1", "SELECT * FROM a.log"],
         code: 2,
         out: b"",
-        err: b"logparser: clock\n",
+        err: b"logparser: usage: word 0: unknown option\n",
     },
     Case {
+        name: "a.log",
         log: b"a",
-        query: "SELECT * FROM a.log",
-        moment: 253402300800,
+        words: &[],
         code: 2,
         out: b"",
-        err: b"logparser: clock\n",
+        err: b"logparser: usage: word 0: no query\n",
     },
     Case {
+        name: "t.csv",
+        log: b"u,h\na,5\n",
+        words: &["-i:TEXTLINE", "-o:CSV", "SELECT x FROM t.csv"],
+        code: 3,
+        out: b"",
+        err: b"logparser: query: at 7: unknown field\n",
+    },
+    Case {
+        name: "t.csv",
+        log: b"u,h\na,5\n",
+        words: &["-i:TEXTLINE", "-o:CSV", "SELECT 'a FROM t.csv"],
+        code: 3,
+        out: b"",
+        err: b"logparser: query: at 7: open string\n",
+    },
+    Case {
+        name: "t.csv",
+        log: b"u,h\na,5\n",
+        words: &[
+            "-i:TEXTLINE",
+            "-o:CSV",
+            "SELECT 9223372036854775808 FROM t.csv",
+        ],
+        code: 3,
+        out: b"",
+        err: b"logparser: query: at 7: number too large\n",
+    },
+    Case {
+        name: "t.csv",
+        log: b"u,h\na,5\n",
+        words: &["-i:TEXTLINE", "-o:CSV", "SELECT u FROM t.csv WHERE"],
+        code: 3,
+        out: b"",
+        err: b"logparser: query: at 25: syntax\n",
+    },
+    Case {
+        name: "q.sql",
+        log: b"SELECT Text FROM q.sql",
+        words: &["-i:TEXTLINE", "-o:CSV", "FILE:q.sql"],
+        code: 0,
+        out: b"Text\nSELECT Text FROM q.sql\n",
+        err: b"Statistics:\n-----------\nElements processed: 1\nElements output:    1\n",
+    },
+    Case {
+        name: "a.log",
         log: b"a",
-        query: "SELECT * FROM b.log",
-        moment: 0,
+        words: &["-o:CSV", "SELECT * FROM b.log"],
         code: 4,
         out: b"",
         err: b"logparser: input: no such log b.log\n",
     },
     Case {
+        name: "a.log",
         log: b"a",
-        query: "SELECT Text FROM a.log",
-        moment: 0,
+        words: &["-o:CSV", "SELECT * FROM a//b"],
+        code: 4,
+        out: b"",
+        err: b"logparser: input: bad name\n",
+    },
+    Case {
+        name: "a.log",
+        log: b"a",
+        words: &["-o:CSV", "SELECT * FROM a.log, STDIN"],
+        code: 3,
+        out: b"",
+        err: b"logparser: query: at 21: STDIN misplaced\n",
+    },
+    Case {
+        name: "a.log",
+        log: b"a",
+        words: &["-o:NAT", "SELECT * FROM a.log"],
         code: 2,
         out: b"",
         err: b"logparser: not built\n",
@@ -125,21 +225,33 @@ const CASES: [Case; 7] = [
 #[test]
 fn runs_leave_their_text_and_their_message(rt: HostRuntime) -> Result<(), Fail> {
     for case in &CASES {
-        let mut outside = with_log(rt.alloc(), case.log)?;
-        let status = run_query(rt.alloc(), case.query, case.moment, &mut outside)?;
-        assert_eq!(rt; status.code(), case.code);
-        assert_eq!(rt; outside.out.bytes(), case.out);
+        let mut outside = with_log(rt.alloc(), case.name, case.log)?;
+        let status = run_words(rt.alloc(), case.words, 0, &mut outside)?;
         assert_eq!(rt; outside.err.bytes(), case.err);
+        assert_eq!(rt; outside.out.bytes(), case.out);
+        assert_eq!(rt; status.code(), case.code);
+    }
+    Ok(())
+}
+
+const ALL: [&str; 3] = ["-i:TEXTLINE", "-o:CSV", "SELECT * FROM a.log"];
+
+#[test]
+fn moments_outside_the_years_are_no_clock(rt: HostRuntime) -> Result<(), Fail> {
+    for (moment, code) in [(-1, 2), (0, 0), (253402300799, 0), (253402300800, 2)] {
+        let mut outside = with_log(rt.alloc(), "a.log", b"a")?;
+        let status = run_words(rt.alloc(), &ALL, moment, &mut outside)?;
+        assert_eq!(rt; status.code(), code);
     }
     Ok(())
 }
 
 #[test]
 fn a_failing_log_is_a_read_fault(rt: HostRuntime) -> Result<(), Fail> {
-    for call in 0..2 {
-        let mut outside = with_log(rt.alloc(), b"a\r\nb")?;
+    for call in 0..3 {
+        let mut outside = with_log(rt.alloc(), "a.log", b"a\r\nb")?;
         outside.logs.fail(call)?;
-        let status = run_query(rt.alloc(), "SELECT * FROM a.log", 0, &mut outside)?;
+        let status = run_words(rt.alloc(), &ALL, 0, &mut outside)?;
         assert!(rt; matches!(status, Status::LogsFault));
         assert_eq!(rt;
             outside.err.bytes(),
@@ -151,9 +263,9 @@ fn a_failing_log_is_a_read_fault(rt: HostRuntime) -> Result<(), Fail> {
 
 #[test]
 fn a_failing_output_is_a_write_fault(rt: HostRuntime) -> Result<(), Fail> {
-    let mut outside = with_log(rt.alloc(), b"a\r\nb")?;
+    let mut outside = with_log(rt.alloc(), "a.log", b"a\r\nb")?;
     outside.out.fail(0)?;
-    let status = run_query(rt.alloc(), "SELECT * FROM a.log", 0, &mut outside)?;
+    let status = run_words(rt.alloc(), &ALL, 0, &mut outside)?;
     assert!(rt; matches!(status, Status::SinkFault));
     assert_eq!(rt; outside.out.bytes(), b"".as_slice());
     assert_eq!(rt; outside.err.bytes(), b"logparser: write fault\n".as_slice());
@@ -162,26 +274,17 @@ fn a_failing_output_is_a_write_fault(rt: HostRuntime) -> Result<(), Fail> {
 
 #[test]
 fn a_failing_message_changes_no_status(rt: HostRuntime) -> Result<(), Fail> {
-    let mut outside = with_log(rt.alloc(), b"a\r\nb")?;
+    let mut outside = with_log(rt.alloc(), "a.log", b"a")?;
     outside.err.fail(1)?;
-    let status = run_query(rt.alloc(), "SELECT * FROM a.log", 0, &mut outside)?;
+    let status = run_words(rt.alloc(), &ALL, 0, &mut outside)?;
     assert!(rt; matches!(status, Status::Done));
-    assert_eq!(rt; outside.out.bytes(), TWO_LINES);
+    assert_eq!(rt;
+        outside.out.bytes(),
+        b"LogFilename,Index,Text\na.log,1,a\n".as_slice()
+    );
     assert_eq!(rt;
         outside.err.bytes(),
         b"Statistics:\n-----------\nElements processed: ".as_slice()
     );
-    Ok(())
-}
-
-#[test]
-fn bytes_are_cut_and_a_stamp_tells_its_parts(rt: HostRuntime) -> Result<(), Fail> {
-    let mut bytes = Bytes::new(rt.alloc());
-    bytes.add(b"abc")?;
-    bytes.truncate(1);
-    assert_eq!(rt; bytes.as_slice(), b"a".as_slice());
-    let stamp = Stamp::new(86_400, Part::Date).ok_or("stamp")?;
-    assert_eq!(rt; stamp.seconds(), 86_400);
-    assert_eq!(rt; stamp.part(), Part::Date);
     Ok(())
 }
