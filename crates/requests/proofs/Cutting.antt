@@ -1,12 +1,10 @@
 -- A query file's bytes up to its length.
-use Rattle.std.proofs.Common.{◌≡◌, ◌≤◌, ◌<◌, ℕ, List, [], ◌++◌, length, take, Option, Some, None, IsSome, option_map, unwrap_or, replicate, refl, sym, ◌∙◌, ap, arith}
+use Rattle.std.proofs.Common.{◌≡◌, ◌≤◌, ◌<◌, ℕ, List, [], ◌++◌, length, Option, Some, None, IsSome, option_map, unwrap_or, replicate, refl, sym, arith}
 use Rattle.std.proofs.lemmas.List.{take_all, length-replicate}
-use Rattle.lp_model.specs.Outside.{Folder, OnlyGrow, Rose, Told, bytes_in}
+use Rattle.lp_model.specs.Outside.{Folder, OnlyGrow, Told, bytes_in}
 use Rattle.lp_model.specs.Pieces.{IsPiece}
 use Rattle.lp_model.proofs.Pieces.{length_grown, IsPiece-grown, IsPiece-more}
-use Rattle.requests.specs.Texts.{IsCut}
 use Rattle.requests.specs.Files.{IsTooLong}
-use Rattle.requests.proofs.Growing.{there_still}
 
 -- what a call tells of a file's length, once it is done
 abbrev pub IsLengthOf : Option Folder → List ℕ → ℕ → Type 0
@@ -19,15 +17,6 @@ size_is count (Some bytes) e = let same : count ≡ length bytes = cc in sym sam
 some_is : (count : ℕ) (file : Option (List ℕ)) → Some count ≡ option_map length file → IsSome file
 some_is count None e = absurd (cc)
 some_is count (Some bytes) e = refl
-
-none_is : (file : Option (List ℕ)) → None ≡ option_map length file → file ≡ None
-none_is None e = refl
-none_is (Some bytes) e = absurd (cc)
-
--- a file without a length isn't there
-pub gone : (told : Option Folder) (name : List ℕ) → Told told (λ folder. None ≡ option_map length (folder name)) → Told told (λ folder. folder name ≡ None)
-gone None name h = tt
-gone (Some x) name h = none_is (x name) h
 
 -- a file has the bytes up to its length
 pub there : (told : Option Folder) (name : List ℕ) (cut : ℕ) → IsLengthOf told name cut → Told told (λ folder. cut ≤ length (bytes_in folder name))
@@ -42,18 +31,6 @@ at_least (Some x) (Some y) name cut grow h =
     let size = size_is cut (y name) h in
     let kept = length_grown x y name (length (bytes_in x name)) grow (omega arith) in
     omega arith
-
--- the bytes up to a length that was told
-pub is_cut : (before mid now : Option Folder) (name bytes : List ℕ) (cut : ℕ) → OnlyGrow before mid → OnlyGrow mid now → IsLengthOf mid name cut → Told now (λ folder. bytes ≡ take cut (bytes_in folder name)) → Told now (λ folder. IsCut before folder name bytes)
-is_cut before mid None name bytes cut first second h same = tt
-is_cut before None (Some z) name bytes cut first second h same = let e : Some z ≡ None = second in absurd (cc)
-is_cut before (Some y) (Some z) name bytes cut first second h same = record {
-  there = there_still (y name) (z name) (second name) (some_is cut (y name) h);
-  cut = cut;
-  at_least = at_least before (Some y) name cut first h;
-  at_most = length_grown y z name cut second (there (Some y) name cut h);
-  bytes_are = same;
-}
 
 -- a length over that of the longest query
 pub too_long : (before now : Option Folder) (name : List ℕ) (cut : ℕ) → OnlyGrow before now → IsLengthOf now name cut → 65_536 < cut → IsTooLong before now name
@@ -77,12 +54,3 @@ too_long before (Some y) name cut grow h over = record {
 -- one more piece of a file is read
 pub turn : (mid now : Option Folder) (name : List ℕ) (cut : ℕ) (bytes piece : List ℕ) → OnlyGrow mid now → IsPiece mid name 0 cut bytes → IsPiece now name (length bytes) cut piece → IsPiece now name 0 cut (bytes ++ piece)
 turn mid now name cut bytes piece grow so_far here = IsPiece-more now name 0 (length bytes) cut bytes piece (omega arith) (IsPiece-grown mid now name 0 cut bytes grow so_far) here
-
--- the whole of what is to be read
-pub whole : (told : Option Folder) (name : List ℕ) (cut : ℕ) (bytes : List ℕ) → IsPiece told name 0 cut bytes → cut ≤ length bytes → Told told (λ folder. bytes ≡ take cut (bytes_in folder name))
-whole None name cut bytes p all = tt
-whole (Some x) name cut bytes p all = let fits = p.fits in let n : length bytes ≡ cut = omega arith in p.same ∙ ap (λ k. take k (bytes_in x name)) n
-
--- a count that rose has risen from an earlier one on
-pub rose_since : (a b c : ℕ) → a ≤ b → Rose b c → Rose a c
-rose_since a b c le rose = omega arith

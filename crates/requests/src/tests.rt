@@ -31,11 +31,17 @@ fn show_names(alloc: Global, query: &Query) -> Result<String, AllocError> {
     Ok(to)
 }
 
+fn show_request(alloc: Global, request: Request) -> Result<String, AllocError> {
+    let shown = show_names(alloc, &request.query);
+    drop(request);
+    shown
+}
+
 // The names of the query that words ask for, or their refusal.
 fn shown(alloc: Global, logs: &mut MemoryLogs, words: &[&str]) -> Result<String, AllocError> {
     let list = list_of(alloc, words)?;
     match read_request(alloc, &list, logs) {
-        Ok(request) => show_names(alloc, &request.query),
+        Ok(request) => show_request(alloc, request),
         Err(RequestFault::Usage(fault)) => format!(in alloc; "usage at {}", fault.word),
         Err(RequestFault::BadName(fault)) => format!(in alloc; "bad name {fault:?}"),
         Err(RequestFault::NoSuchLog(name)) => format!(in alloc; "no {}", name.as_str()),
