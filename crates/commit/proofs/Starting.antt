@@ -1,9 +1,8 @@
 -- Beginning a ledger that has no entries.
-use Rattle.std.proofs.Common.{◌≡◌, ◌≢◌, ◌⊎◌, inl, inr, ⊎_elim, ℕ, ◌+◌, ◌≤◌, ◌<◌, List, [], ◌∷◌, ◌++◌, length, refl, sym, ◌∙◌, ap, subst, arith}
+use Rattle.std.proofs.Common.{◌≡◌, ◌≢◌, inl, ⊎_elim, ℕ, ◌≤◌, ◌<◌, List, [], ◌∷◌, ◌++◌, length, refl, sym, ◌∙◌, ap, subst, arith}
 use Rattle.disk_model.specs.Disk.{Files, DiskState, IsImage, At, Works, IsSynced, Means, Stands, Nothing}
 use Rattle.disk_model.proofs.DiskSteps.{same_or_not, Stands-start, Stands-works}
-use Rattle.ledger_model.specs.Entries.{Entry}
-use Rattle.ledger_model.specs.Ledgers.{front_of, HasPairs, IsLedger, mark}
+use Rattle.ledger_model.specs.Ledgers.{HasPairs, IsLedger, mark}
 use Rattle.commit.specs.Recovered.{Recovers}
 use Rattle.disk_changes.specs.Changes.{StaysShort}
 use Rattle.commit.specs.States.{HasNone, Beginning, IsSettled}

@@ -1,5 +1,5 @@
 -- The states of a disk between the steps of a commit, and what is known of each file within a step.
-use Rattle.std.specs.Prelude.{◌≡◌, ◌≢◌, ◌⊎◌, ℕ, ◌+◌, ◌<◌, ◌≤◌, ◌^◌, List, [], ◌∷◌, ◌++◌, length, take, map, Some, slice_get}
+use Rattle.std.specs.Prelude.{◌≡◌, ◌≢◌, ℕ, ◌<◌, ◌^◌, List, [], ◌∷◌, ◌++◌, length, take, map, Some, slice_get}
 use Rattle.std.specs.List.{AllByRecursion}
 use Rattle.disk_model.specs.Disk.{Files, DiskState, IsImage, IsSynced, LeavesOnly}
 use Rattle.ledger_model.specs.Entries.{Entry, Output}

@@ -4,7 +4,7 @@ use ledger::{
     End, Entry, EntrySpan, EntrySpanList, InputText, LastEntry, LedgerRefused, ListValues, Output,
     OutputList, Part2, walk,
 };
-use lp_outside::{Disk, Mark, Name};
+use lp_outside::{Disk, Mark, Name, Stage};
 use lp_values::{Bytes, Part, Real, Stamp, Text, TextList, Value, ValueList};
 use memory_outside::{MemoryDisk, Torn, TornList};
 use std::alloc::Global;
@@ -446,5 +446,60 @@ fn an_entry_with_values(rt: HostRuntime) -> Result<(), Fail> {
     let bytes = disk.bytes(&names.ledger);
     let behind = bytes.get(240..).unwrap_or(&[]);
     assert!(rt; behind.starts_with(VALUES));
+    Ok(())
+}
+
+// A whole run through the states.
+fn run_by_states(
+    disk: &mut MemoryDisk,
+    files: CommitFiles,
+    output: &Written,
+    entry: &Entry,
+) -> Result<(), Fail> {
+    let name = named(output.name)?;
+    let base = u64::from(output.base);
+    let settled = settle(disk, files)?;
+    let mut staging = settled.start()?;
+    ends_at(&mut staging, &name, base)?;
+    let mut mark = Mark::none();
+    staging.put(0, &name, base, &mut mark, output.text)?;
+    staging.close(&name, base, &mark)?;
+    let sealed = staging.seal(entry)?;
+    let opened = sealed.open_gate()?;
+    let _settled = opened.finish()?;
+    Ok(())
+}
+
+// The output's file ends where its text begins.
+fn ends_at<S: Stage>(stage: &mut S, name: &Name, base: u64) -> Result<(), Fail> {
+    if stage.held(name)? == base {
+        Ok(())
+    } else {
+        Err(Fail::from("another length"))
+    }
+}
+
+#[test]
+fn two_runs_by_states(rt: HostRuntime) -> Result<(), Fail> {
+    let mut disk = MemoryDisk::new(rt.alloc());
+    for round in 0..2 {
+        let names = two_names()?;
+        let files = CommitFiles {
+            ledger: names.ledger,
+            stage: names.stage,
+        };
+        if round == 0 {
+            let entry = entry_of(rt.alloc(), 0, 3, 1, &FIRST)?;
+            run_by_states(&mut disk, files, &FIRST[0], &entry)?;
+        } else {
+            let entry = entry_of(rt.alloc(), 3, 5, 2, &SECOND)?;
+            run_by_states(&mut disk, files, &SECOND[0], &entry)?;
+        }
+    }
+    assert_eq!(rt; walk(&mut disk, &named("cp")?)?.entries, 2);
+    assert_eq!(rt;
+        disk.bytes(&named("o.csv")?),
+        b"Index,Text\n1,a\n2,b\n".as_slice()
+    );
     Ok(())
 }

@@ -1,5 +1,5 @@
 use Rattle.std.proofs.Common.{◌≡◌, ◌≤◌, ◌<◌, ◌+◌, ◌-◌, ◌%◌, ◌^◌, ◌++◌, ℕ, List, length, take}
-use Rattle.disk_model.specs.Disk.{Works, Shows, At}
+use Rattle.disk_model.specs.Disk.{Works, At}
 use Rattle.disk_changes.specs.Changes.{Anything}
 use Rattle.commit.specs.Putting.{IsText, HasStage, KeepsTexts}
 use Rattle.commit.proofs.putting.put.Given as goal
