@@ -1,5 +1,5 @@
 -- Logs that are read whole.
-use Rattle.std.specs.Prelude.{ℕ, List, map, None}
+use Rattle.std.specs.Prelude.{List, map, None}
 use Rattle.log_listing.specs.declared.lengths.NameLength.{NameLength}
 use Rattle.log_reading.specs.declared.span.Span.{Span}
 

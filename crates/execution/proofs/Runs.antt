@@ -1,5 +1,5 @@
 -- What the run of a plan says of its query.
-use Rattle.std.proofs.Common.{◌≡◌, ◌⊎◌, true, false, List, ℕ, length, Option, Some, None, Result, Ok, subst}
+use Rattle.std.proofs.Common.{◌≡◌, true, false, List, ℕ, length, Option, Some, None, Ok, subst}
 use Rattle.grammar.specs.Trees as model
 use Rattle.lp_model.specs.Outside.{Folder, Told, Gains, GainsSome}
 use Rattle.command_words.specs.declared.spec.Spec.{Spec}

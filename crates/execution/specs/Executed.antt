@@ -1,5 +1,5 @@
 -- What a query writes over spans of logs.
-use Rattle.std.specs.Prelude.{◌≡◌, ◌⊎◌, ℕ, ℤ, true, false, List, length, pos, ◌≤ℤ◌, ◌<ℤ◌, Option, Ok, Err, ⊤}
+use Rattle.std.specs.Prelude.{◌≡◌, ◌⊎◌, ℕ, ℤ, true, false, List, length, pos, ◌≤ℤ◌, ◌<ℤ◌, Option, Ok, Err}
 use Rattle.grammar.specs.Trees as model
 use Rattle.lp_model.specs.Outside.{Folder, Told, Gains, GainsSome}
 use Rattle.lp_values.specs.declared.value.Value.{Value}

@@ -13,10 +13,8 @@ fn is_built_input(format: InputFormat) -> bool
     ensures { result ≡ is_built_input format }
 {
     match format {
-        InputFormat::IisW3c
-        | InputFormat::Ncsa
-        | InputFormat::TextLine
-        | InputFormat::TextWord => true,
+        InputFormat::IisW3c | InputFormat::Ncsa | InputFormat::TextLine | InputFormat::TextWord =>
+            true,
         InputFormat::Csv | InputFormat::Tsv => false,
     }
 }
@@ -26,9 +24,8 @@ fn is_csv(format: Option<OutputFormat>) -> bool
 {
     match format {
         Some(OutputFormat::Csv) => true,
-        Some(
-            OutputFormat::Nat | OutputFormat::Tsv | OutputFormat::W3c | OutputFormat::Tpl,
-        ) => false,
+        Some(OutputFormat::Nat | OutputFormat::Tsv | OutputFormat::W3c | OutputFormat::Tpl) =>
+            false,
         None => false,
     }
 }
@@ -57,7 +54,5 @@ fn are_options_built(spec: &Spec, input: InputFormat) -> bool
 pub fn all_built(spec: &Spec, query: &Query) -> bool
     ensures { result ≡ all_built spec.now (query_of query.now) }
 {
-    are_options_built(spec, input_of(spec, query))
-        && is_built(query)
-        && !reads_stdin(&query.names)
+    are_options_built(spec, input_of(spec, query)) && is_built(query) && !reads_stdin(&query.names)
 }
