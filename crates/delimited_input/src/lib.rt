@@ -1,0 +1,17 @@
+//! Logs of fields that one byte parts: CSV and TSV.
+//!
+//! A crate above may rely on what `Delimited` makes of each line under the columns in force, and on the columns that a
+//! line leaves in force. `specs` has the definitions.
+#![tactic(auto)]
+
+mod cut;
+mod header;
+mod options;
+mod reader;
+mod row;
+mod shape;
+#[cfg(test)]
+mod tests;
+
+pub use options::{BadOption, DelimitedOptions};
+pub use reader::Delimited;
