@@ -1,5 +1,5 @@
 -- Lines of CSV and TSV files.
-use Rattle.std.specs.Prelude.{ℕ, ◌-◌, ◌==◌, Bool, not, ◌&&◌, ◌||◌, List, [], ◌∷◌, ◌++◌, length, map, take, replicate, nat_le, if◌then◌else◌, Option, Some, None, option_map}
+use Rattle.std.specs.Prelude.{ℕ, ◌-◌, ◌==◌, Bool, true, false, not, ◌&&◌, ◌||◌, List, [], ◌∷◌, ◌++◌, length, map, take, replicate, nat_le, if◌then◌else◌, Option, Some, None, option_map}
 use Rattle.std.specs.List.{find, list_any}
 use Rattle.lp_model.specs.Reading.{Columns, Slots, Format, Reading, passed, bad, rows}
 use Rattle.delimited_input.specs.declared.options.DelimitedOptions.{DelimitedOptions}

@@ -2,6 +2,7 @@
 ghost use Rattle.std.specs.Prelude.{◌≡◌, ◌≤◌, ◌<◌, ◌==◌, true, false, List, ℕ, All, length, take, drop, IfOk, option_map};
 ghost use Rattle.std.specs.List.{position_or_len, slice_split};
 ghost use Rattle.csv.specs.Records.{fields_of as record_fields};
+ghost use Rattle.memchr.specs.Find.{is_byte};
 ghost use Rattle.line_input.specs.Taken.{slot_bytes, part_of};
 ghost use Rattle.delimited_input.specs.Cuts.{IsCut};
 ghost use Rattle.delimited_input.specs.Fields.{fields_of};
@@ -29,7 +30,8 @@ pub(crate) struct Cut {
 
 // How many bytes stand before the first separator.
 fn field_length(separator: u8, bytes: &[u8]) -> usize
-    ensures { result ≡ position_or_len (λ b. b == separator) bytes.now }
+    ensures length { result ≡ position_or_len (is_byte separator) bytes.now }
+    ensures fits { result ≤ length bytes.now }
 {
     memchr(separator, bytes).unwrap_or(bytes.len())
 }
@@ -48,7 +50,7 @@ fn slot_at(alloc: Global, line: &[u8], from: usize, to: usize) -> Result<Slot, A
 
 // The first fields of a line in which no quote opens a field, at most so many.
 fn cut_plain(alloc: Global, separator: u8, line: &[u8], most: usize) -> Result<Cut, AllocError>
-    ensures { IfOk result (IsCut line.now (slice_split (λ b. b == separator) line.now) most) }
+    ensures { IfOk result (IsCut line.now (slice_split (is_byte separator) line.now) most) }
 {
     let mut fields = Fields::new(alloc);
     let mut at = 0;
