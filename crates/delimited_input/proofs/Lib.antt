@@ -1,2 +1,5 @@
 pub mod Searching
 pub mod Cutting
+pub mod Places
+pub mod Machine
+pub mod Agreeing

@@ -3,7 +3,9 @@ use Rattle.std.proofs.Common.{◌≡◌, ℕ, suc, ◌<◌, ◌≤◌, Bool, tru
 use Rattle.std.proofs.lemmas.Bool.{false_from_ne_true, cases_Bool}
 use Rattle.std.proofs.lemmas.List.Folds.{list_any_at}
 use Rattle.std.proofs.lemmas.List.Sums.{position_or_len_is}
-use Rattle.std.specs.List.{list_any, position_or_len}
+use Rattle.std.specs.List.{list_any, position_or_len, AllByRecursion}
+use Rattle.std.proofs.lemmas.Bool.Decides.{nat_tests}
+use Rattle.delimited_input.proofs.Places.{IsInLine}
 use Rattle.memchr.specs.Find.{IsFirstByte, is_byte, is_byte2, is_byte3}
 use Rattle.delimited_input.specs.Lines.{is_broken, ends_lines}
 
@@ -73,3 +75,16 @@ length_found separator bytes (Some at) first =
 pub within_length : (separator : ℕ) (bytes : List ℕ) (r : Option ℕ) → IsFirstByte (is_byte separator) bytes r → unwrap_or r (length bytes) ≤ length bytes
 within_length separator bytes None nowhere = omega arith
 within_length separator bytes (Some at) first = omega (arith, first.0.high)
+
+-- what a line that isn't broken holds
+pub each_in_line : (line : List ℕ) → is_broken line ≡ false → AllByRecursion IsInLine line
+unfolding is_broken
+each_in_line [] e = tt
+each_in_line (b ∷ bs) e =
+    elim (cases_Bool (ends_lines b)) [
+      | inl is ↦ let h : true ≡ false = rw is at e in absurd cc
+      | inr other ↦ let h : list_any ends_lines bs ≡ false = rw other at e in (in_line b other, each_in_line bs h)
+    ]
+  where
+    in_line : (b : ℕ) → ends_lines b ≡ false → IsInLine b
+    in_line b e = grind (arith, nat_tests)
