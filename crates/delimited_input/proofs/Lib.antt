@@ -3,3 +3,5 @@ pub mod Cutting
 pub mod Places
 pub mod Machine
 pub mod Agreeing
+pub mod Keeping
+pub mod Rows
