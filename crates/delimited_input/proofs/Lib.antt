@@ -5,3 +5,4 @@ pub mod Machine
 pub mod Agreeing
 pub mod Keeping
 pub mod Rows
+pub mod Naming

@@ -1,9 +1,8 @@
 // The names of columns.
-ghost use Rattle.std.specs.Prelude.{◌≡◌, ◌+◌, ◌<◌, length, map, take, IfOk, slice_index_or as get_or};
+ghost use Rattle.std.specs.Prelude.{◌≡◌, ◌+◌, ◌<◌, [], length, take, IfOk, slice_index_or as get_or};
 ghost use Rattle.std.specs.List.{list_any};
-ghost use Rattle.line_input.specs.Taken.{slots_of};
 ghost use Rattle.slot_reading.specs.Names.{is_same_name};
-ghost use Rattle.delimited_input.specs.Names.{made_name, made_names, header_name, header_names};
+ghost use Rattle.delimited_input.specs.Names.{is_made, made_name, made_names, header_name, header_names};
 ghost use Rattle.delimited_input.specs.Kept.{text_of, texts_of};
 
 use line_input::{Columns, Fields, Slot};
@@ -38,16 +37,25 @@ fn text_of<'a>(slot: &'a Slot, line: &'a [u8]) -> &'a [u8]
     slot.bytes(line).unwrap_or(b"")
 }
 
-// Whether a name is that of an earlier field, whatever the case of their letters.
-fn is_repeated(earlier: &[Slot], line: &[u8], name: &[u8]) -> bool
-    ensures { result ≡ list_any (is_same_name name.now) (texts_of line.now earlier.now) }
+// Whether two names are one, whatever the case of their letters.
+fn is_same(a: &[u8], b: &[u8]) -> bool
+    ensures { result ≡ is_same_name a.now b.now }
 {
-    for slot in earlier {
-        if name.eq_ignore_ascii_case(text_of(slot, line)) {
-            return true;
-        }
-    }
-    false
+    a.eq_ignore_ascii_case(b)
+}
+
+// Whether a name is that of an earlier field.
+fn is_repeated(earlier: &[Slot], line: &[u8], name: &[u8]) -> bool
+    ensures { result ≡ list_any (λ slot. is_same_name name.now (text_of line.now slot)) earlier.now }
+{
+    earlier.iter().any(|slot| is_same(name, text_of(slot, line)))
+}
+
+// Whether a column's name is made anew.
+fn is_made(earlier: &[Slot], line: &[u8], name: &[u8]) -> bool
+    ensures { result ≡ is_made (texts_of line.now earlier.now) name.now }
+{
+    name.is_empty() || is_repeated(earlier, line, name)
 }
 
 // The name that the field at a place of a header gives.
@@ -56,7 +64,7 @@ fn header_name(alloc: Global, line: &[u8], slots: &[Slot], place: usize) -> Resu
     ensures { IfOk result (λ name. name ≡ header_name (take place (texts_of line.now slots.now)) (place + 1) (get_or (texts_of line.now slots.now) place [])) }
 {
     let name = text_of(&slots[place], line);
-    if name.is_empty() || is_repeated(&slots[..place], line, name) {
+    if is_made(&slots[..place], line, name) {
         made_name(alloc, place + 1)
     } else {
         Text::read(alloc, name)
