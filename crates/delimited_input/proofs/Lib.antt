@@ -6,3 +6,5 @@ pub mod Agreeing
 pub mod Keeping
 pub mod Rows
 pub mod Naming
+pub mod First
+pub mod Carrying

@@ -5,3 +5,4 @@ pub mod Shapes
 pub mod Cuts
 pub mod Kept
 pub mod Separators
+pub mod Setting

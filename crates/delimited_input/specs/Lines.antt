@@ -58,10 +58,6 @@ row_reading many fields = if nat_le (length fields) many then rows (slots_under 
 abbrev pub first_reading : DelimitedOptions → List (List ℕ) → Reading
 first_reading options fields = if options.header_row then passed else if has_columns fields then rows (map slot_of fields ∷ []) else bad
 
--- the columns behind such a line
-abbrev pub first_columns : DelimitedOptions → List (List ℕ) → Option Columns → Option Columns
-first_columns options fields old = if sets_columns options fields then Some (columns_of options fields) else old
-
 abbrev pub filled_reading : DelimitedOptions → List (List ℕ) → Option Columns → Reading
 filled_reading options fields None = first_reading options fields
 filled_reading options fields (Some names) = row_reading (length names) fields

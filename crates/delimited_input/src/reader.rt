@@ -3,9 +3,10 @@ ghost use Rattle.std.specs.Prelude.{◌≡◌, ◌+◌, ◌<◌, ◌^◌, ◌↔
 ghost use Rattle.line_input.specs.Taken.{reading_in, slots_of};
 ghost use Rattle.lp_model.specs.Reading.{passed, bad, rows};
 ghost use Rattle.delimited_input.specs.Kept.{texts_of};
-ghost use Rattle.delimited_input.specs.Lines.{fields_in, is_broken, first_reading, first_columns, delimited_lines};
+ghost use Rattle.delimited_input.specs.Lines.{fields_in, is_broken, first_reading, filled_reading, delimited_lines};
 ghost use Rattle.delimited_input.specs.Names.{made_names, header_names};
 ghost use Rattle.delimited_input.specs.Separators.{IsRefused};
+ghost use Rattle.delimited_input.specs.Setting.{first_columns, filled_columns};
 ghost use Rattle.delimited_input.specs.Shapes.{HasShape};
 
 use crate::cut::{Cut, cut_line};
@@ -105,6 +106,31 @@ fn take_first(
     }
 }
 
+// Takes a line that is neither empty nor broken.
+fn take_filled(
+    alloc: Global,
+    options: DelimitedOptions,
+    standing: &mut Standing,
+    shape: Shape,
+    line: &[u8],
+) -> Result<Taken, AllocError>
+    requires lines { standing.old.lines < 2 ^ 63 }
+    requires filled { 0 < length line.now }
+    requires whole { is_broken line.now ≡ false }
+    requires shape { HasShape options.quotes line.now shape }
+    ensures reading { IfOk result (λ taken. reading_in line.now taken ≡ filled_reading options (fields_in options line.now) standing.old.columns) }
+    ensures lines { OnOk result (standing.new.lines ≡ standing.old.lines + 1) }
+    ensures columns { OnOk result (standing.new.columns ≡ filled_columns options (fields_in options line.now) standing.old.columns) }
+    ensures err { OnErr result (standing.new ≡ standing.old) }
+{
+    let Some(names) = standing.columns() else {
+        return take_first(alloc, options, standing, shape, line);
+    };
+    let taken = take_row(alloc, options, shape, line, names.len())?;
+    standing.pass_line();
+    Ok(taken)
+}
+
 impl LineReader for Delimited {
     ghost format = { λ s. delimited_lines s };
 
@@ -118,16 +144,12 @@ impl LineReader for Delimited {
             standing.pass_line();
             return Ok(Taken::Passed);
         }
-        let shape = shape_of(self.options.quotes, line);
-        if shape == Shape::Broken {
-            standing.pass_line();
-            return Ok(Taken::Bad);
+        match shape_of(self.options.quotes, line) {
+            Shape::Broken => {
+                standing.pass_line();
+                Ok(Taken::Bad)
+            }
+            shape => take_filled(alloc, self.options, standing, shape, line),
         }
-        let Some(names) = standing.columns() else {
-            return take_first(alloc, self.options, standing, shape, line);
-        };
-        let taken = take_row(alloc, self.options, shape, line, names.len())?;
-        standing.pass_line();
-        Ok(taken)
     }
 }
