@@ -6,10 +6,9 @@ use Rattle.std.specs.Option.{option_to_list}
 use Rattle.std.proofs.lemmas.List.{append-nil}
 use Rattle.memchr.specs.Find.{is_byte}
 use Rattle.delimited_input.specs.Fields.{Cut, plain_field, quoted_field, first_field, fields_among, fields_of}
-use Rattle.delimited_input.specs.Fields.{onto as put_on}
 use Rattle.delimited_input.specs.Shapes.{IsPlain}
-use Rattle.delimited_input.proofs.Places.{Place, Rest, onto, ended, all_of, rest_from, line_fields}
-use Rattle.delimited_input.proofs.Places.Place.{Start, Plain, Quoted, Behind}
+use Rattle.delimited_input.proofs.Places.{Rest, onto, all_of, rest_from, line_fields}
+use Rattle.delimited_input.proofs.Places.Place.{Start, Plain, Quoted}
 
 abbrev is_quote : ℕ → Bool
 is_quote b = b == 34

@@ -1,15 +1,14 @@
 -- A line in which no quote opens a field, cut at its separators.
-use Rattle.std.proofs.Common.{◌≡◌, ℕ, suc, zero, ◌+◌, ◌-◌, ◌<◌, ◌≤◌, Bool, true, false, nat_le, List, [], ◌∷◌, ◌++◌, length, map, take, drop, Option, Some, None, refl, sym, ap, ◌∙◌, subst, inl, inr, arith, rules, tests, append_assoc}
+use Rattle.std.proofs.Common.{◌≡◌, ℕ, ◌+◌, ◌-◌, ◌<◌, ◌≤◌, Bool, true, false, List, [], ◌∷◌, ◌++◌, length, map, take, drop, refl, sym, ap, ◌∙◌, inl, inr, arith, append_assoc}
 use Rattle.std.specs.Prelude.{◌≢◌}
 use Rattle.std.proofs.lemmas.Bool.{cases_Bool, le-leb, lt-leb}
 use Rattle.std.proofs.lemmas.List.{drop-drop, length-drop, length_push, map-append, length-append, length-map, take_all, take-map}
 use Rattle.std.proofs.Math.Seq.{take-append_seam}
 use Rattle.std.proofs.lemmas.List.Splits.{slice_split_first, length-slice_split}
-use Rattle.std.specs.List.{slice_split, position_or_len, count_by}
+use Rattle.std.specs.List.{slice_split, position_or_len}
 use Rattle.memchr.specs.Find.{is_byte}
 use Rattle.line_input.specs.declared.slot.Slot.{Slot}
 use Rattle.line_input.specs.Taken.{slot_bytes, slots_of, part_of}
-use Rattle.delimited_input.specs.declared.cut.Cut.{Cut}
 use Rattle.delimited_input.specs.Cuts.{IsCut}
 use Rattle.delimited_input.specs.Lines.{slot_of}
 

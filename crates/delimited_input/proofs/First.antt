@@ -1,14 +1,14 @@
 -- The first line: the header, or the first row.
-use Rattle.std.proofs.Common.{◌≡◌, ℕ, ◌==◌, Bool, true, false, cond, nat_le, List, [], ◌∷◌, length, map, take, Option, Some, None, refl, sym, ap, ◌∙◌, inl, inr, arith, rules, tests}
+use Rattle.std.proofs.Common.{◌≡◌, ℕ, Bool, true, false, cond, nat_le, List, [], ◌∷◌, length, map, take, Option, Some, refl, sym, ap, ◌∙◌, inl, inr, rules, tests}
 use Rattle.std.proofs.lemmas.Bool.{cases_Bool}
-use Rattle.lp_model.specs.Reading.{Columns, Reading, passed, bad, rows}
+use Rattle.lp_model.specs.Reading.{Columns, Reading, bad, rows}
 use Rattle.line_input.specs.declared.slot.Slot.{Slot}
-use Rattle.line_input.specs.Taken.{slot_bytes, slots_of}
+use Rattle.line_input.specs.Taken.{slots_of}
 use Rattle.delimited_input.specs.declared.cut.Cut.{Cut}
 use Rattle.delimited_input.specs.declared.options.DelimitedOptions.{DelimitedOptions}
 use Rattle.delimited_input.specs.Cuts.{IsCut}
 use Rattle.delimited_input.specs.Kept.{bytes_or_none, text_of, texts_of}
-use Rattle.delimited_input.specs.Lines.{is_empty, slot_of, most_columns, has_columns, columns_of, sets_columns, first_reading}
+use Rattle.delimited_input.specs.Lines.{is_empty, slot_of, first_reading}
 use Rattle.delimited_input.specs.Names.{made_names, header_names}
 use Rattle.delimited_input.specs.Setting.{first_columns}
 use Rattle.delimited_input.proofs.Rows.{cut_whole}

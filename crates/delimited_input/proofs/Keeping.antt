@@ -1,11 +1,10 @@
 -- The first fields of a row of csv.
-use Rattle.std.proofs.Common.{◌≡◌, ℕ, suc, zero, ◌+◌, ◌<◌, ◌≤◌, true, nat_le, List, [], ◌∷◌, ◌++◌, length, map, take, Option, Some, None, refl, sym, ap, ◌∙◌, subst, arith}
+use Rattle.std.proofs.Common.{◌≡◌, ℕ, suc, zero, ◌+◌, ◌<◌, ◌≤◌, true, nat_le, List, [], ◌∷◌, ◌++◌, length, map, take, Some, None, sym, ap, ◌∙◌, arith}
 use Rattle.std.proofs.lemmas.Bool.{le-leb}
 use Rattle.std.proofs.lemmas.List.{map-append, take_all}
 use Rattle.csv.specs.Records.{field_at}
 use Rattle.line_input.specs.declared.slot.Slot.{Slot}
 use Rattle.line_input.specs.Taken.{slot_bytes, slots_of}
-use Rattle.delimited_input.specs.declared.cut.Cut.{Cut}
 use Rattle.delimited_input.specs.Cuts.{IsCut}
 use Rattle.delimited_input.specs.Lines.{slot_of}
 

@@ -1,7 +1,7 @@
 -- The names of columns, one after the other.
-use Rattle.std.proofs.Common.{◌≡◌, ℕ, suc, zero, cond, ◌+◌, ◌<◌, ◌≤◌, Bool, true, false, ◌||◌, List, [], ◌∷◌, ◌++◌, length, map, take, get_or, refl, sym, ap, ◌∙◌, arith}
+use Rattle.std.proofs.Common.{◌≡◌, ℕ, suc, zero, cond, ◌+◌, ◌<◌, ◌≤◌, Bool, ◌||◌, List, [], ◌∷◌, ◌++◌, length, map, take, get_or, refl, sym, ap, ◌∙◌, arith}
 use Rattle.std.specs.List.{enumerate_from, list_any}
-use Rattle.std.proofs.lemmas.List.{length-map, map-append, take_more, take_all, take-map}
+use Rattle.std.proofs.lemmas.List.{map-append, take_more, take_all, take-map}
 use Rattle.std.proofs.lemmas.List.FromFn.{length-enumerate_from, get_or-enumerate_from}
 use Rattle.std.specs.Str.Lossy.{utf8_lossy}
 use Rattle.lp_model.specs.Reading.{Columns}

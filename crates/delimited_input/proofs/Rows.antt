@@ -1,13 +1,13 @@
 -- Rows of the fields that were cut.
-use Rattle.std.proofs.Common.{◌≡◌, ℕ, suc, ◌+◌, ◌-◌, ◌<◌, ◌≤◌, Bool, true, false, nat_le, List, [], ◌∷◌, ◌++◌, length, map, take, replicate, Option, Some, None, refl, sym, ap, ◌∙◌, arith, append_assoc}
+use Rattle.std.proofs.Common.{◌≡◌, ℕ, suc, ◌+◌, ◌-◌, ◌<◌, ◌≤◌, true, false, nat_le, List, [], ◌∷◌, ◌++◌, length, map, replicate, None, refl, sym, ap, ◌∙◌, arith, append_assoc}
 use Rattle.std.proofs.lemmas.Bool.{leb-true}
 use Rattle.std.proofs.lemmas.List.{append-nil, length-map, take_all}
-use Rattle.lp_model.specs.Reading.{Slots, Reading, bad, rows}
+use Rattle.lp_model.specs.Reading.{Slots, bad, rows}
 use Rattle.line_input.specs.declared.slot.Slot.{Slot}
 use Rattle.line_input.specs.Taken.{slot_bytes, slots_of}
 use Rattle.delimited_input.specs.declared.cut.Cut.{Cut}
 use Rattle.delimited_input.specs.Cuts.{IsCut}
-use Rattle.delimited_input.specs.Lines.{slot_of, slots_under, row_reading}
+use Rattle.delimited_input.specs.Lines.{slot_of, row_reading}
 
 pub padded_more : (many : ℕ) (xs : Slots) (n m : ℕ) → n < many → m ≡ n + 1 → xs ++ replicate (many - n) None ≡ (xs ++ None ∷ []) ++ replicate (many - m) None
 padded_more many xs n m below e =

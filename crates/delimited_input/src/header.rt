@@ -48,7 +48,9 @@ fn is_same(a: &[u8], b: &[u8]) -> bool
 fn is_repeated(earlier: &[Slot], line: &[u8], name: &[u8]) -> bool
     ensures { result ≡ list_any (λ slot. is_same_name name.now (text_of line.now slot)) earlier.now }
 {
-    earlier.iter().any(|slot| is_same(name, text_of(slot, line)))
+    earlier
+        .iter()
+        .any(|slot| is_same(name, text_of(slot, line)))
 }
 
 // Whether a column's name is made anew.
@@ -72,7 +74,11 @@ fn header_name(alloc: Global, line: &[u8], slots: &[Slot], place: usize) -> Resu
 }
 
 /// The names that a header's fields give.
-pub(crate) fn header_names(alloc: Global, line: &[u8], fields: &Fields) -> Result<Columns, AllocError>
+pub(crate) fn header_names(
+    alloc: Global,
+    line: &[u8],
+    fields: &Fields,
+) -> Result<Columns, AllocError>
     ensures { IfOk result (λ names. names ≡ header_names (texts_of line.now fields.now)) }
 {
     let slots = fields.as_slice();

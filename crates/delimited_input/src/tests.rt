@@ -24,11 +24,7 @@ const TSV: DelimitedOptions = DelimitedOptions {
 
 // What a reader makes of lines: `-` where it is passed, `!` where it is bad, and the fields of each row, each with `|`
 // behind it and `~` in place of one that the log doesn't have; at the end the columns in force, each with `;` behind it.
-fn told(
-    alloc: Global,
-    options: DelimitedOptions,
-    lines: &[&[u8]],
-) -> Result<Bytes, AllocError> {
+fn told(alloc: Global, options: DelimitedOptions, lines: &[&[u8]]) -> Result<Bytes, AllocError> {
     let mut standing = Standing::new();
     let mut told = Bytes::new(alloc);
     let Ok(reader) = Delimited::new(options) else {
@@ -100,11 +96,21 @@ fn lines_are_what_the_rules_say(rt: HostRuntime) -> Result<(), Fail> {
         (CSV, b"a,b", b"1,2,", b"- ! a;b;"),
         (CSV, b"a,b", b"\"1\",2,3", b"- ! a;b;"),
         // Names that are empty, and that equal an earlier one whatever their case.
-        (CSV, b"a,,A,b,\"a\"", b"1,2,3,4,5", b"- 1|2|3|4|5| a;Field2;Field3;b;Field5;"),
+        (
+            CSV,
+            b"a,,A,b,\"a\"",
+            b"1,2,3,4,5",
+            b"- 1|2|3|4|5| a;Field2;Field3;b;Field5;",
+        ),
         (CSV, b"Field2,", b"1,2", b"- 1|2| Field2;Field2;"),
         (CSV, b"\"a,b\",c", b"1,2", b"- 1|2| a,b;c;"),
         // Names are compared before what is no UTF-8 is repaired.
-        (CSV, b"\xFF,\xFE", b"1,2", b"- 1|2| \xEF\xBF\xBD;\xEF\xBF\xBD;"),
+        (
+            CSV,
+            b"\xFF,\xFE",
+            b"1,2",
+            b"- 1|2| \xEF\xBF\xBD;\xEF\xBF\xBD;",
+        ),
         // A mark in a line that isn't a file's first stays.
         (CSV, b"a", b"\xEF\xBB\xBF\"1\"", b"- \xEF\xBB\xBF\"1\"| a;"),
         // Without a header the first row tells the columns.
@@ -115,13 +121,43 @@ fn lines_are_what_the_rules_say(rt: HostRuntime) -> Result<(), Fail> {
         // TSV has no quotes.
         (TSV, b"\"1\t2\"", b"a,b", b"\"1|2\"| a,b|~| Field1;Field2;"),
         (TSV, b"1\r\t2", b"\t", b"! ~|~| Field1;Field2;"),
-        (DelimitedOptions { separator: b' ', ..TSV }, b"1 2", b"3  4", b"1|2| ! Field1;Field2;"),
-        (DelimitedOptions { separator: b'|', ..TSV }, b"1|2", b"3", b"1|2| 3|~| Field1;Field2;"),
-        (DelimitedOptions { separator: b'"', ..TSV }, b"1", b"2", b"refused"),
+        (
+            DelimitedOptions {
+                separator: b' ',
+                ..TSV
+            },
+            b"1 2",
+            b"3  4",
+            b"1|2| ! Field1;Field2;",
+        ),
+        (
+            DelimitedOptions {
+                separator: b'|',
+                ..TSV
+            },
+            b"1|2",
+            b"3",
+            b"1|2| 3|~| Field1;Field2;",
+        ),
+        (
+            DelimitedOptions {
+                separator: b'"',
+                ..TSV
+            },
+            b"1",
+            b"2",
+            b"refused",
+        ),
     ];
     for (options, first, second, want) in cases {
         let told = told(rt.alloc(), options, &[first, second])?;
-        assert!(rt; told.as_slice() == want, "{:?} {:?} {:?}", first, second, told.as_slice());
+        assert!(rt;
+            told.as_slice() == want,
+            "{:?} {:?} {:?}",
+            first,
+            second,
+            told.as_slice()
+        );
     }
     Ok(())
 }
@@ -160,8 +196,17 @@ fn columns_may_be_too_many(rt: HostRuntime) -> Result<(), Fail> {
     let most = wide(rt.alloc(), 1024)?;
     let more = wide(rt.alloc(), 1025)?;
     // The header's names past the last one are dropped.
-    let header = told(rt.alloc(), CSV, &[more.as_slice(), most.as_slice(), more.as_slice()])?;
-    assert!(rt; header.as_slice().ends_with(b"| ! Field1;Field2;Field3;"[..].split_at(4).0) == false);
+    let header = told(
+        rt.alloc(),
+        CSV,
+        &[more.as_slice(), most.as_slice(), more.as_slice()],
+    )?;
+    assert!(rt;
+        header
+            .as_slice()
+            .ends_with(b"| ! Field1;Field2;Field3;"[..].split_at(4).0)
+            == false
+    );
     let rows = told(rt.alloc(), ROWS, &[more.as_slice(), b"1,2"])?;
     assert!(rt; rows.as_slice() == b"! 1|2| Field1;Field2;".as_slice());
     let widest = told(rt.alloc(), ROWS, &[most.as_slice(), more.as_slice()])?;

@@ -1,4 +1,4 @@
-use Rattle.std.proofs.Common.{◌≡◌, ◌≤◌, ◌+◌, ℕ, List, drop, ap, sym, ◌∙◌, arith, length}
+use Rattle.std.proofs.Common.{◌≡◌, ◌≤◌, ◌+◌, ℕ, drop, ap, ◌∙◌, arith, length}
 use Rattle.std.proofs.lemmas.List.{length-drop}
 use Rattle.std.specs.List.{position_or_len}
 use Rattle.memchr.specs.Find.{is_byte}

@@ -1,4 +1,4 @@
-use Rattle.std.proofs.Common.{◌≡◌, ◌≤◌, ℕ, List, map, take, ap, sym, subst, ◌∙◌, arith}
+use Rattle.std.proofs.Common.{sym, arith}
 use Rattle.csv.specs.Records.{fields_of}
 use Rattle.delimited_input.proofs.Keeping.{kept_more, kept_all, kept_full}
 use Rattle.delimited_input.proofs.cut.keep_fields.Goals as goal

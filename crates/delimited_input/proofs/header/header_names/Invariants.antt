@@ -1,4 +1,4 @@
-use Rattle.std.proofs.Common.{◌≡◌, take}
+use Rattle.std.proofs.Common.{◌≡◌}
 use Rattle.delimited_input.specs.Kept.{texts_of}
 use Rattle.delimited_input.proofs.Naming.{names_up_to}
 use Rattle.delimited_input.proofs.header.header_names.Given as goal

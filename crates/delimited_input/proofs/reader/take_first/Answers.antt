@@ -1,4 +1,3 @@
-use Rattle.std.proofs.Common.{◌∙◌}
 use Rattle.std.proofs.lemmas.Result.{IfOk-weaker, on_ok_weaker}
 use Rattle.line_input.specs.Taken.{reading_in}
 use Rattle.delimited_input.specs.Lines.{fields_in}
