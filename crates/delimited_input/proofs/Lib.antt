@@ -8,3 +8,4 @@ pub mod Rows
 pub mod Naming
 pub mod First
 pub mod Carrying
+pub mod Sampling

@@ -6,3 +6,5 @@ pub mod Cuts
 pub mod Kept
 pub mod Separators
 pub mod Setting
+pub mod Kinds
+pub mod Sampled

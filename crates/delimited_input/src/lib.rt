@@ -9,9 +9,12 @@ mod header;
 mod options;
 mod reader;
 mod row;
+mod sampler;
 mod shape;
+mod tally;
 #[cfg(test)]
 mod tests;
 
 pub use options::{BadOption, DelimitedOptions};
 pub use reader::Delimited;
+pub use sampler::{KindList, KindSampler};
