@@ -9,3 +9,4 @@ pub mod Naming
 pub mod First
 pub mod Carrying
 pub mod Sampling
+pub mod Telling

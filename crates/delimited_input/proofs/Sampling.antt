@@ -1,13 +1,12 @@
 -- What rows tell of the kinds of columns.
-use Rattle.std.proofs.Common.{◌≡◌, ℕ, suc, zero, ◌+◌, ◌-◌, ◌<◌, ◌≤◌, ◌==◌, Bool, true, false, cond, not, ◌&&◌, List, [], ◌∷◌, ◌++◌, length, map, take, drop, set, replicate, get_or, refl, sym, ap, ◌∙◌, inl, inr, arith, rules, tests}
-use Rattle.std.specs.List.{filter, list_all, range_with_len, enumerate_from}
+use Rattle.std.proofs.Common.{◌≡◌, ℕ, suc, zero, ◌+◌, ◌-◌, ◌<◌, ◌≤◌, ◌==◌, Bool, true, false, not, ◌&&◌, List, [], ◌∷◌, ◌++◌, length, map, replicate, refl, sym, ap, ◌∙◌, inl, inr, arith, rules, tests}
+use Rattle.std.specs.List.{list_all, range_with_len, enumerate_from}
 use Rattle.std.proofs.lemmas.Bool.{cases_Bool}
 use Rattle.std.proofs.lemmas.List.{append-nil, length_push, map-append, take_all, take-append-le}
 use Rattle.std.proofs.lemmas.List.Elements.{filter-append}
 use Rattle.std.proofs.lemmas.List.Folds.{list_all-append}
 use Rattle.lp_time.specs.declared.piece.Piece.{Piece}
 use Rattle.lp_values.specs.declared.kind.Kind.{Kind}
-use Rattle.lp_values.specs.declared.kind.Kind.TheVariants.{Any}
 use Rattle.delimited_input.specs.declared.tally.Tally.{Tally}
 use Rattle.delimited_input.specs.Kinds.{Row, is_integer, is_number, is_time, is_missing, filled_of, kind_of_texts, text_in, sample_of, column_kind, kinds_of}
 use Rattle.delimited_input.specs.Sampled.{tally_of, new_tally, tally_with, kind_told, kind_seen, Sampled, StandsFor}

@@ -1,5 +1,5 @@
 -- What a sampler knows of the rows that it was given.
-use Rattle.std.specs.Prelude.{◌≡◌, ◌-◌, ◌==◌, ℕ, Bool, true, false, not, ◌&&◌, List, [], length, map, if◌then◌else◌}
+use Rattle.std.specs.Prelude.{◌≡◌, ◌-◌, ◌==◌, ℕ, Bool, true, false, not, ◌&&◌, List, length, map, if◌then◌else◌}
 use Rattle.std.specs.List.{list_all, range_with_len}
 use Rattle.lp_time.specs.declared.piece.Piece.{Piece}
 use Rattle.lp_values.specs.declared.kind.Kind.{Kind}

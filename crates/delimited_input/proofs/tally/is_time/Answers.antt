@@ -1,4 +1,4 @@
-use Rattle.std.proofs.Common.{◌≡◌, Option, Some, None, option_map, is_some, refl, sym, ap, ◌∙◌}
+use Rattle.std.proofs.Common.{◌≡◌, Option, Some, None, option_map, is_some, refl, ap, ◌∙◌}
 use Rattle.delimited_input.specs.Kinds.{is_time}
 use Rattle.delimited_input.proofs.tally.is_time.Goals as goal
 
