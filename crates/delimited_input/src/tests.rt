@@ -1,6 +1,7 @@
 use super::*;
 use line_input::{Fields, LineReader, Standing, Taken};
-use lp_values::Bytes;
+use lp_time::Pattern;
+use lp_values::{Bytes, Kind, Text, TextList};
 use std::alloc::{AllocError, Global};
 use std::test::Fail;
 
@@ -196,20 +197,65 @@ fn columns_may_be_too_many(rt: HostRuntime) -> Result<(), Fail> {
     let most = wide(rt.alloc(), 1024)?;
     let more = wide(rt.alloc(), 1025)?;
     // The header's names past the last one are dropped.
-    let header = told(
-        rt.alloc(),
-        CSV,
-        &[more.as_slice(), most.as_slice(), more.as_slice()],
-    )?;
-    assert!(rt;
-        header
-            .as_slice()
-            .ends_with(b"| ! Field1;Field2;Field3;"[..].split_at(4).0)
-            == false
-    );
+    let header = told(rt.alloc(), CSV, &[more.as_slice(), b"1,2", more.as_slice()])?;
+    assert!(rt; header.as_slice().starts_with(b"- 1|2|~|~|"));
+    assert!(rt; header.as_slice().ends_with(b";Field1023;Field1024;"));
     let rows = told(rt.alloc(), ROWS, &[more.as_slice(), b"1,2"])?;
     assert!(rt; rows.as_slice() == b"! 1|2| Field1;Field2;".as_slice());
     let widest = told(rt.alloc(), ROWS, &[most.as_slice(), more.as_slice()])?;
     assert!(rt; widest.as_slice().ends_with(b";Field1023;Field1024;"));
+    Ok(())
+}
+
+// The kind of a column with these texts, judged from so many rows.
+fn judged(alloc: Global, limit: u32, texts: &[&str]) -> Result<Option<Kind>, AllocError> {
+    let Ok(pattern) = Pattern::read("yyyy-MM-dd hh:mm:ss") else {
+        return Ok(None);
+    };
+    let mut sampler = KindSampler::new(alloc, 1, limit, pattern)?;
+    for text in texts {
+        let mut row = TextList::new(alloc);
+        row.push(Text::from_str(alloc, text)?)?;
+        sampler.add(&row)?;
+    }
+    Ok(sampler.kinds(alloc)?.get(0).copied())
+}
+
+#[test]
+fn kinds_are_judged_from_the_first_rows(rt: HostRuntime) -> Result<(), Fail> {
+    let cases: [(u32, &[&str], Kind); 15] = [
+        (10, &[], Kind::Any),
+        (0, &[], Kind::Any),
+        (0, &["1"], Kind::Text),
+        (10, &["", ""], Kind::Text),
+        (10, &["1", "-2", "+3", ""], Kind::Integer),
+        (10, &["", "1", "2.5"], Kind::Real),
+        (10, &[".5"], Kind::Real),
+        (10, &["2001-01-01 00:00:00"], Kind::Stamp),
+        (10, &["2001-01-01 00:00:00", "1"], Kind::Text),
+        (10, &["2001-02-30 00:00:00"], Kind::Text),
+        (10, &["1", "x"], Kind::Text),
+        (1, &["1", "x"], Kind::Integer),
+        (2, &["1", "x"], Kind::Text),
+        (2, &["", "", "5"], Kind::Text),
+        (10, &["9223372036854775808"], Kind::Text),
+    ];
+    for (limit, texts, want) in cases {
+        let kind = judged(rt.alloc(), limit, texts)?;
+        assert!(rt; kind == Some(want), "{limit} {:?}", texts);
+    }
+    Ok(())
+}
+
+#[test]
+fn each_column_has_its_kind(rt: HostRuntime) -> Result<(), Fail> {
+    let pattern = Pattern::read("yyyy").map_err(|_| "no pattern")?;
+    let mut sampler = KindSampler::new(rt.alloc(), 3, 10, pattern)?;
+    let mut row = TextList::new(rt.alloc());
+    row.push(Text::from_str(rt.alloc(), "x")?)?;
+    row.push(Text::from_str(rt.alloc(), "2001")?)?;
+    sampler.add(&row)?;
+    let kinds = sampler.kinds(rt.alloc())?;
+    assert!(rt; kinds.as_slice() == [Kind::Text, Kind::Integer, Kind::Text].as_slice());
     Ok(())
 }
