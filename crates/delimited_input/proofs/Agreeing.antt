@@ -52,7 +52,7 @@ first_shorter separator quotes (b ∷ bs) rest e =
 
 -- ---- a list that is one field and what the rest gives is the fields
 
-abbrev one_more : ℕ → Bool → (List ℕ → List (List ℕ)) → List ℕ → List (List ℕ)
+abbrev pub one_more : ℕ → Bool → (List ℕ → List (List ℕ)) → List ℕ → List (List ℕ)
 one_more separator quotes all xs = (first_field separator quotes xs).0 ∷ flat_map all (option_to_list (first_field separator quotes xs).1)
 
 module _ (separator : ℕ) (quotes : Bool) (P : List ℕ → Type 0) (all : List ℕ → List (List ℕ))
@@ -167,3 +167,13 @@ parts_are separator quotes line plain =
     (λ xs holds. plain_parts separator xs ∙ ap (as_parts separator) (sym (first_plain separator quotes xs holds)))
     (λ xs rest holds e quoted. plain_kept separator xs rest (holds quoted) (ap (λ (cut : Cut). cut.1) (sym (first_plain separator quotes xs holds)) ∙ e))
     (length line) line (omega arith) plain)
+
+-- ---- one field, and the fields behind it
+
+pub fields_step : (separator : ℕ) (xs : List ℕ) → fields_of separator true xs ≡ one_more separator true (fields_of separator true) xs
+fields_step separator xs =
+    sym (line_fields_are separator xs) ∙ (ap all_of (start_agrees separator xs) ∙ ap (λ (t : List (List ℕ)). (first_field separator true xs).0 ∷ t) (rest_same (first_field separator true xs).1))
+  where
+    rest_same : (r : Option (List ℕ)) → flat_map (line_fields separator true) (option_to_list r) ≡ flat_map (fields_of separator true) (option_to_list r)
+    rest_same None = refl
+    rest_same (Some rest) = ap (λ (t : List (List ℕ)). t ++ []) (line_fields_are separator rest)

@@ -10,3 +10,4 @@ pub mod First
 pub mod Carrying
 pub mod Sampling
 pub mod Telling
+pub mod Written

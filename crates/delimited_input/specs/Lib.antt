@@ -8,3 +8,4 @@ pub mod Separators
 pub mod Setting
 pub mod Kinds
 pub mod Sampled
+pub mod Values

@@ -6,6 +6,7 @@
 
 mod cut;
 mod header;
+mod laws;
 mod options;
 mod reader;
 mod row;
@@ -14,7 +15,10 @@ mod shape;
 mod tally;
 #[cfg(test)]
 mod tests;
+mod values;
 
+pub use laws::{separators_part_fields, written_fields_are_read};
 pub use options::{BadOption, DelimitedOptions};
 pub use reader::Delimited;
 pub use sampler::{KindList, KindSampler};
+pub use values::read_field;
