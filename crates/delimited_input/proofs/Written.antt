@@ -1,5 +1,5 @@
 -- What is written as CSV is read back.
-use Rattle.std.proofs.Common.{◌≡◌, ℕ, suc, zero, ◌<◌, Bool, true, false, ◌||◌, ◌&&◌, ◌==◌, List, [], ◌∷◌, ◌++◌, length, map, Option, Some, None, refl, sym, ap, ◌∙◌, inl, inr, arith}
+use Rattle.std.proofs.Common.{◌≡◌, ℕ, ◌<◌, Bool, true, false, ◌||◌, ◌&&◌, ◌==◌, List, [], ◌∷◌, ◌++◌, length, map, Option, Some, None, refl, sym, ap, ◌∙◌, inl, inr, arith}
 use Rattle.std.specs.List.{flat_map, list_any, join_with_byte}
 use Rattle.std.specs.Option.{option_to_list}
 use Rattle.std.proofs.Common.{append_assoc}
@@ -80,6 +80,14 @@ first_read only field rest =
     left_of true b e = absurd cc
     left_of false b e = refl
 
+first_none : (only : Bool) (field : List ℕ) → first_field 44 true (csv_field only field ++ []) ≡ (field, None)
+unfolding behind
+first_none only field = first_read only field None
+
+first_some : (only : Bool) (field rest : List ℕ) → first_field 44 true (csv_field only field ++ 44 ∷ rest) ≡ (field, Some rest)
+unfolding behind
+first_some only field rest = first_read only field (Some rest)
+
 -- the fields that were written
 pub read_back : (only : Bool) (fields : List (List ℕ)) → 0 < length fields → fields_of 44 true (join_with_byte 44 (map (csv_field only) fields)) ≡ fields
 read_back only [] some = absurd (omega arith)
@@ -87,16 +95,8 @@ read_back only (field ∷ []) some =
     let text : List ℕ = csv_field only field in
     let whole : first_field 44 true text ≡ (field, None) = ap (first_field 44 true) (sym (append-nil text)) ∙ first_none only field in
     fields_step 44 text ∙ ap (λ (cut : Cut). cut.0 ∷ flat_map (fields_of 44 true) (option_to_list cut.1)) whole
-  where
-    first_none : (only : Bool) (field : List ℕ) → first_field 44 true (csv_field only field ++ []) ≡ (field, None)
-    unfolding behind
-    first_none only field = first_read only field None
 read_back only (field ∷ next ∷ fields) some =
     let more : List ℕ = join_with_byte 44 (map (csv_field only) (next ∷ fields)) in
     fields_step 44 (csv_field only field ++ 44 ∷ more)
     ∙ (ap (λ (cut : Cut). cut.0 ∷ flat_map (fields_of 44 true) (option_to_list cut.1)) (first_some only field more)
     ∙ ap (λ (t : List (List ℕ)). field ∷ t) (append-nil (fields_of 44 true more) ∙ read_back only (next ∷ fields) (omega arith)))
-  where
-    first_some : (only : Bool) (field rest : List ℕ) → first_field 44 true (csv_field only field ++ 44 ∷ rest) ≡ (field, Some rest)
-    unfolding behind
-    first_some only field rest = first_read only field (Some rest)
