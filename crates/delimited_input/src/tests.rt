@@ -1,7 +1,7 @@
 use super::*;
 use line_input::{Fields, LineReader, Standing, Taken};
 use lp_time::Pattern;
-use lp_values::{Bytes, Kind, Text, TextList};
+use lp_values::{Bytes, Kind, Text, TextList, print};
 use std::alloc::{AllocError, Global};
 use std::test::Fail;
 
@@ -257,5 +257,33 @@ fn each_column_has_its_kind(rt: HostRuntime) -> Result<(), Fail> {
     sampler.add(&row)?;
     let kinds = sampler.kinds(rt.alloc())?;
     assert!(rt; kinds.as_slice() == [Kind::Text, Kind::Integer, Kind::Text].as_slice());
+    Ok(())
+}
+
+// A field's value as it is printed.
+fn shown(alloc: Global, kind: Kind, pattern: &Pattern, bytes: &[u8]) -> Result<Bytes, AllocError> {
+    let value = read_field(alloc, kind, pattern, Some(bytes))?;
+    let mut to = Bytes::new(alloc);
+    print(&value, &mut to)?;
+    Ok(to)
+}
+
+#[test]
+fn fields_have_values_of_their_kind(rt: HostRuntime) -> Result<(), Fail> {
+    let pattern = Pattern::read("yyyy").map_err(|_| "no pattern")?;
+    let cases: [(Kind, &[u8], &[u8]); 8] = [
+        (Kind::Integer, b"7", b"7"),
+        (Kind::Integer, b"x", b""),
+        (Kind::Real, b"7", b"7.000000"),
+        (Kind::Real, b"1.5", b"1.500000"),
+        (Kind::Real, b"9223372036855", b""),
+        (Kind::Text, b"a", b"a"),
+        (Kind::Stamp, b"2001", b"2001-01-01"),
+        (Kind::Any, b"7", b""),
+    ];
+    for (kind, bytes, want) in cases {
+        let shown = shown(rt.alloc(), kind, &pattern, bytes)?;
+        assert!(rt; shown.as_slice() == want, "{:?}", bytes);
+    }
     Ok(())
 }
