@@ -24,7 +24,7 @@ fn slot_at(alloc: Global, line: &[u8], extent: Extent) -> Result<Slot, AllocErro
 fn fields_at(alloc: Global, line: &[u8], extents: &Extents) -> Result<Fields, AllocError>
     ensures { IfOk result (λ fields. bytes_of line.now fields ≡ map (λ extent. option_and_then field_of (extent_field line.now extent)) extents.now) }
 {
-    let mut fields = Fields::new(alloc);
+    let mut fields = Fields::with_capacity(alloc, extents.len())?;
     for extent in extents {
         fields.push(slot_at(alloc, line, *extent)?)?;
     }
