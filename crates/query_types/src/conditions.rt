@@ -5,6 +5,7 @@ ghost use Rattle.grammar.specs.Trees.{trees_of as listed};
 ghost use Rattle.query_tree.specs.Views.{tree_of, trees_of, test_of, number_of};
 ghost use Rattle.query_types.specs.Meanings.{Answers};
 ghost use Rattle.query_types.specs.Meanings.{fits as kinds_fit};
+ghost use Rattle.query_types.specs.Boxed.{boxed_filter};
 ghost use Rattle.query_types.specs.Conditions.{either, both, opposite, filter_of, fitting, all_fitting, filtered};
 
 use crate::alias::Alias;
@@ -64,6 +65,7 @@ fn all_fitting(
 }
 
 // A comparison of two sides.
+#[inline(never)]
 fn compared(
     alloc: Global,
     table: &TableColumns,
@@ -71,15 +73,31 @@ fn compared(
     how: Compare,
     left: &Expr,
     right: &Expr,
-) -> Result<Condition, TypeFault>
-    ensures { Answers filter_of result (filtered table.now aliases.now (test.Compare 0 (number_of how) (tree_of left.now) (tree_of right.now))) }
+) -> Result<Box<Condition>, TypeFault>
+    ensures { Answers boxed_filter result (filtered table.now aliases.now (test.Compare 0 (number_of how) (tree_of left.now) (tree_of right.now))) }
 {
     let left = meant(alloc, table, aliases, left)?;
     let right = fitting(alloc, table, aliases, left.kind(table), right)?;
-    Ok(Condition::Compare { how, left, right })
+    Ok(Box::new(alloc, Condition::Compare { how, left, right })?)
+}
+
+// A test for NULL.
+#[inline(never)]
+fn null(
+    alloc: Global,
+    table: &TableColumns,
+    aliases: &[Alias],
+    value: &Expr,
+    negated: bool,
+) -> Result<Box<Condition>, TypeFault>
+    ensures { Answers boxed_filter result (filtered table.now aliases.now (test.IsNull 0 (tree_of value.now) negated)) }
+{
+    let value = meant(alloc, table, aliases, value)?;
+    Ok(Box::new(alloc, Condition::IsNull { value, negated })?)
 }
 
 // A test between two values.
+#[inline(never)]
 fn between(
     alloc: Global,
     table: &TableColumns,
@@ -88,22 +106,24 @@ fn between(
     low: &Expr,
     high: &Expr,
     negated: bool,
-) -> Result<Condition, TypeFault>
-    ensures { Answers filter_of result (filtered table.now aliases.now (test.Between 0 (tree_of value.now) (tree_of low.now) (tree_of high.now) negated)) }
+) -> Result<Box<Condition>, TypeFault>
+    ensures { Answers boxed_filter result (filtered table.now aliases.now (test.Between 0 (tree_of value.now) (tree_of low.now) (tree_of high.now) negated)) }
 {
     let value = meant(alloc, table, aliases, value)?;
     let kind = value.kind(table);
     let low = fitting(alloc, table, aliases, kind, low)?;
     let high = fitting(alloc, table, aliases, kind, high)?;
-    Ok(Condition::Between {
+    let condition = Condition::Between {
         value,
         low,
         high,
         negated,
-    })
+    };
+    Ok(Box::new(alloc, condition)?)
 }
 
 // A test among values.
+#[inline(never)]
 fn within(
     alloc: Global,
     table: &TableColumns,
@@ -111,66 +131,73 @@ fn within(
     value: &Expr,
     items: &ExprList,
     negated: bool,
-) -> Result<Condition, TypeFault>
-    ensures { Answers filter_of result (filtered table.now aliases.now (test.InList 0 (tree_of value.now) (listed (trees_of items.now)) negated)) }
+) -> Result<Box<Condition>, TypeFault>
+    ensures { Answers boxed_filter result (filtered table.now aliases.now (test.InList 0 (tree_of value.now) (listed (trees_of items.now)) negated)) }
 {
     let value = meant(alloc, table, aliases, value)?;
     let items = all_fitting(alloc, table, aliases, value.kind(table), items)?;
-    Ok(Condition::Within {
+    let condition = Condition::Within {
         value,
         items,
         negated,
-    })
+    };
+    Ok(Box::new(alloc, condition)?)
 }
 
 // The first or the second.
-fn or(alloc: Global, left: Condition, right: Condition) -> Result<Condition, AllocError>
-    ensures { IfOk result (λ condition. filter_of condition ≡ either (filter_of left) (filter_of right)) }
+#[inline(never)]
+fn or(
+    alloc: Global,
+    left: Box<Condition>,
+    right: Box<Condition>,
+) -> Result<Box<Condition>, AllocError>
+    ensures { IfOk result (λ condition. boxed_filter condition ≡ either (boxed_filter left) (boxed_filter right)) }
 {
-    let left = Box::new(alloc, left)?;
-    let right = Box::new(alloc, right)?;
-    Ok(Condition::Or(left, right))
+    Ok(Box::new(alloc, Condition::Or(left, right))?)
 }
 
 // The first and the second.
-fn and(alloc: Global, left: Condition, right: Condition) -> Result<Condition, AllocError>
-    ensures { IfOk result (λ condition. filter_of condition ≡ both (filter_of left) (filter_of right)) }
+#[inline(never)]
+fn and(
+    alloc: Global,
+    left: Box<Condition>,
+    right: Box<Condition>,
+) -> Result<Box<Condition>, AllocError>
+    ensures { IfOk result (λ condition. boxed_filter condition ≡ both (boxed_filter left) (boxed_filter right)) }
 {
-    let left = Box::new(alloc, left)?;
-    let right = Box::new(alloc, right)?;
-    Ok(Condition::And(left, right))
+    Ok(Box::new(alloc, Condition::And(left, right))?)
 }
 
 // Not the condition.
-fn not(alloc: Global, inner: Condition) -> Result<Condition, AllocError>
-    ensures { IfOk result (λ condition. filter_of condition ≡ opposite (filter_of inner)) }
+#[inline(never)]
+fn not(alloc: Global, inner: Box<Condition>) -> Result<Box<Condition>, AllocError>
+    ensures { IfOk result (λ condition. boxed_filter condition ≡ opposite (boxed_filter inner)) }
 {
-    let inner = Box::new(alloc, inner)?;
-    Ok(Condition::Not(inner))
+    Ok(Box::new(alloc, Condition::Not(inner))?)
 }
 
-/// What a condition means, or its first fault from the left.
-pub fn filtered(
+// What a condition means, in a box: a level of a long chain of OR costs little stack.
+fn boxed(
     alloc: Global,
     table: &TableColumns,
     aliases: &[Alias],
     test: &Cond,
-) -> Result<Condition, TypeFault>
-    ensures { Answers filter_of result (filtered table.now aliases.now (test_of test.now)) }
+) -> Result<Box<Condition>, TypeFault>
+    ensures { Answers boxed_filter result (filtered table.now aliases.now (test_of test.now)) }
 {
     match test {
         Cond::Or { at: _, left, right } => {
-            let left = filtered(alloc, table, aliases, left)?;
-            let right = filtered(alloc, table, aliases, right)?;
+            let left = boxed(alloc, table, aliases, left)?;
+            let right = boxed(alloc, table, aliases, right)?;
             Ok(or(alloc, left, right)?)
         }
         Cond::And { at: _, left, right } => {
-            let left = filtered(alloc, table, aliases, left)?;
-            let right = filtered(alloc, table, aliases, right)?;
+            let left = boxed(alloc, table, aliases, left)?;
+            let right = boxed(alloc, table, aliases, right)?;
             Ok(and(alloc, left, right)?)
         }
         Cond::Not { at: _, inner } => {
-            let inner = filtered(alloc, table, aliases, inner)?;
+            let inner = boxed(alloc, table, aliases, inner)?;
             Ok(not(alloc, inner)?)
         }
         Cond::Compare {
@@ -183,13 +210,7 @@ pub fn filtered(
             at: _,
             value,
             negated,
-        } => {
-            let value = meant(alloc, table, aliases, value)?;
-            Ok(Condition::IsNull {
-                value,
-                negated: *negated,
-            })
-        }
+        } => null(alloc, table, aliases, value, *negated),
         Cond::Between {
             at: _,
             value,
@@ -206,4 +227,17 @@ pub fn filtered(
         Cond::Like { at, .. } => Err(TypeFault::UnknownFunction { at: *at }),
         Cond::InQuery { at, .. } => Err(TypeFault::UnknownFunction { at: *at }),
     }
+}
+
+/// What a condition means, or its first fault from the left.
+pub fn filtered(
+    alloc: Global,
+    table: &TableColumns,
+    aliases: &[Alias],
+    test: &Cond,
+) -> Result<Condition, TypeFault>
+    ensures { Answers filter_of result (filtered table.now aliases.now (test_of test.now)) }
+{
+    let condition = boxed(alloc, table, aliases, test)?;
+    Ok(Box::into_inner(condition))
 }
