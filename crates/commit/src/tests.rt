@@ -406,60 +406,6 @@ fn a_settling_that_stops(rt: HostRuntime) -> Result<(), Fail> {
     Ok(())
 }
 
-// The second run stops at the write of its gate. With the gate's byte it is done, and with any other it wasn't.
-#[test]
-fn a_stop_at_the_gate(rt: HostRuntime) -> Result<(), Fail> {
-    let (names, output) = (two_names()?, named("o.csv")?);
-    let entry = entry_of(rt.alloc(), 3, 5, 2, &SECOND)?;
-    for torn in TORN {
-        let mut disk = after_one(rt.alloc())?;
-        let place = settle_disk(&mut disk, &names.ledger, &names.stage)?;
-        start(&mut disk, &names.stage)?;
-        put_all(&mut disk, &names.stage, &SECOND)?;
-        seal(&mut disk, &names.ledger, &names.stage, place, &entry)?;
-        disk.stop_after(0);
-        assert!(rt; open_gate(&mut disk, &names.ledger, place).is_err());
-        disk.crash(&torn_list(rt.alloc(), torn)?)?;
-        settle_disk(&mut disk, &names.ledger, &names.stage)?;
-        let opened = torn == Torn::Kept || torn == Torn::Filled(0xA5);
-        assert_eq!(rt; walk(&mut disk, &names.ledger)?.entries == 2, opened);
-        if !opened {
-            assert_eq!(rt; disk.bytes(&output), b"Index,Text\n1,a\n".as_slice());
-            run(&mut disk, &names, &SECOND, &entry)?;
-        }
-        assert_eq!(rt; disk.bytes(&output), b"Index,Text\n1,a\n2,b\n".as_slice());
-    }
-    Ok(())
-}
-
-// A run with three outputs stops in the write of the second one, behind the gate, and the next settling at each of its calls
-// in turn, the first sync of an output among them. Then nothing is left to do.
-#[test]
-fn a_stop_among_the_outputs(rt: HostRuntime) -> Result<(), Fail> {
-    let (names, second, third) = (two_names()?, named("out_b.csv")?, named("out_c.csv")?);
-    let entry = entry_of(rt.alloc(), 0, 3, 1, &THREE)?;
-    for torn in TORN {
-        for call in 0..32 {
-            let mut disk = MemoryDisk::new(rt.alloc());
-            disk.stop_after(31);
-            assert!(rt; run(&mut disk, &names, &THREE, &entry).is_err());
-            assert_eq!(rt; disk.bytes(&second), THREE[1].text);
-            assert_eq!(rt; disk.bytes(&third).len(), 0);
-            disk.crash(&torn_list(rt.alloc(), torn)?)?;
-            disk.stop_after(call);
-            let stopped = settle_disk(&mut disk, &names.ledger, &names.stage).is_err();
-            assert!(rt; call < 31 || !stopped);
-            disk.crash(&torn_list(rt.alloc(), torn)?)?;
-            settle_disk(&mut disk, &names.ledger, &names.stage)?;
-            assert_eq!(rt; walk(&mut disk, &names.ledger)?.entries, 1);
-            for output in THREE {
-                assert_eq!(rt; disk.bytes(&named(output.name)?), output.text);
-            }
-        }
-    }
-    Ok(())
-}
-
 // A list with a value of each kind, and a text that is longer than what waits for others.
 fn many_values(alloc: Global) -> Result<ValueList, Fail> {
     let mut long = String::new(alloc);
