@@ -9,7 +9,6 @@ use lp_values::Compare;
 use std::alloc::{AllocError, Global};
 
 /// A condition; `at` is the place of its first token, its own outer parentheses included.
-#[derive(Drop)]
 pub enum Cond {
     Or {
         at: u32,
@@ -62,6 +61,61 @@ pub enum Cond {
         subquery: usize,
         negated: bool,
     },
+}
+
+// A chain of OR or AND may be long, and goes by a loop down its left side.
+impl Drop for Cond {
+    fn drop(mut self) {
+        loop {
+            match self {
+                Cond::Or { at: _, left, right } => {
+                    drop(right);
+                    self = Box::into_inner(left);
+                }
+                Cond::And { at: _, left, right } => {
+                    drop(right);
+                    self = Box::into_inner(left);
+                }
+                Cond::Not { at: _, inner } => self = Box::into_inner(inner),
+                Cond::Compare {
+                    at: _,
+                    how: _,
+                    left: _,
+                    right: _,
+                } => return,
+                Cond::IsNull {
+                    at: _,
+                    value: _,
+                    negated: _,
+                } => return,
+                Cond::Like {
+                    at: _,
+                    value: _,
+                    pattern: _,
+                    negated: _,
+                } => return,
+                Cond::Between {
+                    at: _,
+                    value: _,
+                    low: _,
+                    high: _,
+                    negated: _,
+                } => return,
+                Cond::InList {
+                    at: _,
+                    value: _,
+                    items: _,
+                    negated: _,
+                } => return,
+                Cond::InQuery {
+                    at: _,
+                    value: _,
+                    subquery: _,
+                    negated: _,
+                } => return,
+            }
+        }
+    }
 }
 
 impl Cond {
