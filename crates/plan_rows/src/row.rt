@@ -55,6 +55,13 @@ fn number_value(used: bool, number: u64) -> Value
     }
 }
 
+// Whether a column is used; asked for each column of each record, so it stands here, where a call costs nothing.
+fn is_used(used: &[bool], column: usize) -> bool
+    ensures { result ≡ get_or used.now column false }
+{
+    used.get(column).copied().unwrap_or(false)
+}
+
 // Adds the values of the fields that are used.
 fn add_fields(
     alloc: Global,
@@ -66,9 +73,10 @@ fn add_fields(
 ) -> Result<(), AllocError>
     ensures { OnOk result (values.new ≡ values.old ++ masked plan.now.used (fields_read readings.now (slots_of line.now fields.now) 0) 2) }
 {
+    let columns = plan.used.as_slice();
     let mut index = 0;
     for reading in readings.as_slice() {
-        let used = plan.uses(index + 2);
+        let used = is_used(columns, index + 2);
         let value = field_value(alloc, used, reading, line, fields.get(index))?;
         values.push(value)?;
         index += 1;

@@ -16,7 +16,7 @@ loop-reading-preserved c =
     let reading = c.reading-item.result in
     let same = c.loop-reading.invariant.index in
     let value_is = c.in_ok-value.ensures
-    ∙ ap (λ b. if_used b (value_of reading (held (option_map (slot_bytes line) (option_copied c.get.result))))) (c.uses-used.ensures ∙ ap (λ n. get_or used (n + 2) false) same)
+    ∙ ap (λ b. if_used b (value_of reading (held (option_map (slot_bytes line) (option_copied c.get.result))))) (c.is_used-used.ensures ∙ ap (λ n. get_or used (n + 2) false) same)
     ∙ ap (λ o. if_used (get_or used (i + 2) false) (value_of reading (held (option_map (slot_bytes line) o)))) (c.get.ensures ∙ ap (slice_get fields) same)
     ∙ ap (λ s. if_used (get_or used (i + 2) false) (value_of reading s)) (sym (field_at line fields i)) in
     record {
