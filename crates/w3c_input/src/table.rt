@@ -89,7 +89,8 @@ fn is_at(name: &str, place: usize) -> bool
 /// The place of the next name of a log. Most logs name their fields in the order in which IIS writes them, so the search goes on
 /// where the last one ended, and a log's names take one walk along the table.
 pub(crate) fn next_place(name: &str, walked: &mut usize) -> Option<usize>
-    ensures { result ≡ place_of name.now }
+    ensures place { result ≡ place_of name.now }
+    ensures within { IfSome result (λ place. place < 22) }
 {
     for ahead in *walked..LOGGED {
         let place = WRITTEN[ahead];
