@@ -16,7 +16,10 @@ count_of text part = if length part == 0 then 0 else length (pieces part text) -
 abbrev pub replaced : List ℕ → List ℕ → List ℕ → List ℕ
 replaced text part by = if length part == 0 then text else joined by (pieces part text)
 
+-- a character, or what stands in place of it where it is one of some
+abbrev pub replaced_character : List ℕ → List ℕ → ℕ → List ℕ
+replaced_character some by c = if list_any (λ d. d == c) (chars some) then by else encode_utf8 c
+
 -- each character that is one of some replaced
 abbrev pub replaced_characters : List ℕ → List ℕ → List ℕ → List ℕ
-replaced_characters text some by =
-    flat_map (λ c. if list_any (λ d. d == c) (chars some) then by else encode_utf8 c) (chars text)
+replaced_characters text some by = flat_map (replaced_character some by) (chars text)

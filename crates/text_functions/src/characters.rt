@@ -1,11 +1,12 @@
 // A text as characters.
-ghost use Rattle.std.specs.Prelude.{◌≡◌, ◌<◌, ◌∷◌, ℕ, MatchOption, length, take, drop, ℤ};
-ghost use Rattle.std.specs.Str.{chars, encode_utf8_all};
+ghost use Rattle.std.specs.Prelude.{◌≡◌, ◌==◌, ◌<◌, ◌∷◌, MatchOption, length, take, drop};
+ghost use Rattle.std.specs.List.{list_any};
+ghost use Rattle.std.specs.Str.{chars, encode_utf8_all, IsUtf8};
 ghost use Rattle.text_functions.specs.Positions.{natural};
 
 /// The first character, and what stands behind it.
 pub(crate) fn first_character(text: &str) -> Option<(char, &str)>
-    ensures { MatchOption result (length text.now ≡ 0) (λ x. (chars text.now ≡ x.0 ∷ chars x.1.now) × (length x.1.now < length text.now)) }
+    ensures { MatchOption result (length text.now ≡ 0) (λ x. (chars text.now ≡ x.0 ∷ chars x.1.now) × (length x.1.now < length text.now) × IsUtf8 x.1.now) }
 {
     let mut left = text.chars();
     match left.next() {
@@ -42,6 +43,19 @@ pub(crate) fn size(text: &str) -> usize
     ensures { result ≡ length (chars text.now) }
 {
     text.chars().count()
+}
+
+pub(crate) fn has_character(text: &str, wanted: char) -> bool
+    ensures { result ≡ list_any (λ c. c == wanted) (chars text.now) }
+{
+    let mut rest = text;
+    while let Some((first, next)) = first_character(rest) {
+        if first == wanted {
+            return true;
+        }
+        rest = next;
+    }
+    false
 }
 
 pub(crate) fn natural(number: i64) -> Option<usize>

@@ -1,0 +1,7 @@
+mod CharacterLemmas
+mod Cutting
+mod PieceLemmas
+mod PlaceLemmas
+mod PrefixLemmas
+mod TokenLemmas
+mod ValueLemmas

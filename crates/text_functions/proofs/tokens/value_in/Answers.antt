@@ -1,0 +1,10 @@
+use Rattle.std.proofs.Common.{arith}
+use Rattle.std.proofs.lemmas.Str.Pattern.{strip_prefix_char}
+use Rattle.text_functions.proofs.ValueLemmas.{value_lacks, value_behind}
+use Rattle.text_functions.proofs.tokens.value_in.Goals as goal
+
+pub returns-in-Some : goal.returns-in-Some
+returns-in-Some c = let a = c.in-Some.ensures in let b = c.strip_prefix-in-Some in ?
+
+pub returns-in-None : goal.returns-in-None
+returns-in-None c = value_lacks c.args.name.now c.args.token.now c.in-None.ensures.cases
