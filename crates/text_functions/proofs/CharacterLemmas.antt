@@ -3,7 +3,7 @@ use Rattle.std.specs.Char.{encode_utf8, len_utf8}
 use Rattle.std.specs.Str.{chars, encode_utf8_all, IsUtf8, IsCharBoundary}
 use Rattle.std.proofs.Common.{◌≡◌, ℕ, zero, suc, ◌+◌, ◌-◌, ◌<◌, ◌≤◌, List, [], ◌∷◌, ◌++◌, length, take, drop, refl, sym, ap, subst, ◌∙◌, arith}
 use Rattle.std.proofs.lemmas.List.{length-append, take-append-drop, take_at, nil_from_length}
-use Rattle.std.proofs.lemmas.Str.{chars_past_char, length-encode, len_utf8_bounds, encodes-chars, scalars-chars, chars-nil, encodes-append, IsCharBoundary-at_seam}
+use Rattle.std.proofs.lemmas.Str.{chars_past_char, length-encode, len_utf8_bounds, encodes-chars, encodes_same, chars-nil, encodes-append, IsCharBoundary-at_seam}
 
 pub first_of : (text rest : List ℕ) (c : ℕ) → IsUtf8 text → text ≡ encode_utf8 c ++ rest → (chars text ≡ c ∷ chars rest) × (length rest < length text)
 first_of text rest c utf8 e =
@@ -34,3 +34,9 @@ front_of text behind n size utf8 other e is =
     (subst (IsCharBoundary text) same (IsCharBoundary-at_seam text (encode_utf8_all (take n (chars text))) behind whole other),
      ap (take size) whole ∙ take_at (encode_utf8_all (take n (chars text))) behind size same,
      omega arith)
+
+-- a part of a text by positions
+pub part_of : (text rest part : List ℕ) (n m : ℕ) → IsUtf8 rest → rest ≡ encode_utf8_all (drop n (chars text)) → part ≡ encode_utf8_all (take m (chars rest)) → part ≡ encode_utf8_all (take m (drop n (chars text)))
+part_of text rest part n m utf8 e is =
+    let same : chars rest ≡ drop n (chars text) = encodes_same (chars rest) (drop n (chars text)) (encodes-chars rest utf8 ∙ e) in
+    is ∙ ap (λ (cs : List ℕ). encode_utf8_all (take m cs)) same

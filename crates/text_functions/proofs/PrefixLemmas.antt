@@ -1,7 +1,10 @@
 -- What stands before an occurrence, occurrence by occurrence.
 use Rattle.std.proofs.Common.{◌≡◌, ℕ, zero, suc, ◌+◌, ◌-◌, ◌<◌, ◌≤◌, List, [], ◌∷◌, ◌++◌, length, take, drop, reverse, refl, sym, ap, subst, ◌∙◌, arith}
-use Rattle.std.proofs.lemmas.List.{append_assoc, length-append, take_at, reverse-append, length-reverse, reverse-reverse, take_all, append-nil}
-use Rattle.text_functions.specs.Pieces.{pieces, joined, Lacks, IsCutAtFirst}
+use Rattle.std.proofs.lemmas.List.{append_assoc, length-append, take_at, drop_at, reverse-append, length-reverse, reverse-reverse, take_all}
+use Rattle.std.specs.Str.{IsUtf8, IsCharBoundary}
+use Rattle.std.proofs.lemmas.Str.{IsCharBoundary-at_seam, IsCharBoundary-from_take, IsUtf8-append}
+use Rattle.text_functions.proofs.Cutting.{mirrored, mirrored_lacks}
+use Rattle.text_functions.specs.Pieces.{pieces, joined, Lacks, IsCutAtFirst, IsCutAtLast}
 use Rattle.text_functions.proofs.PieceLemmas.{pieces-cut, pieces-lacks, pieces-some, joined-more, joined-one}
 
 -- what stands before the occurrence of a number
@@ -66,3 +69,37 @@ behind_here part text index rest left first behind is some cut none =
 pub behind_none : (part text : List ℕ) (index : ℕ) (rest : List ℕ) (left : ℕ) → IsBehind part text index rest left → Lacks part rest → before part text index ≡ text
 behind_none part text index rest left is none =
     is.answer ∙ (ap (λ (xs : List ℕ). is.passed ++ xs) (before_all part rest left none) ∙ sym is.whole)
+
+-- the text up to the occurrence
+pub prefix_cut : (part text : List ℕ) (index : ℕ) (rest : List ℕ) (left : ℕ) (first behind : List ℕ) (size : ℕ) → IsBehind part text index rest left → 0 < length part → IsCutAtFirst part rest first behind → left ≡ 0
+    → IsUtf8 part → IsUtf8 behind → size ≡ length text - length rest + length first → IsCharBoundary text size × (take size text ≡ before part text index)
+prefix_cut part text index rest left first behind size is some cut none part-utf8 utf8 e =
+    let here = behind_here part text index rest left first behind is some cut none in
+    let whole : length text ≡ length is.passed + length rest = ap length is.whole ∙ length-append is.passed rest in
+    let front : length (is.passed ++ first) ≡ length is.passed + length first = length-append is.passed first in
+    let same : length (is.passed ++ first) ≡ size = omega arith in
+    (subst (IsCharBoundary text) same (IsCharBoundary-at_seam text (is.passed ++ first) (part ++ behind) here.1 (IsUtf8-append part behind part-utf8 utf8)),
+     ap (take size) here.1 ∙ (take_at (is.passed ++ first) (part ++ behind) size same ∙ sym here.0))
+
+-- the rest is a part of the text
+pub rest_fits : (part text : List ℕ) (index : ℕ) (rest : List ℕ) (left : ℕ) → IsBehind part text index rest left → length rest ≤ length text
+rest_fits part text index rest left is =
+    let whole : length text ≡ length is.passed + length rest = ap length is.whole ∙ length-append is.passed rest in omega arith
+
+-- the text behind the occurrence, where it was read backwards
+pub suffix_cut : (part text : List ℕ) (index : ℕ) (rest : List ℕ) (left : ℕ) (first behind : List ℕ) (place : ℕ) → IsBehind (reverse part) (reverse text) index (reverse rest) left → 0 < length part → IsCutAtLast part rest first behind → left ≡ 0
+    → IsUtf8 text → IsUtf8 part → IsUtf8 first → place ≡ length rest - length behind → IsCharBoundary text place × (drop place text ≡ reverse (before (reverse part) (reverse text) index))
+suffix_cut part text index rest left first behind place is some cut none utf8 part-utf8 first-utf8 e =
+    let turned : length (reverse part) ≡ length part = length-reverse part in
+    let here = behind_here (reverse part) (reverse text) index (reverse rest) left (reverse behind) (reverse first) is (omega arith) (mirrored part rest first behind cut) none in
+    let tail : List ℕ = reverse (is.passed ++ reverse behind) in
+    let whole : text ≡ (first ++ part) ++ tail =
+        sym (reverse-reverse text) ∙ (ap reverse here.1 ∙ (reverse-append (is.passed ++ reverse behind) (reverse part ++ reverse first)
+        ∙ ap (λ (xs : List ℕ). xs ++ tail) (reverse-append (reverse part) (reverse first) ∙ (ap (λ (xs : List ℕ). xs ++ reverse (reverse part)) (reverse-reverse first) ∙ ap (λ (xs : List ℕ). first ++ xs) (reverse-reverse part))))) in
+    let sizes : length rest ≡ length first + (length part + length behind) = ap length cut.whole ∙ (length-append first (part ++ behind) ∙ ap (λ (n : ℕ). length first + n) (length-append part behind)) in
+    let front : length (first ++ part) ≡ length first + length part = length-append first part in
+    let same : length (first ++ part) ≡ place = omega arith in
+    let all : length text ≡ length (first ++ part) + length tail = ap length whole ∙ length-append (first ++ part) tail in
+    let taken : take place text ≡ first ++ part = ap (take place) whole ∙ take_at (first ++ part) tail place same in
+    (IsCharBoundary-from_take text place utf8 (omega arith) (subst IsUtf8 (sym taken) (IsUtf8-append first part first-utf8 part-utf8)),
+     ap (drop place) whole ∙ (drop_at (first ++ part) tail place same ∙ ap reverse (sym here.0)))

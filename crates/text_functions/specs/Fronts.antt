@@ -1,7 +1,7 @@
 -- What the first characters of a pattern, up to its first `%`, say of a text.
 use Rattle.std.specs.Prelude.{◌<◌, ◌≤◌, ◌↔◌, ℕ, IsTrue, List, ◌∷◌, length}
 use Rattle.std.specs.Bool.{⊤}
-use Rattle.std.specs.Str.{chars}
+use Rattle.std.specs.Str.{chars, IsUtf8}
 use Rattle.text_functions.specs.Likes.{Likes}
 use Rattle.text_functions.specs.declared.likeness.Front.{Front}
 use Rattle.text_functions.specs.declared.likeness.Front.TheVariants.{Whole, Percent}
@@ -17,3 +17,8 @@ IsFront pattern text (Percent rest behind) =
 abbrev pub IsShorter : List ℕ → List ℕ → Front → Type 0
 IsShorter pattern text (Whole is_like) = ⊤
 IsShorter pattern text (Percent rest behind) = (length behind.now < length pattern) × (length rest.now ≤ length text)
+
+-- what is left is UTF-8
+abbrev pub IsText : Front → Type 0
+IsText (Whole is_like) = ⊤
+IsText (Percent rest behind) = IsUtf8 rest.now × IsUtf8 behind.now

@@ -1,8 +1,8 @@
 // Whether a text is like a pattern.
-ghost use Rattle.std.specs.Prelude.{◌≡◌, ◌↔◌, IsTrue, MatchBool, ◌++◌, ◌∷◌, List, ℕ};
+ghost use Rattle.std.specs.Prelude.{◌≡◌, ◌↔◌, IsTrue, ◌∷◌};
 ghost use Rattle.std.specs.Str.{chars};
 ghost use Rattle.text_functions.specs.Likes.{Likes, stands_for};
-ghost use Rattle.text_functions.specs.Fronts.{IsFront, IsShorter};
+ghost use Rattle.text_functions.specs.Fronts.{IsFront, IsShorter, IsText};
 
 use crate::characters::first_character;
 
@@ -29,6 +29,7 @@ enum Front<'t, 'p> {
 fn match_front<'t, 'p>(text: &'t str, pattern: &'p str) -> Front<'t, 'p>
     ensures meaning { IsFront (chars pattern.now) (chars text.now) result }
     ensures shorter { IsShorter pattern.now text.now result }
+    ensures utf8 { IsText result }
 {
     let mut rest = text;
     let mut left = pattern;
