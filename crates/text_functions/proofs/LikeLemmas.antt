@@ -2,7 +2,7 @@
 use Rattle.std.specs.Bool.{MatchBool, IsTrue}
 use Rattle.std.specs.Str.{chars, IsUtf8, encode_utf8_all}
 use Rattle.std.proofs.Common.{◌≡◌, ◌↔◌, ℕ, ◌==◌, ◌<◌, Bool, true, false, List, [], ◌∷◌, ◌++◌, length, refl, sym, ap, subst, ◌∙◌, arith}
-use Rattle.std.proofs.lemmas.Bool.{MatchBool-at_false, false≢true}
+use Rattle.std.proofs.lemmas.Bool.{MatchBool-at_false, false≢true, false_from_ne_true, eqb-true, eq-eqb}
 use Rattle.std.proofs.lemmas.List.{append_assoc}
 use Rattle.std.proofs.lemmas.Str.{encodes-chars}
 use Rattle.text_functions.specs.Likes.{Likes, stands_for}
@@ -114,3 +114,47 @@ pattern_end pattern text utf8 none = (
   λ h. ap length (sym (encodes-chars text utf8) ∙ ap encode_utf8_all (as_end (chars text) (subst (λ (ps : List ℕ). Likes ps (chars text)) (no_characters pattern none) h))),
   λ e. subst (λ (ps : List ℕ). Likes ps (chars text)) (sym (no_characters pattern none)) (from_end (chars text) (no_characters text e)),
 )
+
+not_percent : (p : ℕ) → (p ≡ 37 → ⊥) → (p == 37) ≡ false
+not_percent p other = false_from_ne_true (p == 37) (λ is. other (eqb-true p 37 is))
+
+-- the front of a pattern meets its first `%`
+pub at_percent : (P T left rest : List ℕ) (p : ℕ) (behind : List ℕ) → (Likes P T ↔ Likes left rest) → (Likes (37 ∷ P) T → Likes (37 ∷ left) rest) → left ≡ p ∷ behind → p ≡ 37
+    → (Likes P T ↔ Likes (37 ∷ behind) rest) × (Likes (37 ∷ P) T ↔ Likes (37 ∷ behind) rest)
+at_percent P T left rest p behind same later e is =
+    let whole : left ≡ 37 ∷ behind = e ∙ ap (λ (n : ℕ). n ∷ behind) is in
+    let first : Likes P T → Likes (37 ∷ behind) rest = λ h. subst (λ (ps : List ℕ). Likes ps rest) whole (same.0 h) in
+    let back : Likes (37 ∷ behind) rest → Likes P T = λ h. same.1 (subst (λ (ps : List ℕ). Likes ps rest) (sym whole) h) in
+    ((first, back),
+     (λ h. percent_twice behind rest (subst (λ (ps : List ℕ). Likes (37 ∷ ps) rest) whole (later h)), λ h. percent_start P T (back h)))
+
+-- it needs a character where there is none
+pub at_nothing : (P T left rest : List ℕ) (p : ℕ) (behind : List ℕ) → (Likes P T ↔ Likes left (chars rest)) → left ≡ p ∷ behind → (p ≡ 37 → ⊥) → length rest ≡ 0 → IsTrue false ↔ Likes P T
+at_nothing P T left rest p behind same e other none = (
+  λ is. absurd (false≢true is),
+  λ h. absurd (character_end p behind (not_percent p other) (subst (Likes (p ∷ behind)) (no_characters rest none) (subst (λ (ps : List ℕ). Likes ps (chars rest)) e (same.0 h)))),
+)
+
+moved : (left rest ps ts : List ℕ) → left ≡ ps → rest ≡ ts → Likes left rest → Likes ps ts
+moved left rest ps ts a b h = subst (Likes ps) b (subst (λ (xs : List ℕ). Likes xs rest) a h)
+
+-- its character doesn't stand for the text's
+pub at_other : (P T left rest : List ℕ) (p f : ℕ) (behind next : List ℕ) → (Likes P T ↔ Likes left rest) → left ≡ p ∷ behind → (p ≡ 37 → ⊥) → rest ≡ f ∷ next → stands_for p f ≡ false → IsTrue false ↔ Likes P T
+at_other P T left rest p f behind next same e other first differs = (
+  λ is. absurd (false≢true is),
+  λ h. absurd (character_other p f behind next (not_percent p other) differs (moved left rest (p ∷ behind) (f ∷ next) e first (same.0 h))),
+)
+
+-- it does
+pub at_same : (P T left rest : List ℕ) (p f : ℕ) (behind next : List ℕ) → (Likes P T ↔ Likes left rest) → (Likes (37 ∷ P) T → Likes (37 ∷ left) rest) → left ≡ p ∷ behind → (p ≡ 37 → ⊥) → rest ≡ f ∷ next → stands_for p f ≡ true
+    → (Likes P T ↔ Likes behind next) × (Likes (37 ∷ P) T → Likes (37 ∷ behind) next)
+at_same P T left rest p f behind next same later e other first is =
+    let step = character_same p f behind next (not_percent p other) is in
+    ((λ h. step.0 (moved left rest (p ∷ behind) (f ∷ next) e first (same.0 h)), λ h. same.1 (moved (p ∷ behind) (f ∷ next) left rest (sym e) (sym first) (step.1 h))),
+     λ h. character_later p f behind next (not_percent p other) (moved (37 ∷ left) rest (37 ∷ p ∷ behind) (f ∷ next) (ap (λ (xs : List ℕ). 37 ∷ xs) e) first (later h)))
+
+-- the pattern is at its end
+pub at_end : (P T left rest : List ℕ) (is_empty : Bool) → (Likes P T ↔ Likes (chars left) (chars rest)) → IsUtf8 rest → length left ≡ 0 → is_empty ≡ (length rest == 0) → IsTrue is_empty ↔ Likes P T
+at_end P T left rest is_empty same utf8 none e =
+    let end = pattern_end left rest utf8 none in
+    (λ is. same.1 (end.1 (eqb-true (length rest) 0 (sym e ∙ is))), λ h. e ∙ eq-eqb (length rest) 0 (end.0 (same.0 h)))

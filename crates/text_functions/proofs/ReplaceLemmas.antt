@@ -38,3 +38,13 @@ each_next f all made c cs ds first e = e ∙ ap (λ (xs : List ℕ). made ++ fla
 
 pub each_last : (f : ℕ → List ℕ) (all made cs : List ℕ) → cs ≡ [] → all ≡ made ++ flat_map f cs → all ≡ made
 each_last f all made cs none e = e ∙ (ap (λ (xs : List ℕ). made ++ flat_map f xs) none ∙ append-nil made)
+
+-- what was made has grown by a piece
+pub grown : (all made piece more next : List ℕ) → all ≡ made ++ (piece ++ more) → next ≡ made ++ piece → all ≡ next ++ more
+grown all made piece more next e is = e ∙ (sym (append_assoc made piece more) ∙ ap (λ (xs : List ℕ). xs ++ more) (sym is))
+
+pub within_grown : (most : ℕ) (made piece next : List ℕ) → length (made ++ piece) ≤ most → next ≡ made ++ piece → length next ≤ most
+within_grown most made piece next fits e = let same : length next ≡ length (made ++ piece) = ap length e in omega arith
+
+pub with_nothing : (all made piece : List ℕ) → all ≡ made ++ piece → all ≡ made ++ (piece ++ [])
+with_nothing all made piece e = e ∙ ap (λ (xs : List ℕ). made ++ xs) (sym (append-nil piece))
