@@ -1,5 +1,6 @@
 mod CharacterLemmas
 mod Cutting
+mod EdgeLemmas
 mod LikeLemmas
 mod PieceLemmas
 mod PlaceLemmas

@@ -158,3 +158,26 @@ pub at_end : (P T left rest : List ℕ) (is_empty : Bool) → (Likes P T ↔ Lik
 at_end P T left rest is_empty same utf8 none e =
     let end = pattern_end left rest utf8 none in
     (λ is. same.1 (end.1 (eqb-true (length rest) 0 (sym e ∙ is))), λ h. e ∙ eq-eqb (length rest) 0 (end.0 (same.0 h)))
+
+-- the pattern is like what is left
+pub at_whole : (P T left rest : List ℕ) (is : Bool) → (Likes (37 ∷ P) T ↔ Likes (37 ∷ left) rest) → (IsTrue is ↔ Likes left rest) → is ≡ true → IsTrue true ↔ Likes (37 ∷ P) T
+at_whole P T left rest is same meaning e = (λ _. same.1 (percent_start left rest (meaning.0 e)), λ _. refl)
+
+unlike : (left rest : List ℕ) (is : Bool) → (IsTrue is ↔ Likes left rest) → is ≡ false → Likes left rest → ⊥
+unlike left rest is meaning e h = false≢true (sym e ∙ meaning.1 h)
+
+-- it isn't, and nothing is left
+pub at_last : (P T left rest : List ℕ) (is : Bool) → (Likes (37 ∷ P) T ↔ Likes (37 ∷ left) (chars rest)) → (IsTrue is ↔ Likes left (chars rest)) → is ≡ false → length rest ≡ 0 → IsTrue false ↔ Likes (37 ∷ P) T
+at_last P T left rest is same meaning e none = (
+  λ wrong. absurd (false≢true wrong),
+  λ h.
+      let nothing : chars rest ≡ [] = no_characters rest none in
+      absurd (unlike left (chars rest) is meaning e (subst (Likes left) (sym nothing) (percent_end left (subst (Likes (37 ∷ left)) nothing (same.0 h))))),
+)
+
+-- it isn't, and a character is passed
+pub at_skip : (P T left rest : List ℕ) (f : ℕ) (next : List ℕ) (is : Bool) → (Likes (37 ∷ P) T ↔ Likes (37 ∷ left) rest) → (IsTrue is ↔ Likes left rest) → is ≡ false → rest ≡ f ∷ next → Likes (37 ∷ P) T ↔ Likes (37 ∷ left) next
+at_skip P T left rest f next is same meaning e first = (
+  λ h. percent_skips left f next (λ whole. unlike left rest is meaning e (subst (Likes left) (sym first) whole)) (subst (Likes (37 ∷ left)) first (same.0 h)),
+  λ h. same.1 (subst (Likes (37 ∷ left)) (sym first) (percent_more left f next h)),
+)

@@ -17,6 +17,6 @@ mod tokens;
 
 pub use edges::{extract_extension, extract_filename, extract_path, ltrim, rtrim, trim};
 pub use likeness::like;
-pub use places::{index_of, last_index_of, strcnt, strlen, substr};
+pub use places::{index_of, last_index_of, strcnt, strlen, substr, substr_from};
 pub use replacing::{replace_chr, replace_str, strcat, to_lowercase, to_uppercase};
 pub use tokens::{extract_prefix, extract_suffix, extract_token, extract_value};

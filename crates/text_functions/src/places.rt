@@ -1,7 +1,7 @@
 // Lengths, counts and positions.
-ghost use Rattle.std.specs.Prelude.{◌≡◌, ◌<◌, ◌^◌, length, option_map, option_copied, IfSome};
+ghost use Rattle.std.specs.Prelude.{◌≡◌, length, option_copied};
 ghost use Rattle.std.specs.Str.{chars};
-ghost use Rattle.text_functions.specs.Positions.{index_of, last_index_of, substring};
+ghost use Rattle.text_functions.specs.Positions.{index_of, last_index_of, substring, substring_from};
 ghost use Rattle.text_functions.specs.Replacing.{count_of};
 
 use crate::characters::{behind, front, natural, size};
@@ -52,17 +52,19 @@ pub fn last_index_of(text: &str, part: &str) -> Option<usize>
     Some(size(before))
 }
 
-/// The characters from a position on, at most so many. `None` for a negative number.
-pub fn substr(text: &str, from: i64, most: Option<i64>) -> Option<&str>
+/// The characters from a position on; past the end none. `None` for a negative number.
+pub fn substr_from(text: &str, from: i64) -> Option<&str>
+    ensures { option_copied result ≡ substring_from text.now from }
+{
+    let from = natural(from)?;
+    Some(behind(text, from))
+}
+
+/// The characters from a position on, at most so many; past the end none. `None` for a negative number.
+pub fn substr(text: &str, from: i64, most: i64) -> Option<&str>
     ensures { option_copied result ≡ substring text.now from most }
 {
     let from = natural(from)?;
-    let rest = behind(text, from);
-    match most {
-        None => Some(rest),
-        Some(most) => {
-            let most = natural(most)?;
-            Some(front(rest, most))
-        }
-    }
+    let most = natural(most)?;
+    Some(front(behind(text, from), most))
 }
