@@ -59,6 +59,7 @@ mirrored part text before behind cut = record {
       let n : length (reverse behind) ≡ length behind = length-reverse behind in
       omega arith;
 }
+
 pub mirrored_lacks : (part text : List ℕ) → Lacks part text → Lacks (reverse part) (reverse text)
 mirrored_lacks part text none = λ front rest e. none (reverse rest) (reverse front) (turned part text front rest e)
 

@@ -37,7 +37,7 @@ end_by text (suc n) utf8 e =
     let le : suffix_len is_blank text ≤ length text = suffix_len-le-length is_blank text in
     let place : length text - 1 - n ≡ length text - suc n = omega arith in
     let blank : is_blank (get_or text (length text - suc n) 0) ≡ true =
-        ap is_blank (ap (λ (i : ℕ). get_or text i 0) (sym place) ∙ sym (get_or-reverse text n 0 (omega arith))) ∙ prefix_len_passes is_blank (reverse text) n 0 (omega arith) in
+    ap is_blank (ap (λ (i : ℕ). get_or text i 0) (sym place) ∙ sym (get_or-reverse text n 0 (omega arith))) ∙ prefix_len_passes is_blank (reverse text) n 0 (omega arith) in
     IsCharBoundary-before_ascii text (length text - suc n) (omega arith) (blank_is_ascii _ blank)
 
 -- before those at its right
@@ -52,8 +52,8 @@ module _ (test : ℕ → Bool) where
   last_length text at (here, is) =
       let high : at < length text = here.high in
       suffix_len_is (λ b. not (test b)) text (at + 1) 0 (omega arith)
-        (λ k from to. ap not (false_from_ne_true _ (here.after k from to)))
-        (λ some. let place : at + 1 - 1 ≡ at = omega arith in ap (λ (i : ℕ). not (test (get_or text i 0))) place ∙ ap not is)
+      (λ k from to. ap not (false_from_ne_true _ (here.after k from to)))
+      (λ some. let place : at + 1 - 1 ≡ at = omega arith in ap (λ (i : ℕ). not (test (get_or text i 0))) place ∙ ap not is)
 
   pub last_none : (text : List ℕ) → IsLastByte test text None → suffix_len (λ b. not (test b)) text ≡ length text
   last_none text none =

@@ -124,9 +124,10 @@ pub at_percent : (P T left rest : List ℕ) (p : ℕ) (behind : List ℕ) → (L
 at_percent P T left rest p behind same later e is =
     let whole : left ≡ 37 ∷ behind = e ∙ ap (λ (n : ℕ). n ∷ behind) is in
     let first : Likes P T → Likes (37 ∷ behind) rest = λ h. subst (λ (ps : List ℕ). Likes ps rest) whole (same.0 h) in
-    let back : Likes (37 ∷ behind) rest → Likes P T = λ h. same.1 (subst (λ (ps : List ℕ). Likes ps rest) (sym whole) h) in
-    ((first, back),
-     (λ h. percent_twice behind rest (subst (λ (ps : List ℕ). Likes (37 ∷ ps) rest) whole (later h)), λ h. percent_start P T (back h)))
+    let back : Likes (37 ∷ behind) rest → Likes P T = λ h. same.1 (subst (λ (ps : List ℕ). Likes ps rest) (sym whole) h) in (
+      (first, back),
+      (λ h. percent_twice behind rest (subst (λ (ps : List ℕ). Likes (37 ∷ ps) rest) whole (later h)), λ h. percent_start P T (back h)),
+    )
 
 -- it needs a character where there is none
 pub at_nothing : (P T left rest : List ℕ) (p : ℕ) (behind : List ℕ) → (Likes P T ↔ Likes left (chars rest)) → left ≡ p ∷ behind → (p ≡ 37 → ⊥) → length rest ≡ 0 → IsTrue false ↔ Likes P T
@@ -149,9 +150,10 @@ at_other P T left rest p f behind next same e other first differs = (
 pub at_same : (P T left rest : List ℕ) (p f : ℕ) (behind next : List ℕ) → (Likes P T ↔ Likes left rest) → (Likes (37 ∷ P) T → Likes (37 ∷ left) rest) → left ≡ p ∷ behind → (p ≡ 37 → ⊥) → rest ≡ f ∷ next → stands_for p f ≡ true
     → (Likes P T ↔ Likes behind next) × (Likes (37 ∷ P) T → Likes (37 ∷ behind) next)
 at_same P T left rest p f behind next same later e other first is =
-    let step = character_same p f behind next (not_percent p other) is in
-    ((λ h. step.0 (moved left rest (p ∷ behind) (f ∷ next) e first (same.0 h)), λ h. same.1 (moved (p ∷ behind) (f ∷ next) left rest (sym e) (sym first) (step.1 h))),
-     λ h. character_later p f behind next (not_percent p other) (moved (37 ∷ left) rest (37 ∷ p ∷ behind) (f ∷ next) (ap (λ (xs : List ℕ). 37 ∷ xs) e) first (later h)))
+    let step = character_same p f behind next (not_percent p other) is in (
+      (λ h. step.0 (moved left rest (p ∷ behind) (f ∷ next) e first (same.0 h)), λ h. same.1 (moved (p ∷ behind) (f ∷ next) left rest (sym e) (sym first) (step.1 h))),
+      λ h. character_later p f behind next (not_percent p other) (moved (37 ∷ left) rest (37 ∷ p ∷ behind) (f ∷ next) (ap (λ (xs : List ℕ). 37 ∷ xs) e) first (later h)),
+    )
 
 -- the pattern is at its end
 pub at_end : (P T left rest : List ℕ) (is_empty : Bool) → (Likes P T ↔ Likes (chars left) (chars rest)) → IsUtf8 rest → length left ≡ 0 → is_empty ≡ (length rest == 0) → IsTrue is_empty ↔ Likes P T

@@ -61,9 +61,10 @@ behind_next part text index rest left first behind is some cut more = record {
 
 -- at the occurrence
 pub behind_here : (part text : List ℕ) (index : ℕ) (rest : List ℕ) (left : ℕ) (first behind : List ℕ) → (is : IsBehind part text index rest left) → 0 < length part → IsCutAtFirst part rest first behind → left ≡ 0 → (before part text index ≡ is.passed ++ first) × (text ≡ (is.passed ++ first) ++ (part ++ behind))
-behind_here part text index rest left first behind is some cut none =
-    (is.answer ∙ ap (λ (xs : List ℕ). is.passed ++ xs) (before_first part rest first behind left some cut none),
-     is.whole ∙ (ap (λ (xs : List ℕ). is.passed ++ xs) cut.whole ∙ sym (append_assoc is.passed first (part ++ behind))))
+behind_here part text index rest left first behind is some cut none = (
+  is.answer ∙ ap (λ (xs : List ℕ). is.passed ++ xs) (before_first part rest first behind left some cut none),
+  is.whole ∙ (ap (λ (xs : List ℕ). is.passed ++ xs) cut.whole ∙ sym (append_assoc is.passed first (part ++ behind))),
+)
 
 -- where there is none
 pub behind_none : (part text : List ℕ) (index : ℕ) (rest : List ℕ) (left : ℕ) → IsBehind part text index rest left → Lacks part rest → before part text index ≡ text
@@ -77,9 +78,10 @@ prefix_cut part text index rest left first behind size is some cut none part-utf
     let here = behind_here part text index rest left first behind is some cut none in
     let whole : length text ≡ length is.passed + length rest = ap length is.whole ∙ length-append is.passed rest in
     let front : length (is.passed ++ first) ≡ length is.passed + length first = length-append is.passed first in
-    let same : length (is.passed ++ first) ≡ size = omega arith in
-    (subst (IsCharBoundary text) same (IsCharBoundary-at_seam text (is.passed ++ first) (part ++ behind) here.1 (IsUtf8-append part behind part-utf8 utf8)),
-     ap (take size) here.1 ∙ (take_at (is.passed ++ first) (part ++ behind) size same ∙ sym here.0))
+    let same : length (is.passed ++ first) ≡ size = omega arith in (
+      subst (IsCharBoundary text) same (IsCharBoundary-at_seam text (is.passed ++ first) (part ++ behind) here.1 (IsUtf8-append part behind part-utf8 utf8)),
+      ap (take size) here.1 ∙ (take_at (is.passed ++ first) (part ++ behind) size same ∙ sym here.0),
+    )
 
 -- the rest is a part of the text
 pub rest_fits : (part text : List ℕ) (index : ℕ) (rest : List ℕ) (left : ℕ) → IsBehind part text index rest left → length rest ≤ length text
@@ -94,12 +96,13 @@ suffix_cut part text index rest left first behind place is some cut none utf8 pa
     let here = behind_here (reverse part) (reverse text) index (reverse rest) left (reverse behind) (reverse first) is (omega arith) (mirrored part rest first behind cut) none in
     let tail : List ℕ = reverse (is.passed ++ reverse behind) in
     let whole : text ≡ (first ++ part) ++ tail =
-        sym (reverse-reverse text) ∙ (ap reverse here.1 ∙ (reverse-append (is.passed ++ reverse behind) (reverse part ++ reverse first)
-        ∙ ap (λ (xs : List ℕ). xs ++ tail) (reverse-append (reverse part) (reverse first) ∙ (ap (λ (xs : List ℕ). xs ++ reverse (reverse part)) (reverse-reverse first) ∙ ap (λ (xs : List ℕ). first ++ xs) (reverse-reverse part))))) in
+    sym (reverse-reverse text) ∙ (ap reverse here.1 ∙ (reverse-append (is.passed ++ reverse behind) (reverse part ++ reverse first)
+    ∙ ap (λ (xs : List ℕ). xs ++ tail) (reverse-append (reverse part) (reverse first) ∙ (ap (λ (xs : List ℕ). xs ++ reverse (reverse part)) (reverse-reverse first) ∙ ap (λ (xs : List ℕ). first ++ xs) (reverse-reverse part))))) in
     let sizes : length rest ≡ length first + (length part + length behind) = ap length cut.whole ∙ (length-append first (part ++ behind) ∙ ap (λ (n : ℕ). length first + n) (length-append part behind)) in
     let front : length (first ++ part) ≡ length first + length part = length-append first part in
     let same : length (first ++ part) ≡ place = omega arith in
     let all : length text ≡ length (first ++ part) + length tail = ap length whole ∙ length-append (first ++ part) tail in
-    let taken : take place text ≡ first ++ part = ap (take place) whole ∙ take_at (first ++ part) tail place same in
-    (IsCharBoundary-from_take text place utf8 (omega arith) (subst IsUtf8 (sym taken) (IsUtf8-append first part first-utf8 part-utf8)),
-     ap (drop place) whole ∙ (drop_at (first ++ part) tail place same ∙ ap reverse (sym here.0)))
+    let taken : take place text ≡ first ++ part = ap (take place) whole ∙ take_at (first ++ part) tail place same in (
+      IsCharBoundary-from_take text place utf8 (omega arith) (subst IsUtf8 (sym taken) (IsUtf8-append first part first-utf8 part-utf8)),
+      ap (drop place) whole ∙ (drop_at (first ++ part) tail place same ∙ ap reverse (sym here.0)),
+    )

@@ -17,7 +17,7 @@ behind_name name token = if starts_with nat_eq token (name ++ codes "=") then So
 is_none : (name token : List ℕ) → ((rest : List ℕ) → token ≢ name ++ (61 ∷ rest)) → None ≡ behind_name name token
 is_none name token none =
     let e : starts_with nat_eq token (name ++ codes "=") ≡ false =
-        false_from_ne_true _ (λ is. none _ ((starts_is Decides-eqb token (name ++ codes "=") _ refl).0 is ∙ append_assoc name (codes "=") _)) in
+    false_from_ne_true _ (λ is. none _ ((starts_is Decides-eqb token (name ++ codes "=") _ refl).0 is ∙ append_assoc name (codes "=") _)) in
     rw e refl
 
 is_some : (name token value : List ℕ) → token ≡ name ++ (61 ∷ value) → Some value ≡ behind_name name token

@@ -10,7 +10,7 @@ abbrev pub invariant-loop-next : goal.invariant-loop-next
 invariant-loop-next l = record {
   same : Likes (37 ∷ chars l.pattern) (chars l.text) ↔ Likes (37 ∷ chars l.left) (chars l.rest);
   pattern_text : shadow (Utf8 l.left);
-  text : shadow (Utf8 l.rest)
+  text : shadow (Utf8 l.rest);
 }
 
 abbrev pub decreases-loop-next : goal.decreases-loop-next
