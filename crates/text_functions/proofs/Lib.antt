@@ -2,6 +2,7 @@ mod CharacterLemmas
 mod Cutting
 mod EdgeLemmas
 mod LikeLemmas
+mod PartingLemmas
 mod PieceLemmas
 mod PlaceLemmas
 mod PrefixLemmas

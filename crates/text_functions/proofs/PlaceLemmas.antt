@@ -47,7 +47,7 @@ pub index-cut : (text part before behind : List ℕ) → (length part == 0) ≡ 
 index-cut text part before behind other some cut =
     sym (index_is text part other ∙ (ap (option_map (position_of text)) (first_place-cut text part before behind some cut) ∙ ap Some (position-front text before (part ++ behind) cut.whole)))
 
-last_place-cut : (text part before behind : List ℕ) → 0 < length part → IsCutAtLast part text before behind → last_place text part ≡ Some (length before)
+pub last_place-cut : (text part before behind : List ℕ) → 0 < length part → IsCutAtLast part text before behind → last_place text part ≡ Some (length before)
 last_place-cut text part before behind some cut =
     let turned : length (reverse part) ≡ length part = length-reverse part in
     let back : length (reverse behind) ≡ length behind = length-reverse behind in

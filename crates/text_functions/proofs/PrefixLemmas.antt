@@ -1,6 +1,9 @@
 -- What stands before an occurrence, occurrence by occurrence.
-use Rattle.std.proofs.Common.{◌≡◌, ℕ, zero, suc, ◌+◌, ◌-◌, ◌<◌, ◌≤◌, List, [], ◌∷◌, ◌++◌, length, take, drop, reverse, refl, sym, ap, subst, ◌∙◌, arith}
+use Rattle.std.proofs.Common.{◌≡◌, ℕ, zero, suc, ◌+◌, ◌-◌, ◌<◌, ◌≤◌, ◌==◌, false, pos, Option, Some, List, [], ◌∷◌, ◌++◌, length, take, drop, reverse, refl, sym, ap, subst, ◌∙◌, arith}
 use Rattle.std.proofs.lemmas.List.{append_assoc, length-append, take_at, drop_at, reverse-append, length-reverse, reverse-reverse, take_all}
+use Rattle.std.specs.Option.{option_map}
+use Rattle.std.proofs.lemmas.Bool.{false_from_ne_true, eqb-true}
+use Rattle.text_functions.specs.Tokens.{prefix, suffix}
 use Rattle.std.specs.Str.{IsUtf8, IsCharBoundary}
 use Rattle.std.proofs.lemmas.Str.{IsCharBoundary-at_seam, IsCharBoundary-from_take, IsUtf8-append}
 use Rattle.text_functions.proofs.Cutting.{mirrored, mirrored_lacks}
@@ -106,3 +109,12 @@ suffix_cut part text index rest left first behind place is some cut none utf8 pa
       IsCharBoundary-from_take text place utf8 (omega arith) (subst IsUtf8 (sym taken) (IsUtf8-append first part first-utf8 part-utf8)),
       ap (drop place) whole ∙ (drop_at (first ++ part) tail place same ∙ ap reverse (sym here.0)),
     )
+
+-- what stands behind the last occurrence
+pub suffix_last : (part text first behind : List ℕ) → 0 < length part → IsCutAtLast part text first behind → suffix text (pos 0) part ≡ Some behind
+suffix_last part text first behind some cut =
+    let turned : length (reverse part) ≡ length part = length-reverse part in
+    let other : (length (reverse part) == 0) ≡ false = false_from_ne_true _ (λ is. let h : length (reverse part) ≡ 0 = eqb-true (length (reverse part)) 0 is in omega arith) in
+    let at : before (reverse part) (reverse text) 0 ≡ reverse behind = before_first (reverse part) (reverse text) (reverse behind) (reverse first) 0 (omega arith) (mirrored part text first behind cut) refl in
+    let whole : prefix (reverse text) (pos 0) (reverse part) ≡ Some (before (reverse part) (reverse text) 0) = (rw other refl) in
+    ap (option_map reverse) (whole ∙ ap Some at) ∙ ap Some (reverse-reverse behind)

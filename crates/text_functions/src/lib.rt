@@ -7,6 +7,7 @@
 
 mod characters;
 mod edges;
+mod laws;
 mod likeness;
 mod occurrences;
 mod places;
@@ -16,6 +17,7 @@ mod tests;
 mod tokens;
 
 pub use edges::{extract_extension, extract_filename, extract_path, ltrim, rtrim, trim};
+pub use laws::{last_behind, occurrences_of_characters, one_parting};
 pub use likeness::like;
 pub use places::{index_of, last_index_of, strcnt, strlen, substr, substr_from};
 pub use replacing::{replace_chr, replace_str, strcat, to_lowercase, to_uppercase};
