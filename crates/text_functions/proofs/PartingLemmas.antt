@@ -62,10 +62,10 @@ parted_by : (n : ℕ) (part text : List ℕ) → 0 < length part → length text
 parted_by zero part text some le = parted_lacks part text (short_lacks part text (omega arith))
 parted_by (suc n) part text some le =
     ⊎_elim (λ none. parted_lacks part text none)
-      (λ (at : Cut part text).
-        let less = cut-shorter part text at.0 at.1 some at.2 in
-        parted_cut part text at.0 at.1 some at.2 (parted_by n part at.1 some (omega arith)))
-      (cut_of part text some)
+    (λ (at : Cut part text).
+    let less = cut-shorter part text at.0 at.1 some at.2 in
+    parted_cut part text at.0 at.1 some at.2 (parted_by n part at.1 some (omega arith)))
+    (cut_of part text some)
 
 pub parted : (part text : List ℕ) → 0 < length part → IsPartedInto part text (pieces part text)
 parted part text some = parted_by (length text) part text some (omega arith)

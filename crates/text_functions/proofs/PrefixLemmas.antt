@@ -110,11 +110,36 @@ suffix_cut part text index rest left first behind place is some cut none utf8 pa
       ap (drop place) whole ∙ (drop_at (first ++ part) tail place same ∙ ap reverse (sym here.0)),
     )
 
+-- read backwards
+suffix_is : (part text : List ℕ) (n : ℕ) → 0 < length part → suffix text (pos n) part ≡ Some (reverse (before (reverse part) (reverse text) n))
+suffix_is part text n some =
+    let turned : length (reverse part) ≡ length part = length-reverse part in
+    let other : (length (reverse part) == 0) ≡ false = false_from_ne_true _ (λ is. let h : length (reverse part) ≡ 0 = eqb-true (length (reverse part)) 0 is in omega arith) in
+    let whole : prefix (reverse text) (pos n) (reverse part) ≡ Some (before (reverse part) (reverse text) n) = (rw other refl) in
+    ap (option_map reverse) whole
+
 -- what stands behind the last occurrence
 pub suffix_last : (part text first behind : List ℕ) → 0 < length part → IsCutAtLast part text first behind → suffix text (pos 0) part ≡ Some behind
 suffix_last part text first behind some cut =
     let turned : length (reverse part) ≡ length part = length-reverse part in
-    let other : (length (reverse part) == 0) ≡ false = false_from_ne_true _ (λ is. let h : length (reverse part) ≡ 0 = eqb-true (length (reverse part)) 0 is in omega arith) in
     let at : before (reverse part) (reverse text) 0 ≡ reverse behind = before_first (reverse part) (reverse text) (reverse behind) (reverse first) 0 (omega arith) (mirrored part text first behind cut) refl in
-    let whole : prefix (reverse text) (pos 0) (reverse part) ≡ Some (before (reverse part) (reverse text) 0) = (rw other refl) in
-    ap (option_map reverse) (whole ∙ ap Some at) ∙ ap Some (reverse-reverse behind)
+    suffix_is part text 0 some ∙ ap Some (ap reverse at ∙ reverse-reverse behind)
+
+-- and behind the occurrences before it
+pub suffix_next : (part text first behind : List ℕ) (n : ℕ) → 0 < length part → IsCutAtLast part text first behind → suffix text (pos (n + 1)) part ≡ option_map (λ (s : List ℕ). s ++ (part ++ behind)) (suffix first (pos n) part)
+suffix_next part text first behind n some cut =
+    let turned : length (reverse part) ≡ length part = length-reverse part in
+    let back : List ℕ = before (reverse part) (reverse first) n in
+    let less : n + 1 - 1 ≡ n = omega arith in
+    let at : before (reverse part) (reverse text) (n + 1) ≡ reverse behind ++ (reverse part ++ back) =
+    before_next (reverse part) (reverse text) (reverse behind) (reverse first) (n + 1) (omega arith) (mirrored part text first behind cut) (omega arith)
+    ∙ ap (λ (m : ℕ). reverse behind ++ (reverse part ++ before (reverse part) (reverse first) m)) less in
+    let turn : reverse (reverse behind ++ (reverse part ++ back)) ≡ reverse back ++ (part ++ behind) =
+    reverse-append (reverse behind) (reverse part ++ back)
+    ∙ (ap (λ (xs : List ℕ). xs ++ reverse (reverse behind)) (reverse-append (reverse part) back ∙ ap (λ (xs : List ℕ). reverse back ++ xs) (reverse-reverse part))
+    ∙ (append_assoc (reverse back) part (reverse (reverse behind)) ∙ ap (λ (xs : List ℕ). reverse back ++ (part ++ xs)) (reverse-reverse behind))) in
+    suffix_is part text (n + 1) some ∙ (ap Some (ap reverse at ∙ turn) ∙ sym (ap (option_map (λ (s : List ℕ). s ++ (part ++ behind))) (suffix_is part first n some)))
+
+pub suffix_whole : (part text : List ℕ) (n : ℕ) → 0 < length part → Lacks part text → suffix text (pos n) part ≡ Some text
+suffix_whole part text n some none =
+    suffix_is part text n some ∙ ap Some (ap reverse (before_all (reverse part) (reverse text) n (mirrored_lacks part text none)) ∙ reverse-reverse text)

@@ -1,7 +1,7 @@
 // Laws on occurrences. These functions do no work: their contracts are the laws.
-ghost use Rattle.std.specs.Prelude.{◌≡◌, ◌<◌, ◌++◌, ℕ, List, pos, Some, length};
+ghost use Rattle.std.specs.Prelude.{◌≡◌, ◌<◌, ◌+◌, ◌++◌, ℕ, List, pos, Some, option_map, length};
 ghost use Rattle.std.specs.Str.{IsUtf8, chars};
-ghost use Rattle.text_functions.specs.Pieces.{pieces, joined, IsPartedInto, IsCutAtLast};
+ghost use Rattle.text_functions.specs.Pieces.{pieces, joined, IsPartedInto, IsCutAtLast, Lacks};
 ghost use Rattle.text_functions.specs.Positions.{last_place};
 ghost use Rattle.text_functions.specs.Tokens.{suffix};
 
@@ -12,10 +12,12 @@ pub fn one_parting()
     ensures whole { (part text : List ℕ) → 0 < length part → joined part (pieces part text) ≡ text }
 {}
 
-/// The law that what is read backwards gives the last occurrence, and what stands behind it.
+/// The law that what is read backwards gives the occurrences from the right, and what stands behind each.
 pub fn last_behind()
     ensures place { (part text before behind : List ℕ) → 0 < length part → IsCutAtLast part text before behind → last_place text part ≡ Some (length before) }
     ensures suffix { (part text before behind : List ℕ) → 0 < length part → IsCutAtLast part text before behind → suffix text (pos 0) part ≡ Some behind }
+    ensures next { (part text before behind : List ℕ) (n : ℕ) → 0 < length part → IsCutAtLast part text before behind → suffix text (pos (n + 1)) part ≡ option_map (λ s. s ++ (part ++ behind)) (suffix before (pos n) part) }
+    ensures whole { (part text : List ℕ) (n : ℕ) → 0 < length part → Lacks part text → suffix text (pos n) part ≡ Some text }
 {}
 
 /// The law that an occurrence of the bytes is one of the characters.
