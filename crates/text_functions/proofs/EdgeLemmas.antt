@@ -1,15 +1,15 @@
 -- Blanks at the ends of a text, and the last byte that passes a test.
 use Rattle.std.specs.List.{prefix_len, suffix_len, list_any, after_last, before_last}
 use Rattle.std.specs.Str.{IsUtf8, IsCharBoundary}
-use Rattle.memchr.specs.Find.{IsLastByte, Passes, Nowhere}
-use Rattle.std.proofs.Common.{◌≡◌, ℕ, zero, suc, ◌+◌, ◌-◌, ◌<◌, ◌≤◌, Bool, true, false, not, List, [], ◌∷◌, ◌++◌, length, take, drop, get_or, reverse, Option, Some, None, if◌then◌else◌, refl, sym, ap, subst, ◌∙◌, arith, inl, inr}
-use Rattle.std.proofs.lemmas.List.{length-reverse, get_or-reverse, get_or_default}
+use Rattle.memchr.specs.Find.{IsLastByte}
+use Rattle.std.proofs.Common.{◌≡◌, ℕ, zero, suc, ◌+◌, ◌-◌, ◌<◌, ◌≤◌, Bool, true, false, not, List, [], length, take, drop, get_or, reverse, Some, None, refl, sym, ap, subst, ◌∙◌, arith}
+use Rattle.std.proofs.lemmas.List.{get_or-reverse, get_or_default}
 use Rattle.std.proofs.lemmas.List.Sums.{prefix_len-le-length, prefix_len_passes, suffix_len-le-length, suffix_len_is}
 use Rattle.std.proofs.lemmas.List.Folds.{Any-from_list_any, list_any_at}
-use Rattle.std.proofs.lemmas.Bool.{false_from_ne_true, not_from_false}
+use Rattle.std.proofs.lemmas.Bool.{false_from_ne_true}
 use Rattle.std.proofs.lemmas.Bool.Decides.{nat_tests}
 use Rattle.std.proofs.lemmas.Str.{IsCharBoundary-start, IsCharBoundary-end, IsCharBoundary-after_ascii, IsCharBoundary-before_ascii}
-use Rattle.text_functions.specs.Edges.{is_blank, is_slash, is_point, file_name, path_of, extension_of}
+use Rattle.text_functions.specs.Edges.{is_blank, is_slash, is_point, extension_of}
 
 blank_is_ascii : (b : ℕ) → is_blank b ≡ true → b < 128
 blank_is_ascii b is = grind (arith, nat_tests)

@@ -1,7 +1,7 @@
 -- Counts and positions, by the first occurrence.
 use Rattle.std.specs.Option.{option_map}
 use Rattle.std.specs.Str.{chars}
-use Rattle.std.proofs.Common.{◌≡◌, ℕ, zero, suc, ◌+◌, ◌-◌, ◌<◌, ◌≤◌, ◌==◌, if◌then◌else◌, List, [], ◌∷◌, ◌++◌, length, take, drop, reverse, Option, Some, None, refl, sym, ap, ◌∙◌, arith, false, true}
+use Rattle.std.proofs.Common.{◌≡◌, ℕ, ◌+◌, ◌-◌, ◌<◌, ◌==◌, List, [], ◌∷◌, ◌++◌, length, take, reverse, Option, Some, None, refl, sym, ap, ◌∙◌, arith, false}
 use Rattle.std.proofs.lemmas.List.{take_at, length-append, length-reverse}
 use Rattle.text_functions.specs.Pieces.{pieces, Lacks, IsCutAtFirst, IsCutAtLast}
 use Rattle.text_functions.specs.Positions.{position_of, place_in, first_place, last_place, index_of, last_index_of}

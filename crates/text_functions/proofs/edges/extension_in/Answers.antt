@@ -1,4 +1,4 @@
-use Rattle.std.proofs.Common.{ℕ, List, Some, None, sym, ap, subst, ◌∙◌}
+use Rattle.std.proofs.Common.{ℕ, List, Some, None, ap, subst, ◌∙◌}
 use Rattle.std.specs.Option.{option_copied}
 use Rattle.memchr.specs.Find.{IsLastByte}
 use Rattle.text_functions.specs.Edges.{is_point}
