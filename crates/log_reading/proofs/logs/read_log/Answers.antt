@@ -1,4 +1,4 @@
-use Rattle.std.proofs.Common.{◌≡◌, length, ap, arith}
+use Rattle.std.proofs.Common.{◌≡◌, length, ap, refl, ◌∙◌, arith}
 use Rattle.lp_model.proofs.Growing.{OnlyGrow-refl, OnlyGrow-trans}
 use Rattle.lp_model.proofs.Pieces.{there_grown}
 use Rattle.lp_model.proofs.Results.{on_err}
@@ -18,6 +18,8 @@ log-init g c =
       read = λ waits. has_read_none g.T.Taker.takes (g.R.LineReader.format c.args.reader.now) span.identity waits (g.L.Logs.folder c.args.logs.now) span.name span.listed page w (g.met.T.Taker.takes_none page.taker w) (omega arith) c.requires.there;
       fits = omega arith;
       last = omega arith;
+      within = c.requires.within;
+      most = refl;
       room = c.requires.room;
       spends = record { lines = omega arith; rows = omega arith; bad = omega arith; taken = omega arith };
       longer = omega arith;
@@ -45,6 +47,8 @@ log-preserved g c =
       read = λ waits. has_read_trans g.T.Taker.takes g.met.T.Taker.takes_more (g.R.LineReader.format c.args.reader.now) span.identity waits _ _ span.name span.listed _ _ _ _ _ _ here.grows (so_far.read waits) (here.read waits);
       fits = here.fits;
       last = here.last;
+      within = here.within;
+      most = here.most ∙ so_far.most;
       room = here.room;
       spends = let first = so_far.spends in let second = here.spends in
           let f1 = first.lines in let f2 = first.rows in let f3 = first.bad in let f4 = first.taken in

@@ -1,4 +1,4 @@
-use Rattle.std.proofs.Common.{[], ◌∙◌, arith}
+use Rattle.std.proofs.Common.{[], ◌∙◌, refl, arith}
 use Rattle.lp_model.proofs.Results.{on_err}
 use Rattle.log_reading.proofs.Advancing.{advances_none, advances_trans, stops_within, spends_trans}
 use Rattle.log_reading.proofs.pieces.take_lines.Goals as goal
@@ -11,6 +11,8 @@ loop-more-init g c =
       advances = λ waits. advances_none g.T.Taker.takes (g.R.LineReader.format c.args.reader.now) c.args.identity.now waits page w (g.met.T.Taker.takes_none page.taker w);
       spends = record { lines = omega arith; rows = omega arith; bad = omega arith; taken = omega arith };
       end = omega arith;
+      within = c.requires.within;
+      most = refl;
       later = omega arith;
     }
 
@@ -24,6 +26,8 @@ loop-more-preserved g c =
       advances = λ waits. advances_trans g.T.Taker.takes g.met.T.Taker.takes_more (g.R.LineReader.format c.args.reader.now) c.args.identity.now waits [] [] _ _ _ _ _ _ (so_far.advances waits) (took.advances waits);
       spends = spends_trans g.T.Taker.count _ _ _ 0 0 so_far.spends took.spends;
       end = took.end ∙ so_far.end;
+      within = took.within;
+      most = took.most ∙ so_far.most;
       later = omega arith;
     }
 

@@ -1,4 +1,4 @@
-use Rattle.std.proofs.Common.{arith}
+use Rattle.std.proofs.Common.{◌∙◌, arith}
 use Rattle.lp_model.proofs.Growing.{OnlyGrow-trans}
 use Rattle.lp_model.proofs.Results.{on_err}
 use Rattle.log_reading.proofs.SpansTaken.{there_all, spans_more, spans_stopped, size_more, took_more}
@@ -33,6 +33,8 @@ loop-span-preserved g c =
           here.grows so_far.there so_far.takes here.takes;
       took = λ waits. took_more (g.R.LineReader.format c.args.reader.now) _ _ c.args.spans.now c.loop-span.span-index c.span-item.result c.args.took.now _ _ c.loop-span-test.true c.span-item.is
           here.grows so_far.there (so_far.took waits) (here.took waits);
+      within = here.within;
+      most = here.most ∙ so_far.most;
       rows = omega arith;
       bad = omega arith;
       taken = omega arith;
