@@ -1,5 +1,5 @@
 // A query over logs to a stage.
-ghost use Rattle.std.specs.Prelude.{◌≡◌, ◌≤◌, ◌<◌, ◌^◌, ◌+◌, ◌++◌, [], ℕ, List, Bool, true, length, map, Option, OnOk, OnErr, IfOk, IfErr, IsErrOf, ◌⊎◌};
+ghost use Rattle.std.specs.Prelude.{◌≡◌, ◌≤◌, ◌<◌, ◌^◌, ◌+◌, ◌++◌, [], ℕ, List, Bool, true, length, map, Option, OnOk, OnErr, IfOk, IfErr, IsErrOf};
 ghost use Rattle.lp_model.specs.Outside.{Rose, OnlyGrow, Told, bytes_in, Gains, GainsSome};
 ghost use Rattle.lp_values.specs.declared.value.Value.{Value};
 ghost use Rattle.query_run.specs.Output.{IsUnderWay};
@@ -9,7 +9,7 @@ ghost use Rattle.log_reading.specs.Spans.{AllSpans, IsSpan, AreKept, OnBadLine, 
 
 use crate::{Buffers, Picker, Target, Writer};
 use line_input::{LineReader, Splitter, Standing};
-use log_reading::{Page, RunFault, Span, TookList, take_spans};
+use log_reading::{Page, RunFault, Span, TakeFault, TookList, take_spans};
 use lp_outside::{Logs, Stage};
 use lp_values::{Bytes, TextList, ValueList};
 use output_formats::Shape;
@@ -67,7 +67,7 @@ fn first_writer<F: Shape + Drop, P: Picker + Drop>(
 fn finish<F: Shape + Drop, P: Picker + Drop, G: Stage>(
     writer: &mut Writer<F, P>,
     stage: &mut G,
-) -> Result<(), RunFault>
+) -> Result<(), TakeFault>
     ensures text { OnOk result ((fresh : Bool) (names : List (List ℕ)) (rows : List (List Value)) (start : Option (List ℕ))
         → IsUnderWay (F.has_text writer.old.shape fresh names rows) start (G.state stage.old).written writer.old.buffers.held
         → Gains start (G.state stage.new).written (F.text writer.old.shape fresh names rows)) }
@@ -76,15 +76,15 @@ fn finish<F: Shape + Drop, P: Picker + Drop, G: Stage>(
         → GainsSome start (G.state stage.new).written (F.text writer.old.shape fresh names rows)) }
     ensures output { writer.new.output ≡ writer.old.output }
     ensures later { G.faults stage.old ≤ G.faults stage.new }
-    ensures failed { IsErrOf result RunFault.Output → Rose (G.faults stage.old) (G.faults stage.new) }
-    ensures only { IfErr result (λ fault. (fault ≡ RunFault.Memory) ⊎ (fault ≡ RunFault.Output)) }
+    ensures failed { IsErrOf result TakeFault.Failed → Rose (G.faults stage.old) (G.faults stage.new) }
+    ensures stopped { IsErrOf result TakeFault.Stopped → ⊥ }
 {
     let Ok(()) = writer.shape.end(&mut writer.buffers.held) else {
-        return Err(RunFault::Memory);
+        return Err(TakeFault::Memory);
     };
     match writer.target.end(stage, writer.buffers.held.as_slice()) {
         Ok(()) => Ok(()),
-        Err(_) => Err(RunFault::Output),
+        Err(_) => Err(TakeFault::Failed),
     }
 }
 
@@ -167,6 +167,8 @@ pub fn write_spans<R: LineReader, L: Logs, F: Shape + Drop, P: Picker + Drop, G:
             output: page.taker.output,
             bad: page.bad,
         }),
-        Err(fault) => Err(fault),
+        Err(TakeFault::Memory) => Err(RunFault::Memory),
+        Err(TakeFault::Stopped) => unreachable!(),
+        Err(TakeFault::Failed) => Err(RunFault::Output),
     }
 }

@@ -38,4 +38,4 @@ returns-in-Err-Bad-clause-stopped g c = inr
 pub returns-in-Err-Bad-clause-parse : goal.returns-in-Err-Bad-clause-parse
 returns-in-Err-Bad-clause-parse g c =
     parse_error (g.L.Logs.folder c.run_plan.new.logs) (g.G.Stage.state c.args.stage.now).written (g.G.Stage.state c.run_plan.new.stage).written c.args.spec.now (query_of c.args.query.now)
-    c.input_of-format.result (planned_in c.in-Ok.plan) c.as_slice.result.now c.args.spans.now c.most_bad.result _ c.input_of-format.ensures c.as_slice.ensures c.in-Ok.ensures.plan c.most_bad.ensures c.in-Err-Bad.ensures.too_many c.in-Err-Bad.ensures.front
+    c.input_of-format.result (planned_in c.in-Ok.plan) c.as_slice.result.now c.args.spans.now c.most_bad.result _ c.input_of-format.ensures c.as_slice.ensures c.in-Ok.ensures.plan c.most_bad.ensures (rw c.in-Err-Bad.field-0-is at c.in-Err-Bad.ensures.too_many) c.in-Err-Bad.ensures.front

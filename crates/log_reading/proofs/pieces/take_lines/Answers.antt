@@ -1,6 +1,8 @@
-use Rattle.std.proofs.Common.{[], ◌∙◌, refl, arith}
+use Rattle.std.proofs.Common.{[], Bool, ◌∙◌, refl, arith}
 use Rattle.lp_model.proofs.Results.{on_err}
-use Rattle.log_reading.proofs.Advancing.{advances_none, advances_trans, stops_within, spends_trans}
+use Rattle.log_reading.proofs.Advancing.{advances_none, advances_trans, stops_within, spends_trans, exceeds_within}
+use Rattle.log_reading.proofs.Faults.{handed_on, bad_so}
+use Rattle.log_reading.specs.Page.{OnBad, ExceedsWithin}
 use Rattle.log_reading.proofs.pieces.take_lines.Goals as goal
 
 pub loop-more-init : goal.loop-more-init
@@ -41,3 +43,13 @@ returns-clause-advances g c = λ waits.
 
 pub returns-clause-spends : goal.returns-clause-spends
 returns-clause-spends g c = spends_trans g.T.Taker.count _ _ _ 0 0 c.loop-more.invariant.spends c.in_ok-more.ensures.spends
+
+pub returns-in_err-more-clause-too_many : goal.returns-in_err-more-clause-too_many
+returns-in_err-more-clause-too_many g c =
+    let page = c.args.page.now in
+    let format = g.R.LineReader.format c.args.reader.now in
+    let so_far = c.loop-more.invariant in
+    handed_on c.from_residual.result _ (λ fault. OnBad fault (λ row. (waits : Bool) → ExceedsWithin format waits [] page row)) c.from_residual.ensures.1
+    (bad_so _ _ (λ row. (waits : Bool) → ExceedsWithin format waits [] page row)
+    (λ row s waits. exceeds_within g.T.Taker.takes format c.args.identity.now waits [] [] page c.loop-more.page _ _ row so_far.most (so_far.advances waits) (s waits))
+    c.in_err-more.ensures.too_many)
