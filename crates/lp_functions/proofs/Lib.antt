@@ -1,2 +1,5 @@
+pub mod DigitLemmas
+pub mod Escapes
 pub mod FittingLemmas
 pub mod NameLemmas
+pub mod PrintedLemmas

@@ -1,3 +1,10 @@
+pub mod Addresses
+pub mod Applied
+pub mod Choices
 pub mod Fitting
+pub mod Moments
 pub mod Names
+pub mod Numbers
 pub mod Table
+pub mod Texts
+pub mod Urls

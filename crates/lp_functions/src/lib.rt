@@ -4,8 +4,18 @@
 //! arguments of such kinds, and the value of each function over each list of values. `specs` has the definitions.
 #![tactic(auto)]
 
+mod addresses;
+mod applying;
+mod choices;
 mod function;
+mod moments;
+mod numbers;
 mod place;
 mod table;
+#[cfg(test)]
+mod tests;
+mod texts;
+mod urls;
 
+pub use applying::apply;
 pub use function::Function;

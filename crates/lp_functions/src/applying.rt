@@ -1,0 +1,70 @@
+// The value of a function.
+ghost use Rattle.std.specs.Prelude.{◌≡◌, IfOk, [], ◌∷◌};
+ghost use Rattle.lp_functions.specs.Applied.{applied, applied_to_one, applied_to_two, applied_to_more};
+
+use crate::Function;
+use crate::addresses::{int_to_ipv4, ipv4_to_int};
+use crate::choices::{coalesced, replaced_if_not_null};
+use crate::moments::{to_date, to_time, to_timestamp};
+use crate::numbers::{quantized_value, to_int, to_real};
+use crate::texts::{to_string, to_string_by};
+use crate::urls::{url_escape, url_unescape};
+use lp_values::{Value, ValueList, add, div, modulo, mul, sub};
+use std::alloc::{AllocError, Global};
+
+/// The value of a function over arguments: NULL where it doesn't take them.
+pub fn apply(alloc: Global, function: Function, arguments: &ValueList) -> Result<Value, AllocError>
+    ensures { IfOk result (λ value. value ≡ applied function arguments.now) }
+{
+    match arguments.as_slice() {
+        [] => Ok(Value::Null),
+        [a] => apply_to_one(alloc, function, a),
+        [a, b] => apply_to_two(alloc, function, arguments.as_slice(), a, b),
+        _ => apply_to_more(alloc, function, arguments.as_slice()),
+    }
+}
+
+fn apply_to_one(alloc: Global, function: Function, a: &Value) -> Result<Value, AllocError>
+    ensures { IfOk result (λ value. value ≡ applied_to_one function a.now) }
+{
+    match function {
+        Function::Urlescape => url_escape(alloc, a),
+        Function::Urlunescape => url_unescape(alloc, a),
+        Function::ToString => to_string(alloc, a),
+        Function::ToInt => Ok(to_int(a)),
+        Function::ToReal => Ok(to_real(a)),
+        Function::ToDate => Ok(to_date(a)),
+        Function::ToTime => Ok(to_time(a)),
+        Function::Ipv4ToInt => Ok(ipv4_to_int(a)),
+        Function::IntToIpv4 => int_to_ipv4(alloc, a),
+        _ => Ok(Value::Null),
+    }
+}
+
+fn apply_to_two(alloc: Global, function: Function, both: &[Value], a: &Value, b: &Value) -> Result<Value, AllocError>
+    requires { both.now ≡ a.now ∷ b.now ∷ [] }
+    ensures { IfOk result (λ value. value ≡ applied_to_two function a.now b.now) }
+{
+    match function {
+        Function::Add => Ok(add(a, b)),
+        Function::Sub => Ok(sub(a, b)),
+        Function::Mul => Ok(mul(a, b)),
+        Function::Div => Ok(div(a, b)),
+        Function::Mod => Ok(modulo(a, b)),
+        Function::Quantize => Ok(quantized_value(a, b)),
+        Function::ToString => to_string_by(alloc, a, b),
+        Function::ToTimestamp => Ok(to_timestamp(a, b)),
+        Function::Coalesce | Function::ReplaceIfNull => coalesced(alloc, both),
+        Function::ReplaceIfNotNull => replaced_if_not_null(alloc, a, b),
+        _ => Ok(Value::Null),
+    }
+}
+
+fn apply_to_more(alloc: Global, function: Function, arguments: &[Value]) -> Result<Value, AllocError>
+    ensures { IfOk result (λ value. value ≡ applied_to_more function arguments.now) }
+{
+    match function {
+        Function::Coalesce => coalesced(alloc, arguments),
+        _ => Ok(Value::Null),
+    }
+}
