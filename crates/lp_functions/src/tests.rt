@@ -1,7 +1,6 @@
 // Cases worked out by hand.
 use super::*;
 use lp_values::{Kind, Part, Real, Stamp, Text, Value, ValueList};
-use std::process::Abort;
 use std::test::Fail;
 
 fn text(rt: &HostRuntime, text: &str) -> Result<Value, Fail> {
@@ -12,8 +11,8 @@ fn real(millionths: i64) -> Value {
     Value::Real(Real { millionths })
 }
 
-fn stamp(rt: &HostRuntime, seconds: i64, part: Part) -> Value {
-    Value::Stamp(Stamp::new(seconds, part).expect(rt, "no such stamp"))
+fn stamp(seconds: i64, part: Part) -> Result<Value, Fail> {
+    Ok(Value::Stamp(Stamp::new(seconds, part).ok_or("no such stamp")?))
 }
 
 fn one(rt: &HostRuntime, function: Function, a: Value) -> Result<Value, Fail> {
@@ -95,9 +94,9 @@ fn steps(rt: HostRuntime) -> Result<(), Fail> {
     assert_eq!(rt; two(&rt, Function::Quantize, Value::Int(-7), Value::Int(5))?, Value::Int(-10));
     assert_eq!(rt; two(&rt, Function::Quantize, real(7_250_000), real(500_000))?, real(7_000_000));
     assert_eq!(rt; two(&rt, Function::Quantize, Value::Int(7), Value::Int(0))?, Value::Null);
-    let moment = stamp(&rt, 3_725, Part::Both);
-    assert_eq!(rt; two(&rt, Function::Quantize, moment, Value::Int(3600))?, stamp(&rt, 3_600, Part::Both));
-    let first = stamp(&rt, -62_135_596_800, Part::Both);
+    let moment = stamp(3_725, Part::Both)?;
+    assert_eq!(rt; two(&rt, Function::Quantize, moment, Value::Int(3600))?, stamp(3_600, Part::Both)?);
+    let first = stamp(-62_135_596_800, Part::Both)?;
     assert_eq!(rt; two(&rt, Function::Quantize, first, Value::Int(i64::MAX))?, Value::Null);
     assert_eq!(rt; one(&rt, Function::Quantize, Value::Int(7))?, Value::Null);
     Ok(())
@@ -123,11 +122,11 @@ fn texts_of_values(rt: HostRuntime) -> Result<(), Fail> {
     assert_eq!(rt; one(&rt, Function::ToString, Value::Int(-9_223_372_036_854_775_807))?, text(&rt, "-9223372036854775807")?);
     assert_eq!(rt; one(&rt, Function::ToString, real(-50))?, text(&rt, "-0.000050")?);
     assert_eq!(rt; one(&rt, Function::ToString, text(&rt, "aé€")?)?, text(&rt, "aé€")?);
-    assert_eq!(rt; one(&rt, Function::ToString, stamp(&rt, 0, Part::Both))?, text(&rt, "1970-01-01 00:00:00")?);
+    assert_eq!(rt; one(&rt, Function::ToString, stamp(0, Part::Both)?)?, text(&rt, "1970-01-01 00:00:00")?);
     assert_eq!(rt; one(&rt, Function::ToString, Value::Null)?, Value::Null);
-    let day = stamp(&rt, 971_136_000, Part::Date);
+    let day = stamp(971_136_000, Part::Date)?;
     assert_eq!(rt; two(&rt, Function::ToString, day, text(&rt, "d MMM yyyy€")?)?, text(&rt, "10 Oct 2000€")?);
-    let day = stamp(&rt, 971_136_000, Part::Date);
+    let day = stamp(971_136_000, Part::Date)?;
     assert_eq!(rt; two(&rt, Function::ToString, day, text(&rt, "day")?)?, Value::Null);
     assert_eq!(rt; two(&rt, Function::ToString, Value::Int(1), text(&rt, "d")?)?, Value::Null);
     Ok(())
@@ -136,14 +135,14 @@ fn texts_of_values(rt: HostRuntime) -> Result<(), Fail> {
 #[test]
 fn stamps(rt: HostRuntime) -> Result<(), Fail> {
     let read = two(&rt, Function::ToTimestamp, text(&rt, "2000-10-10")?, text(&rt, "yyyy-MM-dd")?)?;
-    assert_eq!(rt; read, stamp(&rt, 971_136_000, Part::Date));
+    assert_eq!(rt; read, stamp(971_136_000, Part::Date)?);
     assert_eq!(rt; two(&rt, Function::ToTimestamp, text(&rt, "2001-02-29")?, text(&rt, "yyyy-MM-dd")?)?, Value::Null);
     assert_eq!(rt; two(&rt, Function::ToTimestamp, text(&rt, "1")?, text(&rt, "")?)?, Value::Null);
-    let day = stamp(&rt, 86_400, Part::Date);
-    let time = stamp(&rt, 61, Part::Time);
-    assert_eq!(rt; two(&rt, Function::ToTimestamp, day, time)?, stamp(&rt, 86_461, Part::Both));
-    assert_eq!(rt; one(&rt, Function::ToDate, stamp(&rt, -1, Part::Both))?, stamp(&rt, -86_400, Part::Date));
-    assert_eq!(rt; one(&rt, Function::ToTime, stamp(&rt, -1, Part::Both))?, stamp(&rt, 86_399, Part::Time));
+    let day = stamp(86_400, Part::Date)?;
+    let time = stamp(61, Part::Time)?;
+    assert_eq!(rt; two(&rt, Function::ToTimestamp, day, time)?, stamp(86_461, Part::Both)?);
+    assert_eq!(rt; one(&rt, Function::ToDate, stamp(-1, Part::Both)?)?, stamp(-86_400, Part::Date)?);
+    assert_eq!(rt; one(&rt, Function::ToTime, stamp(-1, Part::Both)?)?, stamp(86_399, Part::Time)?);
     assert_eq!(rt; one(&rt, Function::ToDate, Value::Int(0))?, Value::Null);
     Ok(())
 }
