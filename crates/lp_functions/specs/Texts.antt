@@ -1,5 +1,5 @@
 -- Texts as values.
-use Rattle.std.specs.Prelude.{ℕ, List, length, nat_le, if◌then◌else◌, Result, Ok, Err}
+use Rattle.std.specs.Prelude.{ℕ, List, Result, Ok, Err}
 use Rattle.std.specs.Str.Lossy.{utf8_lossy}
 use Rattle.lp_values.specs.declared.value.Value.{Value}
 use Rattle.lp_values.specs.declared.value.Value.TheVariants.{Null, Int, Real, Text, Stamp}
@@ -9,10 +9,12 @@ use Rattle.lp_values.specs.Printed.{printed}
 use Rattle.lp_time.specs.declared.piece.Piece.{Piece}
 use Rattle.lp_time.specs.Patterns.{pattern_in}
 use Rattle.lp_time.specs.Writings.{written}
+use Rattle.slot_reading.specs.Slots.{or_null}
+use Rattle.text_functions.specs.Replacing.{within}
 
 -- a text of at most 16,777,216 bytes; a longer one is NULL
 abbrev pub text_value : List ℕ → Value
-text_value text = if nat_le (length text) 16_777_216 then Text text else Null
+text_value text = or_null Text (within 16_777_216 text)
 
 -- TO_STRING(V)
 abbrev pub to_string : Value → Value

@@ -7,7 +7,10 @@
 mod addresses;
 mod applying;
 mod choices;
+mod counting;
+mod cutting;
 mod function;
+mod making;
 mod moments;
 mod numbers;
 mod place;
@@ -15,6 +18,7 @@ mod table;
 #[cfg(test)]
 mod tests;
 mod texts;
+mod tokens;
 mod urls;
 
 pub use applying::apply;

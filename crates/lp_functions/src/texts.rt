@@ -1,10 +1,11 @@
 // Values as texts.
-ghost use Rattle.std.specs.Prelude.{◌≡◌, IfOk};
+ghost use Rattle.std.specs.Prelude.{◌≡◌, IfOk, option_copied};
 ghost use Rattle.std.specs.Fmt.{signed_decimal};
 ghost use Rattle.std.specs.Str.Lossy.{utf8_lossy};
 ghost use Rattle.lp_values.specs.Civil.{civil_of};
 ghost use Rattle.lp_values.specs.Printed.{printed, printed_real, printed_stamp};
 ghost use Rattle.lp_time.specs.Writings.{written};
+ghost use Rattle.slot_reading.specs.Slots.{or_null};
 ghost use Rattle.lp_functions.specs.Texts.{text_value, to_string, to_string_by};
 
 use itoa::Buffer;
@@ -13,7 +14,7 @@ use lp_values::{Bytes, Real, Stamp, Text, Value, print};
 use std::alloc::{AllocError, Global};
 
 // The most bytes that a function's text may have.
-const LONGEST: usize = 16_777_216;
+pub(crate) const LONGEST: usize = 16_777_216;
 
 /// A text, or NULL where it is too long.
 pub(crate) fn text_value(text: Text) -> Value
@@ -23,6 +24,37 @@ pub(crate) fn text_value(text: Text) -> Value
         Value::Text(text)
     } else {
         Value::Null
+    }
+}
+
+/// A text that was made, or NULL where it was too long.
+pub(crate) fn made(text: Option<Text>) -> Value
+    ensures { result ≡ or_null Value.Text text }
+{
+    match text {
+        Some(text) => Value::Text(text),
+        None => Value::Null,
+    }
+}
+
+/// A copy of a text, or NULL where it is too long.
+pub(crate) fn text_of(alloc: Global, text: &str) -> Result<Value, AllocError>
+    ensures { IfOk result (λ value. value ≡ text_value text.now) }
+{
+    if text.len() <= LONGEST {
+        Ok(Value::Text(Text::from_str(alloc, text)?))
+    } else {
+        Ok(Value::Null)
+    }
+}
+
+/// A copy of a part of a text, where there is one.
+pub(crate) fn part_of(alloc: Global, text: Option<&str>) -> Result<Value, AllocError>
+    ensures { IfOk result (λ value. value ≡ or_null text_value (option_copied text.entry)) }
+{
+    match text {
+        Some(text) => text_of(alloc, text),
+        None => Ok(Value::Null),
     }
 }
 

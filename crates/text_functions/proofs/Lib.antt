@@ -1,0 +1,9 @@
+mod CharacterLemmas
+mod Cutting
+mod LikeLemmas
+mod PieceLemmas
+mod PlaceLemmas
+mod PrefixLemmas
+mod ReplaceLemmas
+mod TokenLemmas
+mod ValueLemmas
