@@ -6,12 +6,20 @@ use crate::Function;
 use crate::addresses::{int_to_ipv4, ipv4_to_int};
 use crate::choices::{coalesced, replaced_if_not_null};
 use crate::counting::{index_of_value, last_index_of_value, strcnt_value, strlen_value};
-use crate::cutting::{extract_extension_value, extract_filename_value, extract_path_value, ltrim_value, rest_from_value, rtrim_value, substr_value, trim_value};
-use crate::making::{replace_chr_value, replace_str_value, strcat_value, to_lowercase_value, to_uppercase_value};
+use crate::cutting::{
+    extract_extension_value, extract_filename_value, extract_path_value, ltrim_value,
+    rest_from_value, rtrim_value, substr_value, trim_value,
+};
+use crate::making::{
+    replace_chr_value, replace_str_value, strcat_value, to_lowercase_value, to_uppercase_value,
+};
 use crate::moments::{to_date, to_time, to_timestamp};
 use crate::numbers::{quantized_value, to_int, to_real};
 use crate::texts::{to_string, to_string_by};
-use crate::tokens::{extract_prefix_value, extract_suffix_value, extract_token_value, extract_value_value, token_of_list_value, value_of_query_value};
+use crate::tokens::{
+    extract_prefix_value, extract_suffix_value, extract_token_value, extract_value_value,
+    token_of_list_value, value_of_query_value,
+};
 use crate::urls::{url_escape, url_unescape};
 use lp_values::{Value, ValueList, add, div, modulo, mul, sub};
 use std::alloc::{AllocError, Global};
@@ -55,7 +63,13 @@ fn apply_to_one(alloc: Global, function: Function, a: &Value) -> Result<Value, A
     }
 }
 
-fn apply_to_two(alloc: Global, function: Function, both: &[Value], a: &Value, b: &Value) -> Result<Value, AllocError>
+fn apply_to_two(
+    alloc: Global,
+    function: Function,
+    both: &[Value],
+    a: &Value,
+    b: &Value,
+) -> Result<Value, AllocError>
     requires { both.now ≡ a.now ∷ b.now ∷ [] }
     ensures { IfOk result (λ value. value ≡ applied_to_two function a.now b.now) }
 {
@@ -81,7 +95,14 @@ fn apply_to_two(alloc: Global, function: Function, both: &[Value], a: &Value, b:
     }
 }
 
-fn apply_to_three(alloc: Global, function: Function, all: &[Value], a: &Value, b: &Value, c: &Value) -> Result<Value, AllocError>
+fn apply_to_three(
+    alloc: Global,
+    function: Function,
+    all: &[Value],
+    a: &Value,
+    b: &Value,
+    c: &Value,
+) -> Result<Value, AllocError>
     requires { all.now ≡ a.now ∷ b.now ∷ c.now ∷ [] }
     ensures { IfOk result (λ value. value ≡ applied_to_three function a.now b.now c.now) }
 {
@@ -98,7 +119,11 @@ fn apply_to_three(alloc: Global, function: Function, all: &[Value], a: &Value, b
     }
 }
 
-fn apply_to_more(alloc: Global, function: Function, arguments: &[Value]) -> Result<Value, AllocError>
+fn apply_to_more(
+    alloc: Global,
+    function: Function,
+    arguments: &[Value],
+) -> Result<Value, AllocError>
     ensures { IfOk result (λ value. value ≡ applied_to_more function arguments.now) }
 {
     match function {

@@ -37,7 +37,10 @@ pub(crate) fn strcnt_value(a: &Value, b: &Value) -> Value
     ensures { result ≡ strcnt_value a.now b.now }
 {
     match (a, b) {
-        (Value::Text(text), Value::Text(part)) => number_value(strcnt(text.as_str(), part.as_str())),
+        (Value::Text(text), Value::Text(part)) => number_value(strcnt(
+            text.as_str(),
+            part.as_str(),
+        )),
         _ => Value::Null,
     }
 }
@@ -46,7 +49,10 @@ pub(crate) fn index_of_value(a: &Value, b: &Value) -> Value
     ensures { result ≡ index_of_value a.now b.now }
 {
     match (a, b) {
-        (Value::Text(text), Value::Text(part)) => position_value(index_of(text.as_str(), part.as_str())),
+        (Value::Text(text), Value::Text(part)) => position_value(index_of(
+            text.as_str(),
+            part.as_str(),
+        )),
         _ => Value::Null,
     }
 }
@@ -55,7 +61,10 @@ pub(crate) fn last_index_of_value(a: &Value, b: &Value) -> Value
     ensures { result ≡ last_index_of_value a.now b.now }
 {
     match (a, b) {
-        (Value::Text(text), Value::Text(part)) => position_value(last_index_of(text.as_str(), part.as_str())),
+        (Value::Text(text), Value::Text(part)) => position_value(last_index_of(
+            text.as_str(),
+            part.as_str(),
+        )),
         _ => Value::Null,
     }
 }

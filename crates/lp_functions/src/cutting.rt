@@ -5,7 +5,9 @@ ghost use Rattle.lp_functions.specs.Cutting.{trim_value, ltrim_value, rtrim_valu
 use crate::texts::{part_of, text_of};
 use lp_values::Value;
 use std::alloc::{AllocError, Global};
-use text_functions::{extract_extension, extract_filename, extract_path, ltrim, rtrim, substr, trim};
+use text_functions::{
+    extract_extension, extract_filename, extract_path, ltrim, rtrim, substr, trim,
+};
 
 pub(crate) fn trim_value(alloc: Global, a: &Value) -> Result<Value, AllocError>
     ensures { IfOk result (λ value. value ≡ trim_value a.now) }
@@ -70,11 +72,19 @@ pub(crate) fn rest_from_value(alloc: Global, a: &Value, b: &Value) -> Result<Val
     }
 }
 
-pub(crate) fn substr_value(alloc: Global, a: &Value, b: &Value, c: &Value) -> Result<Value, AllocError>
+pub(crate) fn substr_value(
+    alloc: Global,
+    a: &Value,
+    b: &Value,
+    c: &Value,
+) -> Result<Value, AllocError>
     ensures { IfOk result (λ value. value ≡ substr_value a.now b.now c.now) }
 {
     match (a, b, c) {
-        (Value::Text(text), Value::Int(from), Value::Int(most)) => part_of(alloc, substr(text.as_str(), *from, Some(*most))),
+        (Value::Text(text), Value::Int(from), Value::Int(most)) => part_of(
+            alloc,
+            substr(text.as_str(), *from, Some(*most)),
+        ),
         _ => Ok(Value::Null),
     }
 }

@@ -11,25 +11,52 @@ pub(crate) fn strcat_value(alloc: Global, a: &Value, b: &Value) -> Result<Value,
     ensures { IfOk result (λ value. value ≡ strcat_value a.now b.now) }
 {
     match (a, b) {
-        (Value::Text(first), Value::Text(second)) => Ok(made(strcat(alloc, first.as_str(), second.as_str(), LONGEST)?)),
+        (Value::Text(first), Value::Text(second)) => Ok(made(strcat(
+            alloc,
+            first.as_str(),
+            second.as_str(),
+            LONGEST,
+        )?)),
         _ => Ok(Value::Null),
     }
 }
 
-pub(crate) fn replace_str_value(alloc: Global, a: &Value, b: &Value, c: &Value) -> Result<Value, AllocError>
+pub(crate) fn replace_str_value(
+    alloc: Global,
+    a: &Value,
+    b: &Value,
+    c: &Value,
+) -> Result<Value, AllocError>
     ensures { IfOk result (λ value. value ≡ replace_str_value a.now b.now c.now) }
 {
     match (a, b, c) {
-        (Value::Text(text), Value::Text(part), Value::Text(by)) => Ok(made(replace_str(alloc, text.as_str(), part.as_str(), by.as_str(), LONGEST)?)),
+        (Value::Text(text), Value::Text(part), Value::Text(by)) => Ok(made(replace_str(
+            alloc,
+            text.as_str(),
+            part.as_str(),
+            by.as_str(),
+            LONGEST,
+        )?)),
         _ => Ok(Value::Null),
     }
 }
 
-pub(crate) fn replace_chr_value(alloc: Global, a: &Value, b: &Value, c: &Value) -> Result<Value, AllocError>
+pub(crate) fn replace_chr_value(
+    alloc: Global,
+    a: &Value,
+    b: &Value,
+    c: &Value,
+) -> Result<Value, AllocError>
     ensures { IfOk result (λ value. value ≡ replace_chr_value a.now b.now c.now) }
 {
     match (a, b, c) {
-        (Value::Text(text), Value::Text(some), Value::Text(by)) => Ok(made(replace_chr(alloc, text.as_str(), some.as_str(), by.as_str(), LONGEST)?)),
+        (Value::Text(text), Value::Text(some), Value::Text(by)) => Ok(made(replace_chr(
+            alloc,
+            text.as_str(),
+            some.as_str(),
+            by.as_str(),
+            LONGEST,
+        )?)),
         _ => Ok(Value::Null),
     }
 }

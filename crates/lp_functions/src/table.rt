@@ -28,7 +28,11 @@ fn joined(a: Option<Kind>, b: Option<Kind>) -> Option<Kind>
 fn given(places: &[Place], kind: Kind, kinds: &[Kind]) -> Option<Kind>
     ensures { result ≡ given (always places.now kind) kinds.now }
 {
-    if fits(places, kinds) { Some(kind) } else { None }
+    if fits(places, kinds) {
+        Some(kind)
+    } else {
+        None
+    }
 }
 
 fn has(kinds: &[Kind], wanted: Kind) -> bool
@@ -76,7 +80,11 @@ fn fits_all(place: Place, kinds: &[Kind]) -> bool
 fn all(place: Place, kind: Kind, kinds: &[Kind]) -> Option<Kind>
     ensures { result ≡ given (always (replicate (length kinds.now) place) kind) kinds.now }
 {
-    if fits_all(place, kinds) { Some(kind) } else { None }
+    if fits_all(place, kinds) {
+        Some(kind)
+    } else {
+        None
+    }
 }
 
 fn one_kind(kinds: &[Kind]) -> Option<Kind>
@@ -140,7 +148,8 @@ impl Function {
         ensures { result ≡ kind_of_call self kinds.now }
     {
         match self {
-            Function::Add | Function::Sub | Function::Mul | Function::Div | Function::Mod => numbers(kinds),
+            Function::Add | Function::Sub | Function::Mul | Function::Div | Function::Mod =>
+                numbers(kinds),
             Function::Quantize => joined(
                 numbers(kinds),
                 given(&[Place::Stamp, Place::Integer], Kind::Stamp, kinds),
@@ -165,18 +174,30 @@ impl Function {
             }
             Function::Substr => joined(
                 given(&[Place::Text, Place::Integer], Kind::Text, kinds),
-                given(&[Place::Text, Place::Integer, Place::Integer], Kind::Text, kinds),
+                given(
+                    &[Place::Text, Place::Integer, Place::Integer],
+                    Kind::Text,
+                    kinds,
+                ),
             ),
             Function::ExtractToken => joined(
                 given(&[Place::Text, Place::Integer], Kind::Text, kinds),
-                given(&[Place::Text, Place::Integer, Place::Text], Kind::Text, kinds),
+                given(
+                    &[Place::Text, Place::Integer, Place::Text],
+                    Kind::Text,
+                    kinds,
+                ),
             ),
             Function::ExtractValue => joined(
                 given(&[Place::Text, Place::Text], Kind::Text, kinds),
                 given(&[Place::Text, Place::Text, Place::Text], Kind::Text, kinds),
             ),
             Function::ExtractPrefix | Function::ExtractSuffix => {
-                given(&[Place::Text, Place::Integer, Place::Text], Kind::Text, kinds)
+                given(
+                    &[Place::Text, Place::Integer, Place::Text],
+                    Kind::Text,
+                    kinds,
+                )
             }
             Function::ToString => joined(
                 given(&[Place::Value], Kind::Text, kinds),

@@ -1,185 +1,348 @@
 // Cases worked out by hand.
 use super::*;
-use lp_values::{Kind, Part, Real, Stamp, Text, Value, ValueList};
+use lp_values::{Kind, Part, ValueList};
+use std::alloc::{AllocError, Global};
 use std::test::Fail;
 
-fn text(rt: &HostRuntime, text: &str) -> Result<Value, Fail> {
-    Ok(Value::Text(Text::from_str(rt.alloc(), text)?))
+// A value that takes no memory.
+#[derive(Clone, Copy)]
+enum Cell {
+    Null,
+    Int(i64),
+    Real(i64),
+    Text(&'static str),
+    Stamp(i64, Part),
 }
 
-fn real(millionths: i64) -> Value {
-    Value::Real(Real { millionths })
+use Cell::{Int, Null, Real, Stamp, Text};
+
+struct Case(Function, &'static [Cell], Cell);
+
+fn value(alloc: Global, cell: Cell) -> Result<lp_values::Value, AllocError> {
+    match cell {
+        Null => Ok(lp_values::Value::Null),
+        Int(number) => Ok(lp_values::Value::Int(number)),
+        Real(millionths) => Ok(lp_values::Value::Real(lp_values::Real { millionths })),
+        Text(text) => Ok(lp_values::Value::Text(lp_values::Text::from_str(alloc, text)?)),
+        Stamp(seconds, part) => match lp_values::Stamp::new(seconds, part) {
+            Some(stamp) => Ok(lp_values::Value::Stamp(stamp)),
+            None => Ok(lp_values::Value::Null),
+        },
+    }
 }
 
-fn stamp(seconds: i64, part: Part) -> Result<Value, Fail> {
-    Ok(Value::Stamp(Stamp::new(seconds, part).ok_or("no such stamp")?))
+fn values(alloc: Global, cells: &[Cell]) -> Result<ValueList, AllocError> {
+    let mut values = ValueList::new(alloc);
+    for cell in cells {
+        values.push(value(alloc, *cell)?)?;
+    }
+    Ok(values)
 }
 
-fn one(rt: &HostRuntime, function: Function, a: Value) -> Result<Value, Fail> {
-    let mut arguments = ValueList::new(rt.alloc());
-    arguments.push(a)?;
-    Ok(apply(rt.alloc(), function, &arguments)?)
-}
-
-fn two(rt: &HostRuntime, function: Function, a: Value, b: Value) -> Result<Value, Fail> {
-    let mut arguments = ValueList::new(rt.alloc());
-    arguments.push(a)?;
-    arguments.push(b)?;
-    Ok(apply(rt.alloc(), function, &arguments)?)
+// The place of the first case that gives something else.
+fn first_wrong(alloc: Global, cases: &[Case]) -> Result<Option<usize>, AllocError> {
+    for (place, case) in cases.iter().enumerate() {
+        let given = apply(alloc, case.0, &values(alloc, case.1)?)?;
+        if given != value(alloc, case.2)? {
+            return Ok(Some(place));
+        }
+    }
+    Ok(None)
 }
 
 #[test]
 fn names(rt: HostRuntime) {
-    assert_eq!(rt; Function::by_name("strlen"), Some(Function::Strlen));
-    assert_eq!(rt; Function::by_name("Replace_If_Not_Null"), Some(Function::ReplaceIfNotNull));
+    assert_eq!(rt;
+        Function::by_name("Replace_If_Not_Null"),
+        Some(Function::ReplaceIfNotNull)
+    );
     assert_eq!(rt; Function::by_name("SYSTEM_DATE"), None);
-    assert_eq!(rt; Function::by_name("COUNT"), None);
     assert_eq!(rt; Function::by_name(""), None);
     assert_eq!(rt; Function::Ipv4ToInt.name(), "IPV4_TO_INT");
 }
 
 #[test]
 fn kinds(rt: HostRuntime) {
-    assert_eq!(rt; Function::Add.kind(&[Kind::Integer, Kind::Integer]), Some(Kind::Integer));
-    assert_eq!(rt; Function::Add.kind(&[Kind::Integer, Kind::Real]), Some(Kind::Real));
-    assert_eq!(rt; Function::Add.kind(&[Kind::Any, Kind::Integer]), Some(Kind::Integer));
-    assert_eq!(rt; Function::Add.kind(&[Kind::Any, Kind::Any]), Some(Kind::Any));
-    assert_eq!(rt; Function::Add.kind(&[Kind::Text, Kind::Integer]), None);
-    assert_eq!(rt; Function::Quantize.kind(&[Kind::Stamp, Kind::Integer]), Some(Kind::Stamp));
-    assert_eq!(rt; Function::Quantize.kind(&[Kind::Any, Kind::Integer]), Some(Kind::Any));
-    assert_eq!(rt; Function::Quantize.kind(&[Kind::Any, Kind::Real]), Some(Kind::Real));
-    assert_eq!(rt; Function::ToString.kind(&[Kind::Stamp, Kind::Text]), Some(Kind::Text));
-    assert_eq!(rt; Function::ToInt.kind(&[Kind::Stamp]), None);
-}
-
-#[test]
-fn more_kinds(rt: HostRuntime) {
-    let mixed = [Kind::Integer, Kind::Any, Kind::Integer];
-    assert_eq!(rt; Function::Coalesce.kind(&mixed), Some(Kind::Integer));
-    assert_eq!(rt; Function::Coalesce.kind(&[Kind::Text]), None);
+    assert_eq!(rt;
+        Function::Add.kind(&[Kind::Integer, Kind::Real]),
+        Some(Kind::Real)
+    );
+    assert_eq!(rt;
+        Function::Add.kind(&[Kind::Any, Kind::Integer]),
+        Some(Kind::Integer)
+    );
+    assert_eq!(rt;
+        Function::Quantize.kind(&[Kind::Any, Kind::Integer]),
+        Some(Kind::Any)
+    );
     assert_eq!(rt; Function::Coalesce.kind(&[Kind::Integer, Kind::Real]), None);
-    assert_eq!(rt; Function::ReplaceIfNull.kind(&[Kind::Any, Kind::Any]), Some(Kind::Any));
-    assert_eq!(rt; Function::ReplaceIfNotNull.kind(&[Kind::Text, Kind::Stamp]), Some(Kind::Stamp));
-    assert_eq!(rt; Function::ToTimestamp.kind(&[Kind::Any, Kind::Any]), Some(Kind::Stamp));
-    assert_eq!(rt; Function::ToTimestamp.kind(&[Kind::Integer, Kind::Stamp]), None);
-    assert_eq!(rt; Function::Substr.kind(&[Kind::Text, Kind::Integer, Kind::Any]), Some(Kind::Text));
+    assert_eq!(rt;
+        Function::ReplaceIfNotNull.kind(&[Kind::Text, Kind::Stamp]),
+        Some(Kind::Stamp)
+    );
 }
 
 #[test]
 fn numbers_of_arguments(rt: HostRuntime) {
-    assert!(rt; Function::Substr.takes(2) && Function::Substr.takes(3));
-    assert!(rt; !Function::Substr.takes(1) && !Function::Substr.takes(4));
-    assert!(rt; Function::Coalesce.takes(2) && Function::Coalesce.takes(9));
-    assert!(rt; !Function::Coalesce.takes(1) && !Function::Strlen.takes(0));
-    assert_eq!(rt; Function::ToString.pattern_place(&[Kind::Any, Kind::Any]), Some(1));
-    assert_eq!(rt; Function::ToString.pattern_place(&[Kind::Any]), None);
-    assert_eq!(rt; Function::ToTimestamp.pattern_place(&[Kind::Text, Kind::Any]), Some(1));
-    assert_eq!(rt; Function::ToTimestamp.pattern_place(&[Kind::Any, Kind::Stamp]), None);
+    assert!(rt; Function::Substr.takes(3));
+    assert!(rt; !Function::Coalesce.takes(1));
+    assert_eq!(rt;
+        Function::ToTimestamp.pattern_place(&[Kind::Text, Kind::Any]),
+        Some(1)
+    );
+    assert_eq!(rt;
+        Function::ToTimestamp.pattern_place(&[Kind::Any, Kind::Stamp]),
+        None
+    );
 }
 
 #[test]
-fn arithmetic(rt: HostRuntime) -> Result<(), Fail> {
-    assert_eq!(rt; two(&rt, Function::Add, Value::Int(2), Value::Int(3))?, Value::Int(5));
-    assert_eq!(rt; two(&rt, Function::Sub, Value::Int(2), real(500_000))?, real(1_500_000));
-    assert_eq!(rt; two(&rt, Function::Mul, Value::Int(i64::MAX), Value::Int(2))?, Value::Null);
-    assert_eq!(rt; two(&rt, Function::Div, real(1_000_000), Value::Int(3))?, real(333_333));
-    assert_eq!(rt; two(&rt, Function::Mod, Value::Int(-7), Value::Int(3))?, Value::Int(-1));
-    assert_eq!(rt; two(&rt, Function::Div, Value::Int(1), Value::Int(0))?, Value::Null);
-    assert_eq!(rt; two(&rt, Function::Add, Value::Null, Value::Int(3))?, Value::Null);
+fn numbers(rt: HostRuntime) -> Result<(), Fail> {
+    let wrong = first_wrong(
+        rt.alloc(),
+        &[
+            Case(Function::Add, &[Int(2), Int(3)], Int(5)),
+            Case(Function::Add, &[Null, Int(3)], Null),
+            Case(Function::Sub, &[Int(2), Real(500_000)], Real(1_500_000)),
+            Case(
+                Function::Mul,
+                &[Int(9_223_372_036_854_775_807), Int(2)],
+                Null,
+            ),
+            Case(Function::Div, &[Real(1_000_000), Int(3)], Real(333_333)),
+            Case(Function::Div, &[Int(1), Int(0)], Null),
+            Case(Function::Mod, &[Int(-7), Int(3)], Int(-1)),
+            Case(Function::Quantize, &[Int(-7), Int(5)], Int(-10)),
+            Case(
+                Function::Quantize,
+                &[Real(7_250_000), Real(500_000)],
+                Real(7_000_000),
+            ),
+            Case(Function::Quantize, &[Int(7), Int(0)], Null),
+            Case(
+                Function::Quantize,
+                &[Stamp(3_725, Part::Both), Int(3_600)],
+                Stamp(3_600, Part::Both),
+            ),
+            Case(
+                Function::Quantize,
+                &[
+                    Stamp(-62_135_596_800, Part::Both),
+                    Int(9_223_372_036_854_775_807),
+                ],
+                Null,
+            ),
+            Case(Function::ToInt, &[Real(-1_999_999)], Int(-1)),
+            Case(Function::ToInt, &[Text("+042")], Int(42)),
+            Case(Function::ToInt, &[Text("9223372036854775808")], Null),
+            Case(Function::ToInt, &[Text("")], Null),
+            Case(
+                Function::ToReal,
+                &[Int(9_223_372_036_854)],
+                Real(9_223_372_036_854_000_000),
+            ),
+            Case(Function::ToReal, &[Int(9_223_372_036_855)], Null),
+            Case(Function::ToReal, &[Text("-3")], Real(-3_000_000)),
+            Case(Function::ToReal, &[Text(".5")], Real(500_000)),
+            Case(Function::ToReal, &[Text("5.")], Null),
+        ],
+    )?;
+    assert_eq!(rt; wrong, None);
     Ok(())
 }
 
 #[test]
-fn steps(rt: HostRuntime) -> Result<(), Fail> {
-    assert_eq!(rt; two(&rt, Function::Quantize, Value::Int(-7), Value::Int(5))?, Value::Int(-10));
-    assert_eq!(rt; two(&rt, Function::Quantize, real(7_250_000), real(500_000))?, real(7_000_000));
-    assert_eq!(rt; two(&rt, Function::Quantize, Value::Int(7), Value::Int(0))?, Value::Null);
-    let moment = stamp(3_725, Part::Both)?;
-    assert_eq!(rt; two(&rt, Function::Quantize, moment, Value::Int(3600))?, stamp(3_600, Part::Both)?);
-    let first = stamp(-62_135_596_800, Part::Both)?;
-    assert_eq!(rt; two(&rt, Function::Quantize, first, Value::Int(i64::MAX))?, Value::Null);
-    assert_eq!(rt; one(&rt, Function::Quantize, Value::Int(7))?, Value::Null);
+fn moments(rt: HostRuntime) -> Result<(), Fail> {
+    let wrong = first_wrong(
+        rt.alloc(),
+        &[
+            Case(
+                Function::ToString,
+                &[Int(-9_223_372_036_854_775_807)],
+                Text("-9223372036854775807"),
+            ),
+            Case(Function::ToString, &[Real(-50)], Text("-0.000050")),
+            Case(Function::ToString, &[Text("aé€")], Text("aé€")),
+            Case(
+                Function::ToString,
+                &[Stamp(0, Part::Both)],
+                Text("1970-01-01 00:00:00"),
+            ),
+            Case(Function::ToString, &[Null], Null),
+            Case(
+                Function::ToString,
+                &[Stamp(971_136_000, Part::Date), Text("d MMM yyyy€")],
+                Text("10 Oct 2000€"),
+            ),
+            Case(
+                Function::ToString,
+                &[Stamp(971_136_000, Part::Date), Text("day")],
+                Null,
+            ),
+            Case(Function::ToString, &[Int(1), Text("d")], Null),
+            Case(
+                Function::ToTimestamp,
+                &[Text("2000-10-10"), Text("yyyy-MM-dd")],
+                Stamp(971_136_000, Part::Date),
+            ),
+            Case(
+                Function::ToTimestamp,
+                &[Text("2001-02-29"), Text("yyyy-MM-dd")],
+                Null,
+            ),
+            Case(Function::ToTimestamp, &[Text("1"), Text("")], Null),
+            Case(
+                Function::ToTimestamp,
+                &[Stamp(86_400, Part::Date), Stamp(61, Part::Time)],
+                Stamp(86_461, Part::Both),
+            ),
+            Case(
+                Function::ToDate,
+                &[Stamp(-1, Part::Both)],
+                Stamp(-86_400, Part::Date),
+            ),
+            Case(
+                Function::ToTime,
+                &[Stamp(-1, Part::Both)],
+                Stamp(86_399, Part::Time),
+            ),
+            Case(Function::ToDate, &[Int(0)], Null),
+        ],
+    )?;
+    assert_eq!(rt; wrong, None);
     Ok(())
 }
 
 #[test]
-fn conversions(rt: HostRuntime) -> Result<(), Fail> {
-    assert_eq!(rt; one(&rt, Function::ToInt, real(-1_999_999))?, Value::Int(-1));
-    assert_eq!(rt; one(&rt, Function::ToInt, text(&rt, "+042")?)?, Value::Int(42));
-    assert_eq!(rt; one(&rt, Function::ToInt, text(&rt, "9223372036854775808")?)?, Value::Null);
-    assert_eq!(rt; one(&rt, Function::ToInt, text(&rt, "")?)?, Value::Null);
-    assert_eq!(rt; one(&rt, Function::ToReal, Value::Int(9_223_372_036_854))?, real(9_223_372_036_854_000_000));
-    assert_eq!(rt; one(&rt, Function::ToReal, Value::Int(9_223_372_036_855))?, Value::Null);
-    assert_eq!(rt; one(&rt, Function::ToReal, text(&rt, "-3")?)?, real(-3_000_000));
-    assert_eq!(rt; one(&rt, Function::ToReal, text(&rt, ".5")?)?, real(500_000));
-    assert_eq!(rt; one(&rt, Function::ToReal, text(&rt, "5.")?)?, Value::Null);
-    assert_eq!(rt; one(&rt, Function::ToReal, Value::Null)?, Value::Null);
+fn urls_choices_and_addresses(rt: HostRuntime) -> Result<(), Fail> {
+    let wrong = first_wrong(
+        rt.alloc(),
+        &[
+            Case(
+                Function::Urlescape,
+                &[Text("a~b é/")],
+                Text("a~b%20%C3%A9%2F"),
+            ),
+            Case(Function::Urlescape, &[Text("")], Text("")),
+            Case(Function::Urlescape, &[Null], Null),
+            Case(
+                Function::Urlunescape,
+                &[Text("%c3%A9+%2g%")],
+                Text("é+%2g%"),
+            ),
+            Case(Function::Urlunescape, &[Text("a%FFb")], Text("a\u{FFFD}b")),
+            Case(Function::Coalesce, &[Null, Null, Int(3), Int(4)], Int(3)),
+            Case(Function::Coalesce, &[Int(1), Real(2)], Null),
+            Case(Function::Coalesce, &[Int(1)], Null),
+            Case(Function::ReplaceIfNull, &[Null, Text("-")], Text("-")),
+            Case(Function::ReplaceIfNull, &[Int(1), Int(2)], Int(1)),
+            Case(Function::ReplaceIfNotNull, &[Int(1), Text("x")], Text("x")),
+            Case(Function::ReplaceIfNotNull, &[Null, Text("x")], Null),
+            Case(
+                Function::Ipv4ToInt,
+                &[Text("255.255.255.255")],
+                Int(4_294_967_295),
+            ),
+            Case(Function::Ipv4ToInt, &[Text("1.02.003.4")], Int(16_909_060)),
+            Case(Function::Ipv4ToInt, &[Text("1.2.3.256")], Null),
+            Case(Function::Ipv4ToInt, &[Text("1.2.3")], Null),
+            Case(Function::Ipv4ToInt, &[Text("1.2.3.4.5")], Null),
+            Case(Function::Ipv4ToInt, &[Text("1..3.4")], Null),
+            Case(Function::IntToIpv4, &[Int(16_909_060)], Text("1.2.3.4")),
+            Case(
+                Function::IntToIpv4,
+                &[Int(4_294_967_295)],
+                Text("255.255.255.255"),
+            ),
+            Case(Function::IntToIpv4, &[Int(4_294_967_296)], Null),
+            Case(Function::IntToIpv4, &[Int(-1)], Null),
+        ],
+    )?;
+    assert_eq!(rt; wrong, None);
     Ok(())
 }
 
 #[test]
-fn texts_of_values(rt: HostRuntime) -> Result<(), Fail> {
-    assert_eq!(rt; one(&rt, Function::ToString, Value::Int(-9_223_372_036_854_775_807))?, text(&rt, "-9223372036854775807")?);
-    assert_eq!(rt; one(&rt, Function::ToString, real(-50))?, text(&rt, "-0.000050")?);
-    assert_eq!(rt; one(&rt, Function::ToString, text(&rt, "aé€")?)?, text(&rt, "aé€")?);
-    assert_eq!(rt; one(&rt, Function::ToString, stamp(0, Part::Both)?)?, text(&rt, "1970-01-01 00:00:00")?);
-    assert_eq!(rt; one(&rt, Function::ToString, Value::Null)?, Value::Null);
-    let day = stamp(971_136_000, Part::Date)?;
-    assert_eq!(rt; two(&rt, Function::ToString, day, text(&rt, "d MMM yyyy€")?)?, text(&rt, "10 Oct 2000€")?);
-    let day = stamp(971_136_000, Part::Date)?;
-    assert_eq!(rt; two(&rt, Function::ToString, day, text(&rt, "day")?)?, Value::Null);
-    assert_eq!(rt; two(&rt, Function::ToString, Value::Int(1), text(&rt, "d")?)?, Value::Null);
+fn texts(rt: HostRuntime) -> Result<(), Fail> {
+    let wrong = first_wrong(
+        rt.alloc(),
+        &[
+            Case(Function::Strlen, &[Text("aé€")], Int(3)),
+            Case(Function::Strcnt, &[Text("aaaa"), Text("aa")], Int(2)),
+            Case(Function::IndexOf, &[Text("é.b.c"), Text(".")], Int(1)),
+            Case(Function::LastIndexOf, &[Text("é.b.c"), Text(".")], Int(3)),
+            Case(Function::Strcat, &[Text("a"), Text("€")], Text("a€")),
+            Case(Function::Strcat, &[Text("a"), Null], Null),
+            Case(
+                Function::ReplaceStr,
+                &[Text("abab"), Text("b"), Text("")],
+                Text("aa"),
+            ),
+            Case(
+                Function::ReplaceChr,
+                &[Text("a-b_c"), Text("_-"), Text("é")],
+                Text("aébéc"),
+            ),
+            Case(Function::ToLowercase, &[Text("AÉ")], Text("aÉ")),
+            Case(Function::ToUppercase, &[Text("aé")], Text("Aé")),
+            Case(Function::Trim, &[Text(" \ta ")], Text("a")),
+            Case(Function::Ltrim, &[Text(" a ")], Text("a ")),
+            Case(Function::Rtrim, &[Text(" a ")], Text(" a")),
+            Case(Function::ExtractFilename, &[Text("/x/y.z")], Text("y.z")),
+            Case(Function::ExtractPath, &[Text("/x/y.z")], Text("/x")),
+            Case(Function::ExtractExtension, &[Text("/x/y.z")], Text("z")),
+            Case(Function::ExtractExtension, &[Text("/x.y/z")], Null),
+        ],
+    )?;
+    assert_eq!(rt; wrong, None);
     Ok(())
 }
 
 #[test]
-fn stamps(rt: HostRuntime) -> Result<(), Fail> {
-    let read = two(&rt, Function::ToTimestamp, text(&rt, "2000-10-10")?, text(&rt, "yyyy-MM-dd")?)?;
-    assert_eq!(rt; read, stamp(971_136_000, Part::Date)?);
-    assert_eq!(rt; two(&rt, Function::ToTimestamp, text(&rt, "2001-02-29")?, text(&rt, "yyyy-MM-dd")?)?, Value::Null);
-    assert_eq!(rt; two(&rt, Function::ToTimestamp, text(&rt, "1")?, text(&rt, "")?)?, Value::Null);
-    let day = stamp(86_400, Part::Date)?;
-    let time = stamp(61, Part::Time)?;
-    assert_eq!(rt; two(&rt, Function::ToTimestamp, day, time)?, stamp(86_461, Part::Both)?);
-    assert_eq!(rt; one(&rt, Function::ToDate, stamp(-1, Part::Both)?)?, stamp(-86_400, Part::Date)?);
-    assert_eq!(rt; one(&rt, Function::ToTime, stamp(-1, Part::Both)?)?, stamp(86_399, Part::Time)?);
-    assert_eq!(rt; one(&rt, Function::ToDate, Value::Int(0))?, Value::Null);
-    Ok(())
-}
-
-#[test]
-fn urls(rt: HostRuntime) -> Result<(), Fail> {
-    assert_eq!(rt; one(&rt, Function::Urlescape, text(&rt, "a~b é/")?)?, text(&rt, "a~b%20%C3%A9%2F")?);
-    assert_eq!(rt; one(&rt, Function::Urlescape, text(&rt, "")?)?, text(&rt, "")?);
-    assert_eq!(rt; one(&rt, Function::Urlescape, Value::Null)?, Value::Null);
-    assert_eq!(rt; one(&rt, Function::Urlunescape, text(&rt, "%c3%A9+%2g%")?)?, text(&rt, "é+%2g%")?);
-    assert_eq!(rt; one(&rt, Function::Urlunescape, text(&rt, "a%FFb")?)?, text(&rt, "a\u{FFFD}b")?);
-    Ok(())
-}
-
-#[test]
-fn choices(rt: HostRuntime) -> Result<(), Fail> {
-    assert_eq!(rt; two(&rt, Function::Coalesce, Value::Null, Value::Int(2))?, Value::Int(2));
-    assert_eq!(rt; two(&rt, Function::Coalesce, Value::Int(1), real(2))?, Value::Null);
-    assert_eq!(rt; one(&rt, Function::Coalesce, Value::Int(1))?, Value::Null);
-    assert_eq!(rt; two(&rt, Function::ReplaceIfNull, Value::Null, text(&rt, "-")?)?, text(&rt, "-")?);
-    assert_eq!(rt; two(&rt, Function::ReplaceIfNull, Value::Int(1), Value::Int(2))?, Value::Int(1));
-    assert_eq!(rt; two(&rt, Function::ReplaceIfNotNull, Value::Int(1), text(&rt, "x")?)?, text(&rt, "x")?);
-    assert_eq!(rt; two(&rt, Function::ReplaceIfNotNull, Value::Null, text(&rt, "x")?)?, Value::Null);
-    Ok(())
-}
-
-#[test]
-fn addresses(rt: HostRuntime) -> Result<(), Fail> {
-    assert_eq!(rt; one(&rt, Function::Ipv4ToInt, text(&rt, "255.255.255.255")?)?, Value::Int(4_294_967_295));
-    assert_eq!(rt; one(&rt, Function::Ipv4ToInt, text(&rt, "1.02.003.4")?)?, Value::Int(16_909_060));
-    assert_eq!(rt; one(&rt, Function::Ipv4ToInt, text(&rt, "1.2.3.256")?)?, Value::Null);
-    assert_eq!(rt; one(&rt, Function::Ipv4ToInt, text(&rt, "1.2.3")?)?, Value::Null);
-    assert_eq!(rt; one(&rt, Function::Ipv4ToInt, text(&rt, "1.2.3.4.5")?)?, Value::Null);
-    assert_eq!(rt; one(&rt, Function::Ipv4ToInt, text(&rt, "1..3.4")?)?, Value::Null);
-    assert_eq!(rt; one(&rt, Function::IntToIpv4, Value::Int(16_909_060))?, text(&rt, "1.2.3.4")?);
-    assert_eq!(rt; one(&rt, Function::IntToIpv4, Value::Int(4_294_967_295))?, text(&rt, "255.255.255.255")?);
-    assert_eq!(rt; one(&rt, Function::IntToIpv4, Value::Int(4_294_967_296))?, Value::Null);
-    assert_eq!(rt; one(&rt, Function::IntToIpv4, Value::Int(-1))?, Value::Null);
+fn parts_of_texts(rt: HostRuntime) -> Result<(), Fail> {
+    let wrong = first_wrong(
+        rt.alloc(),
+        &[
+            Case(
+                Function::Substr,
+                &[Text("aé€b"), Int(1), Int(2)],
+                Text("é€"),
+            ),
+            Case(Function::Substr, &[Text("aé€b"), Int(2)], Text("€b")),
+            Case(Function::Substr, &[Text("a"), Int(-1)], Null),
+            Case(Function::ExtractToken, &[Text("a,b,c"), Int(1)], Text("b")),
+            Case(
+                Function::ExtractToken,
+                &[Text("a;b;c"), Int(3), Text(";")],
+                Null,
+            ),
+            Case(
+                Function::ExtractValue,
+                &[Text("x=1&y=2"), Text("y")],
+                Text("2"),
+            ),
+            Case(
+                Function::ExtractValue,
+                &[Text("x=1;y=2"), Text("x"), Text(";")],
+                Text("1"),
+            ),
+            Case(
+                Function::ExtractPrefix,
+                &[Text("a.b.c"), Int(1), Text(".")],
+                Text("a.b"),
+            ),
+            Case(
+                Function::ExtractSuffix,
+                &[Text("a.b.c"), Int(0), Text(".")],
+                Text("c"),
+            ),
+            Case(
+                Function::ExtractSuffix,
+                &[Text("a.b.c"), Int(0), Int(1)],
+                Null,
+            ),
+        ],
+    )?;
+    assert_eq!(rt; wrong, None);
     Ok(())
 }

@@ -11,16 +11,27 @@ pub(crate) fn token_of_list_value(alloc: Global, a: &Value, b: &Value) -> Result
     ensures { IfOk result (λ value. value ≡ token_of_list_value a.now b.now) }
 {
     match (a, b) {
-        (Value::Text(text), Value::Int(index)) => part_of(alloc, extract_token(text.as_str(), *index, None)),
+        (Value::Text(text), Value::Int(index)) => part_of(
+            alloc,
+            extract_token(text.as_str(), *index, None),
+        ),
         _ => Ok(Value::Null),
     }
 }
 
-pub(crate) fn extract_token_value(alloc: Global, a: &Value, b: &Value, c: &Value) -> Result<Value, AllocError>
+pub(crate) fn extract_token_value(
+    alloc: Global,
+    a: &Value,
+    b: &Value,
+    c: &Value,
+) -> Result<Value, AllocError>
     ensures { IfOk result (λ value. value ≡ extract_token_value a.now b.now c.now) }
 {
     match (a, b, c) {
-        (Value::Text(text), Value::Int(index), Value::Text(separator)) => part_of(alloc, extract_token(text.as_str(), *index, Some(separator.as_str()))),
+        (Value::Text(text), Value::Int(index), Value::Text(separator)) => part_of(
+            alloc,
+            extract_token(text.as_str(), *index, Some(separator.as_str())),
+        ),
         _ => Ok(Value::Null),
     }
 }
@@ -29,34 +40,61 @@ pub(crate) fn value_of_query_value(alloc: Global, a: &Value, b: &Value) -> Resul
     ensures { IfOk result (λ value. value ≡ value_of_query_value a.now b.now) }
 {
     match (a, b) {
-        (Value::Text(text), Value::Text(name)) => part_of(alloc, extract_value(text.as_str(), name.as_str(), None)),
+        (Value::Text(text), Value::Text(name)) => part_of(
+            alloc,
+            extract_value(text.as_str(), name.as_str(), None),
+        ),
         _ => Ok(Value::Null),
     }
 }
 
-pub(crate) fn extract_value_value(alloc: Global, a: &Value, b: &Value, c: &Value) -> Result<Value, AllocError>
+pub(crate) fn extract_value_value(
+    alloc: Global,
+    a: &Value,
+    b: &Value,
+    c: &Value,
+) -> Result<Value, AllocError>
     ensures { IfOk result (λ value. value ≡ extract_value_value a.now b.now c.now) }
 {
     match (a, b, c) {
-        (Value::Text(text), Value::Text(name), Value::Text(separator)) => part_of(alloc, extract_value(text.as_str(), name.as_str(), Some(separator.as_str()))),
+        (Value::Text(text), Value::Text(name), Value::Text(separator)) => part_of(
+            alloc,
+            extract_value(text.as_str(), name.as_str(), Some(separator.as_str())),
+        ),
         _ => Ok(Value::Null),
     }
 }
 
-pub(crate) fn extract_prefix_value(alloc: Global, a: &Value, b: &Value, c: &Value) -> Result<Value, AllocError>
+pub(crate) fn extract_prefix_value(
+    alloc: Global,
+    a: &Value,
+    b: &Value,
+    c: &Value,
+) -> Result<Value, AllocError>
     ensures { IfOk result (λ value. value ≡ extract_prefix_value a.now b.now c.now) }
 {
     match (a, b, c) {
-        (Value::Text(text), Value::Int(index), Value::Text(separator)) => part_of(alloc, extract_prefix(text.as_str(), *index, separator.as_str())),
+        (Value::Text(text), Value::Int(index), Value::Text(separator)) => part_of(
+            alloc,
+            extract_prefix(text.as_str(), *index, separator.as_str()),
+        ),
         _ => Ok(Value::Null),
     }
 }
 
-pub(crate) fn extract_suffix_value(alloc: Global, a: &Value, b: &Value, c: &Value) -> Result<Value, AllocError>
+pub(crate) fn extract_suffix_value(
+    alloc: Global,
+    a: &Value,
+    b: &Value,
+    c: &Value,
+) -> Result<Value, AllocError>
     ensures { IfOk result (λ value. value ≡ extract_suffix_value a.now b.now c.now) }
 {
     match (a, b, c) {
-        (Value::Text(text), Value::Int(index), Value::Text(separator)) => part_of(alloc, extract_suffix(text.as_str(), *index, separator.as_str())),
+        (Value::Text(text), Value::Int(index), Value::Text(separator)) => part_of(
+            alloc,
+            extract_suffix(text.as_str(), *index, separator.as_str()),
+        ),
         _ => Ok(Value::Null),
     }
 }
