@@ -1,16 +1,15 @@
 -- Lengths and positions as values.
-use Rattle.std.specs.Prelude.{ℕ, length, pos, Some}
+use Rattle.std.specs.Prelude.{ℕ, length, pos}
 use Rattle.std.specs.Str.{chars}
-use Rattle.lp_values.specs.Arithmetic.{kept}
 use Rattle.slot_reading.specs.Slots.{or_null}
 use Rattle.text_functions.specs.Positions.{index_of, last_index_of}
 use Rattle.text_functions.specs.Replacing.{count_of}
 use Rattle.lp_values.specs.declared.value.Value.{Value}
 use Rattle.lp_values.specs.declared.value.Value.TheVariants.{Null, Int, Text}
 
--- a length or a position, within 64 bits
+-- a length or a position
 abbrev pub number_value : ℕ → Value
-number_value n = kept Int (Some (pos n))
+number_value n = Int (pos n)
 
 -- STRLEN
 abbrev pub strlen_value : Value → Value

@@ -1,8 +1,7 @@
 -- Parts of texts as values.
-use Rattle.std.specs.Prelude.{Some, None}
 use Rattle.slot_reading.specs.Slots.{or_null}
 use Rattle.text_functions.specs.Edges.{left_trimmed, right_trimmed, file_name, path_of, extension}
-use Rattle.text_functions.specs.Positions.{substring}
+use Rattle.text_functions.specs.Positions.{substring, substring_from}
 use Rattle.lp_functions.specs.Texts.{text_value}
 use Rattle.lp_values.specs.declared.value.Value.{Value}
 use Rattle.lp_values.specs.declared.value.Value.TheVariants.{Null, Int, Text}
@@ -39,10 +38,10 @@ extract_extension_value a = Null
 
 -- SUBSTR, to the end
 abbrev pub rest_from_value : Value → Value → Value
-rest_from_value (Text text) (Int from) = or_null text_value (substring text from None)
+rest_from_value (Text text) (Int from) = or_null text_value (substring_from text from)
 rest_from_value a b = Null
 
 -- SUBSTR
 abbrev pub substr_value : Value → Value → Value → Value
-substr_value (Text text) (Int from) (Int most) = or_null text_value (substring text from (Some most))
+substr_value (Text text) (Int from) (Int most) = or_null text_value (substring text from most)
 substr_value a b c = Null

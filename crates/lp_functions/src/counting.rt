@@ -1,5 +1,5 @@
 // Lengths and positions as values.
-ghost use Rattle.std.specs.Prelude.{◌≡◌};
+ghost use Rattle.std.specs.Prelude.{◌≡◌, ◌<◌, ◌^◌, IfSome};
 ghost use Rattle.lp_functions.specs.Counting.{number_value, strlen_value, strcnt_value, index_of_value, last_index_of_value};
 ghost use Rattle.slot_reading.specs.Slots.{or_null};
 
@@ -7,15 +7,14 @@ use lp_values::Value;
 use text_functions::{index_of, last_index_of, strcnt, strlen};
 
 fn number_value(number: usize) -> Value
+    requires { number < 2 ^ 63 }
     ensures { result ≡ number_value number }
 {
-    match i64::try_from(number) {
-        Ok(number) => Value::Int(number),
-        Err(_) => Value::Null,
-    }
+    Value::Int(number as i64)
 }
 
 fn position_value(position: Option<usize>) -> Value
+    requires { IfSome position (λ place. place < 2 ^ 63) }
     ensures { result ≡ or_null number_value position }
 {
     match position {

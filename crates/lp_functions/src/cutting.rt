@@ -6,7 +6,7 @@ use crate::texts::{part_of, text_of};
 use lp_values::Value;
 use std::alloc::{AllocError, Global};
 use text_functions::{
-    extract_extension, extract_filename, extract_path, ltrim, rtrim, substr, trim,
+    extract_extension, extract_filename, extract_path, ltrim, rtrim, substr, substr_from, trim,
 };
 
 pub(crate) fn trim_value(alloc: Global, a: &Value) -> Result<Value, AllocError>
@@ -67,7 +67,7 @@ pub(crate) fn rest_from_value(alloc: Global, a: &Value, b: &Value) -> Result<Val
     ensures { IfOk result (λ value. value ≡ rest_from_value a.now b.now) }
 {
     match (a, b) {
-        (Value::Text(text), Value::Int(from)) => part_of(alloc, substr(text.as_str(), *from, None)),
+        (Value::Text(text), Value::Int(from)) => part_of(alloc, substr_from(text.as_str(), *from)),
         _ => Ok(Value::Null),
     }
 }
@@ -83,7 +83,7 @@ pub(crate) fn substr_value(
     match (a, b, c) {
         (Value::Text(text), Value::Int(from), Value::Int(most)) => part_of(
             alloc,
-            substr(text.as_str(), *from, Some(*most)),
+            substr(text.as_str(), *from, *most),
         ),
         _ => Ok(Value::Null),
     }

@@ -1,7 +1,7 @@
 -- The characters of a text, one by one.
 use Rattle.std.specs.Char.{encode_utf8, len_utf8}
 use Rattle.std.specs.Str.{chars, encode_utf8_all, IsUtf8, IsCharBoundary}
-use Rattle.std.proofs.Common.{◌≡◌, ℕ, zero, suc, ◌+◌, ◌-◌, ◌<◌, ◌≤◌, List, [], ◌∷◌, ◌++◌, length, take, drop, refl, sym, ap, subst, ◌∙◌, arith}
+use Rattle.std.proofs.Common.{◌≡◌, ℕ, zero, suc, ◌+◌, ◌-◌, ◌<◌, ◌≤◌, List, [], ◌∷◌, ◌++◌, length, take, drop, sym, ap, subst, ◌∙◌, arith}
 use Rattle.std.proofs.lemmas.List.{length-append, take-append-drop, take_at, nil_from_length}
 use Rattle.std.proofs.lemmas.Str.{chars_past_char, length-encode, len_utf8_bounds, encodes-chars, encodes_same, chars-nil, encodes-append, IsCharBoundary-at_seam}
 
@@ -28,12 +28,13 @@ pub front_of : (text behind : List ℕ) (n size : ℕ) → IsUtf8 text → IsUtf
     → (IsCharBoundary text size) × (take size text ≡ encode_utf8_all (take n (chars text))) × (length behind ≤ length text)
 front_of text behind n size utf8 other e is =
     let whole : text ≡ encode_utf8_all (take n (chars text)) ++ behind =
-        sym (encodes-chars text utf8) ∙ (ap encode_utf8_all (sym (take-append-drop n (chars text))) ∙ (encodes-append (take n (chars text)) (drop n (chars text)) ∙ ap (λ (xs : List ℕ). encode_utf8_all (take n (chars text)) ++ xs) (sym e))) in
+    sym (encodes-chars text utf8) ∙ (ap encode_utf8_all (sym (take-append-drop n (chars text))) ∙ (encodes-append (take n (chars text)) (drop n (chars text)) ∙ ap (λ (xs : List ℕ). encode_utf8_all (take n (chars text)) ++ xs) (sym e))) in
     let sizes : length text ≡ length (encode_utf8_all (take n (chars text))) + length behind = ap length whole ∙ length-append (encode_utf8_all (take n (chars text))) behind in
-    let same : length (encode_utf8_all (take n (chars text))) ≡ size = omega arith in
-    (subst (IsCharBoundary text) same (IsCharBoundary-at_seam text (encode_utf8_all (take n (chars text))) behind whole other),
-     ap (take size) whole ∙ take_at (encode_utf8_all (take n (chars text))) behind size same,
-     omega arith)
+    let same : length (encode_utf8_all (take n (chars text))) ≡ size = omega arith in (
+      subst (IsCharBoundary text) same (IsCharBoundary-at_seam text (encode_utf8_all (take n (chars text))) behind whole other),
+      ap (take size) whole ∙ take_at (encode_utf8_all (take n (chars text))) behind size same,
+      omega arith,
+    )
 
 -- a part of a text by positions
 pub part_of : (text rest part : List ℕ) (n m : ℕ) → IsUtf8 rest → rest ≡ encode_utf8_all (drop n (chars text)) → part ≡ encode_utf8_all (take m (chars rest)) → part ≡ encode_utf8_all (take m (drop n (chars text)))

@@ -4,8 +4,8 @@ use Rattle.std.specs.Str.{chars, IsUtf8, IsCharBoundary}
 use Rattle.std.specs.Option.{IfSome}
 use Rattle.std.proofs.lemmas.Str.{IsUtf8-take, IsUtf8-drop, IsCharBoundary-start, IsCharBoundary-from_take, chars-append}
 use denote.Ref.{Bor}
-use Rattle.std.proofs.Common.{◌≡◌, ◌≢◌, ℕ, zero, suc, ◌+◌, ◌-◌, ◌<◌, ◌≤◌, List, [], ◌∷◌, ◌++◌, length, take, drop, get_or, reverse, Option, Some, None, MatchOption, refl, sym, ap, subst, ◌∙◌, arith, inl, inr, ⊎_elim}
-use Rattle.std.proofs.lemmas.List.{append_assoc, take-append-drop, drop_at, take_at, get_or_at, length-append, length-take-le, length-drop, reverse-append, reverse-reverse, length-reverse}
+use Rattle.std.proofs.Common.{◌≡◌, ℕ, ◌+◌, ◌<◌, ◌≤◌, List, [], ◌∷◌, ◌++◌, length, take, drop, get_or, reverse, Option, Some, None, MatchOption, refl, sym, ap, subst, ◌∙◌, arith, ⊎_elim}
+use Rattle.std.proofs.lemmas.List.{append_assoc, take-append-drop, drop_at, take_at, get_or_at, length-append, reverse-append, reverse-reverse, length-reverse}
 use Rattle.std.proofs.lemmas.Bool.{cases_lt}
 use Rattle.text_functions.specs.Pieces.{Lacks, IsCutAtFirst, IsCutAtLast}
 
@@ -59,6 +59,7 @@ mirrored part text before behind cut = record {
       let n : length (reverse behind) ≡ length behind = length-reverse behind in
       omega arith;
 }
+
 pub mirrored_lacks : (part text : List ℕ) → Lacks part text → Lacks (reverse part) (reverse text)
 mirrored_lacks part text none = λ front rest e. none (reverse rest) (reverse front) (turned part text front rest e)
 

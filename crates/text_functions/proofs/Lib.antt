@@ -1,6 +1,8 @@
 mod CharacterLemmas
 mod Cutting
+mod EdgeLemmas
 mod LikeLemmas
+mod PartingLemmas
 mod PieceLemmas
 mod PlaceLemmas
 mod PrefixLemmas

@@ -1,7 +1,7 @@
 -- Likeness, one character of the pattern or of the text at a time.
 use Rattle.std.specs.Bool.{MatchBool, IsTrue}
 use Rattle.std.specs.Str.{chars, IsUtf8, encode_utf8_all}
-use Rattle.std.proofs.Common.{◌≡◌, ◌↔◌, ℕ, ◌==◌, ◌<◌, Bool, true, false, List, [], ◌∷◌, ◌++◌, length, refl, sym, ap, subst, ◌∙◌, arith}
+use Rattle.std.proofs.Common.{◌≡◌, ◌↔◌, ℕ, ◌==◌, Bool, true, false, List, [], ◌∷◌, ◌++◌, length, refl, sym, ap, subst, ◌∙◌}
 use Rattle.std.proofs.lemmas.Bool.{MatchBool-at_false, false≢true, false_from_ne_true, eqb-true, eq-eqb}
 use Rattle.std.proofs.lemmas.List.{append_assoc}
 use Rattle.std.proofs.lemmas.Str.{encodes-chars}
@@ -124,9 +124,10 @@ pub at_percent : (P T left rest : List ℕ) (p : ℕ) (behind : List ℕ) → (L
 at_percent P T left rest p behind same later e is =
     let whole : left ≡ 37 ∷ behind = e ∙ ap (λ (n : ℕ). n ∷ behind) is in
     let first : Likes P T → Likes (37 ∷ behind) rest = λ h. subst (λ (ps : List ℕ). Likes ps rest) whole (same.0 h) in
-    let back : Likes (37 ∷ behind) rest → Likes P T = λ h. same.1 (subst (λ (ps : List ℕ). Likes ps rest) (sym whole) h) in
-    ((first, back),
-     (λ h. percent_twice behind rest (subst (λ (ps : List ℕ). Likes (37 ∷ ps) rest) whole (later h)), λ h. percent_start P T (back h)))
+    let back : Likes (37 ∷ behind) rest → Likes P T = λ h. same.1 (subst (λ (ps : List ℕ). Likes ps rest) (sym whole) h) in (
+      (first, back),
+      (λ h. percent_twice behind rest (subst (λ (ps : List ℕ). Likes (37 ∷ ps) rest) whole (later h)), λ h. percent_start P T (back h)),
+    )
 
 -- it needs a character where there is none
 pub at_nothing : (P T left rest : List ℕ) (p : ℕ) (behind : List ℕ) → (Likes P T ↔ Likes left (chars rest)) → left ≡ p ∷ behind → (p ≡ 37 → ⊥) → length rest ≡ 0 → IsTrue false ↔ Likes P T
@@ -149,12 +150,36 @@ at_other P T left rest p f behind next same e other first differs = (
 pub at_same : (P T left rest : List ℕ) (p f : ℕ) (behind next : List ℕ) → (Likes P T ↔ Likes left rest) → (Likes (37 ∷ P) T → Likes (37 ∷ left) rest) → left ≡ p ∷ behind → (p ≡ 37 → ⊥) → rest ≡ f ∷ next → stands_for p f ≡ true
     → (Likes P T ↔ Likes behind next) × (Likes (37 ∷ P) T → Likes (37 ∷ behind) next)
 at_same P T left rest p f behind next same later e other first is =
-    let step = character_same p f behind next (not_percent p other) is in
-    ((λ h. step.0 (moved left rest (p ∷ behind) (f ∷ next) e first (same.0 h)), λ h. same.1 (moved (p ∷ behind) (f ∷ next) left rest (sym e) (sym first) (step.1 h))),
-     λ h. character_later p f behind next (not_percent p other) (moved (37 ∷ left) rest (37 ∷ p ∷ behind) (f ∷ next) (ap (λ (xs : List ℕ). 37 ∷ xs) e) first (later h)))
+    let step = character_same p f behind next (not_percent p other) is in (
+      (λ h. step.0 (moved left rest (p ∷ behind) (f ∷ next) e first (same.0 h)), λ h. same.1 (moved (p ∷ behind) (f ∷ next) left rest (sym e) (sym first) (step.1 h))),
+      λ h. character_later p f behind next (not_percent p other) (moved (37 ∷ left) rest (37 ∷ p ∷ behind) (f ∷ next) (ap (λ (xs : List ℕ). 37 ∷ xs) e) first (later h)),
+    )
 
 -- the pattern is at its end
 pub at_end : (P T left rest : List ℕ) (is_empty : Bool) → (Likes P T ↔ Likes (chars left) (chars rest)) → IsUtf8 rest → length left ≡ 0 → is_empty ≡ (length rest == 0) → IsTrue is_empty ↔ Likes P T
 at_end P T left rest is_empty same utf8 none e =
     let end = pattern_end left rest utf8 none in
     (λ is. same.1 (end.1 (eqb-true (length rest) 0 (sym e ∙ is))), λ h. e ∙ eq-eqb (length rest) 0 (end.0 (same.0 h)))
+
+-- the pattern is like what is left
+pub at_whole : (P T left rest : List ℕ) (is : Bool) → (Likes (37 ∷ P) T ↔ Likes (37 ∷ left) rest) → (IsTrue is ↔ Likes left rest) → is ≡ true → IsTrue true ↔ Likes (37 ∷ P) T
+at_whole P T left rest is same meaning e = (λ _. same.1 (percent_start left rest (meaning.0 e)), λ _. refl)
+
+unlike : (left rest : List ℕ) (is : Bool) → (IsTrue is ↔ Likes left rest) → is ≡ false → Likes left rest → ⊥
+unlike left rest is meaning e h = false≢true (sym e ∙ meaning.1 h)
+
+-- it isn't, and nothing is left
+pub at_last : (P T left rest : List ℕ) (is : Bool) → (Likes (37 ∷ P) T ↔ Likes (37 ∷ left) (chars rest)) → (IsTrue is ↔ Likes left (chars rest)) → is ≡ false → length rest ≡ 0 → IsTrue false ↔ Likes (37 ∷ P) T
+at_last P T left rest is same meaning e none = (
+  λ wrong. absurd (false≢true wrong),
+  λ h.
+      let nothing : chars rest ≡ [] = no_characters rest none in
+      absurd (unlike left (chars rest) is meaning e (subst (Likes left) (sym nothing) (percent_end left (subst (Likes (37 ∷ left)) nothing (same.0 h))))),
+)
+
+-- it isn't, and a character is passed
+pub at_skip : (P T left rest : List ℕ) (f : ℕ) (next : List ℕ) (is : Bool) → (Likes (37 ∷ P) T ↔ Likes (37 ∷ left) rest) → (IsTrue is ↔ Likes left rest) → is ≡ false → rest ≡ f ∷ next → Likes (37 ∷ P) T ↔ Likes (37 ∷ left) next
+at_skip P T left rest f next is same meaning e first = (
+  λ h. percent_skips left f next (λ whole. unlike left rest is meaning e (subst (Likes left) (sym first) whole)) (subst (Likes (37 ∷ left)) first (same.0 h)),
+  λ h. same.1 (subst (Likes (37 ∷ left)) (sym first) (percent_more left f next h)),
+)

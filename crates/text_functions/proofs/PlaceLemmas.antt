@@ -1,7 +1,7 @@
 -- Counts and positions, by the first occurrence.
 use Rattle.std.specs.Option.{option_map}
 use Rattle.std.specs.Str.{chars}
-use Rattle.std.proofs.Common.{◌≡◌, ℕ, zero, suc, ◌+◌, ◌-◌, ◌<◌, ◌≤◌, ◌==◌, if◌then◌else◌, List, [], ◌∷◌, ◌++◌, length, take, drop, reverse, Option, Some, None, refl, sym, ap, ◌∙◌, arith, false, true}
+use Rattle.std.proofs.Common.{◌≡◌, ℕ, ◌+◌, ◌-◌, ◌<◌, ◌==◌, List, [], ◌∷◌, ◌++◌, length, take, reverse, Option, Some, None, refl, sym, ap, ◌∙◌, arith, false}
 use Rattle.std.proofs.lemmas.List.{take_at, length-append, length-reverse}
 use Rattle.text_functions.specs.Pieces.{pieces, Lacks, IsCutAtFirst, IsCutAtLast}
 use Rattle.text_functions.specs.Positions.{position_of, place_in, first_place, last_place, index_of, last_index_of}
@@ -47,7 +47,7 @@ pub index-cut : (text part before behind : List ℕ) → (length part == 0) ≡ 
 index-cut text part before behind other some cut =
     sym (index_is text part other ∙ (ap (option_map (position_of text)) (first_place-cut text part before behind some cut) ∙ ap Some (position-front text before (part ++ behind) cut.whole)))
 
-last_place-cut : (text part before behind : List ℕ) → 0 < length part → IsCutAtLast part text before behind → last_place text part ≡ Some (length before)
+pub last_place-cut : (text part before behind : List ℕ) → 0 < length part → IsCutAtLast part text before behind → last_place text part ≡ Some (length before)
 last_place-cut text part before behind some cut =
     let turned : length (reverse part) ≡ length part = length-reverse part in
     let back : length (reverse behind) ≡ length behind = length-reverse behind in

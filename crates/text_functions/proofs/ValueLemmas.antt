@@ -2,9 +2,9 @@
 use Rattle.std.specs.Prelude.{codes}
 use Rattle.std.specs.List.{starts_with}
 use Rattle.std.specs.Option.{option_copied}
-use Rattle.std.specs.Str.Pattern.{FindsTextPrefix, StripsPrefix, FindsCharPrefix}
+use Rattle.std.specs.Str.Pattern.{FindsTextPrefix, StripsPrefix}
 use denote.Ref.{Bor}
-use Rattle.std.proofs.Common.{◌≡◌, ◌≢◌, ℕ, ◌+◌, ◌<◌, ◌≤◌, Bool, true, false, nat_eq, if◌then◌else◌, List, [], ◌∷◌, ◌++◌, length, take, drop, Option, Some, None, MatchOption, refl, sym, ap, ◌∙◌, arith}
+use Rattle.std.proofs.Common.{◌≡◌, ◌≢◌, ℕ, ◌+◌, true, false, nat_eq, if◌then◌else◌, List, ◌∷◌, ◌++◌, length, drop, Option, Some, None, MatchOption, refl, sym, ap, ◌∙◌}
 use Rattle.std.proofs.lemmas.List.{append_assoc, append_cancel_left, drop_at, length-append}
 use Rattle.std.proofs.lemmas.Slice.Eq.{starts_is}
 use Rattle.std.proofs.lemmas.Bool.{false_from_ne_true}
@@ -17,7 +17,7 @@ behind_name name token = if starts_with nat_eq token (name ++ codes "=") then So
 is_none : (name token : List ℕ) → ((rest : List ℕ) → token ≢ name ++ (61 ∷ rest)) → None ≡ behind_name name token
 is_none name token none =
     let e : starts_with nat_eq token (name ++ codes "=") ≡ false =
-        false_from_ne_true _ (λ is. none _ ((starts_is Decides-eqb token (name ++ codes "=") _ refl).0 is ∙ append_assoc name (codes "=") _)) in
+    false_from_ne_true _ (λ is. none _ ((starts_is Decides-eqb token (name ++ codes "=") _ refl).0 is ∙ append_assoc name (codes "=") _)) in
     rw e refl
 
 is_some : (name token value : List ℕ) → token ≡ name ++ (61 ∷ value) → Some value ≡ behind_name name token

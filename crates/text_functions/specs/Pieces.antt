@@ -34,3 +34,9 @@ pub record IsCutAtFirst (part text before behind : List ℕ) : Type 0 where
 pub record IsCutAtLast (part text before behind : List ℕ) : Type 0 where
   pub whole : text ≡ before ++ (part ++ behind)
   pub last : (front rest : List ℕ) → text ≡ front ++ (part ++ rest) → length behind ≤ length rest
+
+-- pieces that are a text's: each but the last stands before the first occurrence in what is left, and the last has none
+unfoldable pub IsPartedInto : List ℕ → List ℕ → List (List ℕ) → Type 0
+IsPartedInto part text [] = ⊥
+IsPartedInto part text (piece ∷ []) = (text ≡ piece) × Lacks part text
+IsPartedInto part text (piece ∷ next ∷ more) = (behind : List ℕ) × IsCutAtFirst part text piece behind × IsPartedInto part behind (next ∷ more)

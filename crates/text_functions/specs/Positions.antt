@@ -32,7 +32,11 @@ index_of text part = if length part == 0 then None else option_map (position_of 
 abbrev pub last_index_of : List ℕ → List ℕ → Option ℕ
 last_index_of text part = if length part == 0 then None else option_map (position_of text) (last_place text part)
 
--- the characters from a position on, at most so many
-abbrev pub substring : List ℕ → ℤ → Option ℤ → Option (List ℕ)
-substring text from None = option_map (λ n. encode_utf8_all (drop n (chars text))) (natural from)
-substring text from (Some most) = option_and_then (λ n. option_map (λ m. encode_utf8_all (take m (drop n (chars text)))) (natural most)) (natural from)
+-- the characters from a position on
+abbrev pub substring_from : List ℕ → ℤ → Option (List ℕ)
+substring_from text from = option_map (λ n. encode_utf8_all (drop n (chars text))) (natural from)
+
+-- and of those at most so many
+abbrev pub substring : List ℕ → ℤ → ℤ → Option (List ℕ)
+substring text from most =
+    option_and_then (λ n. option_map (λ m. encode_utf8_all (take m (drop n (chars text)))) (natural most)) (natural from)

@@ -1,5 +1,5 @@
 -- Parts of a text between separators.
-use Rattle.std.specs.Prelude.{ℕ, ◌+◌, ◌==◌, nat_eq, ℤ, List, ◌++◌, length, take, drop, reverse, find, slice_get, Option, Some, None, option_map, option_and_then, unwrap_or, if◌then◌else◌, codes}
+use Rattle.std.specs.Prelude.{ℕ, ◌+◌, ◌==◌, nat_eq, ℤ, List, ◌++◌, length, take, drop, reverse, find, slice_get, Option, None, option_map, option_and_then, unwrap_or, if◌then◌else◌, codes}
 use Rattle.std.specs.List.{starts_with}
 use Rattle.text_functions.specs.Pieces.{pieces, joined}
 use Rattle.text_functions.specs.Positions.{natural}

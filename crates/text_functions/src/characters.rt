@@ -1,5 +1,5 @@
 // A text as characters.
-ghost use Rattle.std.specs.Prelude.{◌≡◌, ◌==◌, ◌<◌, ◌∷◌, MatchOption, length, take, drop};
+ghost use Rattle.std.specs.Prelude.{◌≡◌, ◌==◌, ◌<◌, ◌≤◌, ◌∷◌, MatchOption, length, take, drop};
 ghost use Rattle.std.specs.List.{list_any};
 ghost use Rattle.std.specs.Str.{chars, encode_utf8_all, IsUtf8};
 ghost use Rattle.text_functions.specs.Positions.{natural};
@@ -40,7 +40,8 @@ pub(crate) fn front(text: &str, count: usize) -> &str
 }
 
 pub(crate) fn size(text: &str) -> usize
-    ensures { result ≡ length (chars text.now) }
+    ensures value { result ≡ length (chars text.now) }
+    ensures within { result ≤ length text.now }
 {
     text.chars().count()
 }

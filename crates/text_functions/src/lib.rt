@@ -7,6 +7,7 @@
 
 mod characters;
 mod edges;
+mod laws;
 mod likeness;
 mod occurrences;
 mod places;
@@ -16,7 +17,8 @@ mod tests;
 mod tokens;
 
 pub use edges::{extract_extension, extract_filename, extract_path, ltrim, rtrim, trim};
+pub use laws::{last_behind, occurrences_of_characters, one_parting};
 pub use likeness::like;
-pub use places::{index_of, last_index_of, strcnt, strlen, substr};
+pub use places::{index_of, last_index_of, strcnt, strlen, substr, substr_from};
 pub use replacing::{replace_chr, replace_str, strcat, to_lowercase, to_uppercase};
 pub use tokens::{extract_prefix, extract_suffix, extract_token, extract_value};

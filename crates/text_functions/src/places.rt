@@ -1,7 +1,7 @@
 // Lengths, counts and positions.
-ghost use Rattle.std.specs.Prelude.{◌≡◌, ◌<◌, ◌^◌, length, option_map, option_copied, IfSome};
+ghost use Rattle.std.specs.Prelude.{◌≡◌, ◌<◌, ◌^◌, length, option_copied, IfSome};
 ghost use Rattle.std.specs.Str.{chars};
-ghost use Rattle.text_functions.specs.Positions.{index_of, last_index_of, substring};
+ghost use Rattle.text_functions.specs.Positions.{index_of, last_index_of, substring, substring_from};
 ghost use Rattle.text_functions.specs.Replacing.{count_of};
 
 use crate::characters::{behind, front, natural, size};
@@ -9,14 +9,16 @@ use crate::occurrences::{cut_first, cut_last};
 
 /// How many characters a text has.
 pub fn strlen(text: &str) -> usize
-    ensures { result ≡ length (chars text.now) }
+    ensures value { result ≡ length (chars text.now) }
+    ensures small { result < 2 ^ 63 }
 {
     size(text)
 }
 
 /// How often a part occurs; an empty one never.
 pub fn strcnt(text: &str, part: &str) -> usize
-    ensures { result ≡ count_of text.now part.now }
+    ensures value { result ≡ count_of text.now part.now }
+    ensures small { result < 2 ^ 63 }
 {
     if part.is_empty() {
         return 0;
@@ -32,7 +34,8 @@ pub fn strcnt(text: &str, part: &str) -> usize
 
 /// The position of the first occurrence. `None` where there is none, or the part is empty.
 pub fn index_of(text: &str, part: &str) -> Option<usize>
-    ensures { result ≡ index_of text.now part.now }
+    ensures value { result ≡ index_of text.now part.now }
+    ensures small { IfSome result (λ place. place < 2 ^ 63) }
 {
     if part.is_empty() {
         return None;
@@ -43,7 +46,8 @@ pub fn index_of(text: &str, part: &str) -> Option<usize>
 
 /// The position of the last occurrence. `None` where there is none, or the part is empty.
 pub fn last_index_of(text: &str, part: &str) -> Option<usize>
-    ensures { result ≡ last_index_of text.now part.now }
+    ensures value { result ≡ last_index_of text.now part.now }
+    ensures small { IfSome result (λ place. place < 2 ^ 63) }
 {
     if part.is_empty() {
         return None;
@@ -52,17 +56,19 @@ pub fn last_index_of(text: &str, part: &str) -> Option<usize>
     Some(size(before))
 }
 
-/// The characters from a position on, at most so many. `None` for a negative number.
-pub fn substr(text: &str, from: i64, most: Option<i64>) -> Option<&str>
+/// The characters from a position on; past the end none. `None` for a negative number.
+pub fn substr_from(text: &str, from: i64) -> Option<&str>
+    ensures { option_copied result ≡ substring_from text.now from }
+{
+    let from = natural(from)?;
+    Some(behind(text, from))
+}
+
+/// The characters from a position on, at most so many; past the end none. `None` for a negative number.
+pub fn substr(text: &str, from: i64, most: i64) -> Option<&str>
     ensures { option_copied result ≡ substring text.now from most }
 {
     let from = natural(from)?;
-    let rest = behind(text, from);
-    match most {
-        None => Some(rest),
-        Some(most) => {
-            let most = natural(most)?;
-            Some(front(rest, most))
-        }
-    }
+    let most = natural(most)?;
+    Some(front(behind(text, from), most))
 }

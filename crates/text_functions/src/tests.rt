@@ -38,17 +38,19 @@ fn positions(rt: HostRuntime) {
 #[test]
 fn substrings(rt: HostRuntime) {
     let cases = [
-        ("aé€b", 1, None, Some("é€b")),
-        ("aé€b", 1, Some(2), Some("é€")),
-        ("aé€b", 4, Some(1), Some("")),
-        ("aé€b", 9, None, Some("")),
-        ("aé€b", 0, Some(0), Some("")),
-        ("aé€b", -1, None, None),
-        ("aé€b", 0, Some(-1), None),
+        ("aé€b", 1, 2, Some("é€")),
+        ("aé€b", 1, 9, Some("é€b")),
+        ("aé€b", 4, 1, Some("")),
+        ("aé€b", 9, 9, Some("")),
+        ("aé€b", 0, 0, Some("")),
+        ("aé€b", -1, 1, None),
+        ("aé€b", 0, -1, None),
     ];
     for (text, from, most, part) in cases {
         assert_eq!(rt; substr(text, from, most), part);
     }
+    assert_eq!(rt; substr_from("aé€b", 2), Some("€b"));
+    assert_eq!(rt; substr_from("aé€b", -1), None);
 }
 
 #[test]

@@ -1,4 +1,4 @@
-use Rattle.std.proofs.Common.{◌≡◌, ℕ, drop}
+use Rattle.std.proofs.Common.{◌≡◌, drop}
 use Rattle.std.specs.Str.{chars, IsUtf8}
 use Rattle.text_functions.proofs.characters.behind.Given as goal
 

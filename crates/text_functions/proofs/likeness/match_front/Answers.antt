@@ -1,5 +1,5 @@
 use Rattle.std.specs.Str.{chars}
-use Rattle.std.proofs.Common.{◌≡◌, ◌==◌, ◌∷◌, false, true, sym, ap, subst, ◌∙◌, arith}
+use Rattle.std.proofs.Common.{sym, ◌∙◌, arith}
 use Rattle.text_functions.proofs.LikeLemmas.{at_percent, at_nothing, at_other, at_same, at_end}
 use Rattle.text_functions.proofs.likeness.match_front.Goals as goal
 

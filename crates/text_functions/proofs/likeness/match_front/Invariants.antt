@@ -13,7 +13,7 @@ invariant-loop-wanted l = record {
   less_pattern : length l.left ≤ length l.pattern;
   less_text : length l.rest ≤ length l.text;
   pattern_text : shadow (Utf8 l.left);
-  text : shadow (Utf8 l.rest)
+  text : shadow (Utf8 l.rest);
 }
 
 abbrev pub decreases-loop-wanted : goal.decreases-loop-wanted

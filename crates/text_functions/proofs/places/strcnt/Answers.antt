@@ -12,7 +12,7 @@ loop-next-preserved c =
     let less = cut-shorter c.args.part.now c.loop-next.rest.now c.in-Some.field-0-0.now c.in-Some.next.now some c.in-Some.ensures.cut in
     record { counted = omega arith; room = omega arith; text = c.in-Some.ensures.utf8.1 }
 
-pub returns : goal.returns
-returns c =
+pub returns-clause-value : goal.returns-clause-value
+returns-clause-value c =
     let other : (length c.args.part.now == 0) ≡ false = sym c.is_empty.ensures ∙ c.if-is_empty.false in
     count_end c.args.text.now c.args.part.now c.loop-next.rest.now c.loop-next.count other c.loop-next.invariant.counted c.in_default.ensures.cut

@@ -1,5 +1,5 @@
 use Rattle.std.specs.String.{string_bytes}
-use Rattle.std.proofs.Common.{◌≡◌, ◌++◌, List, ℕ, [], length, sym, ap, ◌∙◌}
+use Rattle.std.proofs.Common.{◌++◌, List, ℕ, [], Some, sym, ap, ◌∙◌}
 use Rattle.std.proofs.lemmas.Bool.{iff_false}
 use Rattle.text_functions.specs.Pieces.{pieces, joined}
 use Rattle.text_functions.proofs.ReplaceLemmas.{within_fits, too_long, replaced_next, replaced_last, grown, within_grown, with_nothing}
@@ -47,4 +47,4 @@ returns c =
     let made : List ℕ = string_bytes c.loop-before.made in
     let added = c.in_ok-add-3.ensures.added c.if-not-branch-3.false in
     let last = replaced_last c.args.by.now c.args.part.now all made c.loop-before.rest.now c.in_default.ensures.cut c.loop-before.invariant.made ∙ sym added in
-    ?
+    ap Some c.from_string.ensures ∙ within_fits c.args.most all (string_bytes c.add-2.new.made) last (within_grown c.args.most made c.loop-before.rest.now (string_bytes c.add-2.new.made) (c.in_ok-add-3.ensures.room.0 c.if-not-branch-3.false) added)

@@ -1,4 +1,4 @@
-use Rattle.std.proofs.Common.{◌≡◌, length, reverse}
+use Rattle.std.proofs.Common.{length, reverse}
 use denote.Shadow.{shadow}
 use denote.Text.{Utf8}
 use Rattle.text_functions.proofs.PrefixLemmas.{IsBehind}
