@@ -27,7 +27,7 @@ at : (n b : ℕ) → agrees_below n ≡ true → b < n → should_percent_encode
 unfolding agrees_below
 at zero b e lt = absurd (omega arith)
 at (suc n) b e lt =
-    let both = and_parts _ _ e in
+    let both : (same (should_percent_encode ESCAPED n) (not (is_plain n)) ≡ true) × (agrees_below n ≡ true) = and_parts _ _ e in
     elim (cases_lt b n) [
       | inl below ↦ at n b both.1 below
       | inr here ↦ let is : b ≡ n = omega arith in rw is (same_is _ _ both.0)

@@ -1,5 +1,7 @@
+pub mod CoalesceLemmas
 pub mod DigitLemmas
 pub mod Escapes
 pub mod FittingLemmas
 pub mod NameLemmas
 pub mod PrintedLemmas
+pub mod RowLemmas

@@ -38,7 +38,7 @@ marked front mark back small a b = IsAscii-append front (mark ∷ back) a (ascii
 real : (n : ℤ) → FitsSigned w64 n → IsAscii (printed_real n)
 real n fits =
     let whole : unsigned_abs n / 1_000_000 < 2 ^ 64 = omega (arith, ints) in
-    let front = (if is_negative n then 45 ∷ [] else []) in
+    let front : List ℕ = (if is_negative n then 45 ∷ [] else []) in
     marked (front ++ decimal (unsigned_abs n / 1_000_000)) 46 (six_digits (unsigned_abs n % 1_000_000)) (omega arith) (IsAscii-append front (decimal (unsigned_abs n / 1_000_000)) (sign (is_negative n)) (IsAscii-decimal (unsigned_abs n / 1_000_000) whole)) (six (unsigned_abs n % 1_000_000))
 
 date : (c : Civil) → IsAscii (printed_date c)

@@ -1,5 +1,9 @@
 // The value of a function.
-ghost use Rattle.std.specs.Prelude.{◌≡◌, IfOk, [], ◌∷◌};
+ghost use Rattle.std.specs.Prelude.{◌≡◌, IfOk, List, [], ◌∷◌, map, None};
+ghost use Rattle.lp_values.specs.declared.value.Value.{Value};
+ghost use Rattle.lp_values.specs.declared.value.Value.TheVariants.{Null};
+ghost use Rattle.lp_values.specs.Kinds.{kind_of};
+ghost use Rattle.lp_functions.specs.Table.{kind_of_call};
 ghost use Rattle.lp_functions.specs.Applied.{applied, applied_to_one, applied_to_two, applied_to_three, applied_to_more};
 
 use crate::Function;
@@ -26,14 +30,21 @@ use std::alloc::{AllocError, Global};
 
 /// The value of a function over arguments: NULL where it doesn't take them.
 pub fn apply(alloc: Global, function: Function, arguments: &ValueList) -> Result<Value, AllocError>
+    ensures value { IfOk result (λ value. value ≡ applied function arguments.now) }
+    ensures no_row { (values : List Value) → kind_of_call function (map kind_of values) ≡ None → applied function values ≡ Null }
+{
+    apply_to(alloc, function, arguments.as_slice())
+}
+
+fn apply_to(alloc: Global, function: Function, arguments: &[Value]) -> Result<Value, AllocError>
     ensures { IfOk result (λ value. value ≡ applied function arguments.now) }
 {
-    match arguments.as_slice() {
+    match arguments {
         [] => Ok(Value::Null),
         [a] => apply_to_one(alloc, function, a),
-        [a, b] => apply_to_two(alloc, function, arguments.as_slice(), a, b),
-        [a, b, c] => apply_to_three(alloc, function, arguments.as_slice(), a, b, c),
-        _ => apply_to_more(alloc, function, arguments.as_slice()),
+        [a, b] => apply_to_two(alloc, function, arguments, a, b),
+        [a, b, c] => apply_to_three(alloc, function, arguments, a, b, c),
+        _ => apply_to_more(alloc, function, arguments),
     }
 }
 

@@ -1,0 +1,5 @@
+use Rattle.lp_functions.proofs.RowLemmas.{no_row}
+use Rattle.lp_functions.proofs.applying.apply.Goals as goal
+
+pub returns-clause-no_row : goal.returns-clause-no_row
+returns-clause-no_row c = no_row c.args.function
