@@ -3,5 +3,6 @@ pub mod DigitLemmas
 pub mod Escapes
 pub mod FittingLemmas
 pub mod NameLemmas
+pub mod NullLemmas
 pub mod PrintedLemmas
 pub mod RowLemmas

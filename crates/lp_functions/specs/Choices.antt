@@ -6,7 +6,16 @@ use Rattle.lp_values.specs.declared.kind.Kind.TheVariants as K
 use Rattle.lp_values.specs.declared.value.Value.{Value}
 use Rattle.lp_values.specs.declared.value.Value.TheVariants.{Null}
 use Rattle.lp_values.specs.Kinds.{kind_of}
+use Rattle.lp_functions.specs.declared.function.Function.{Function}
+use Rattle.lp_functions.specs.declared.function.Function.TheVariants as f
 use Rattle.lp_functions.specs.Fitting.{same_kind}
+
+-- the functions that may give a value where an argument is NULL
+abbrev pub is_choice : Function → Bool
+is_choice f.Coalesce = true
+is_choice f.ReplaceIfNull = true
+is_choice f.ReplaceIfNotNull = true
+is_choice function = false
 
 abbrev pub is_null : Value → Bool
 is_null Null = true

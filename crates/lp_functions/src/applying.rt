@@ -1,9 +1,11 @@
 // The value of a function.
-ghost use Rattle.std.specs.Prelude.{◌≡◌, IfOk, List, [], ◌∷◌, map, None};
+ghost use Rattle.std.specs.Prelude.{◌≡◌, IfOk, List, [], ◌∷◌, map, None, true, false};
+ghost use Rattle.std.specs.List.{list_any};
 ghost use Rattle.lp_values.specs.declared.value.Value.{Value};
 ghost use Rattle.lp_values.specs.declared.value.Value.TheVariants.{Null};
 ghost use Rattle.lp_values.specs.Kinds.{kind_of};
 ghost use Rattle.lp_functions.specs.Table.{kind_of_call};
+ghost use Rattle.lp_functions.specs.Choices.{is_choice, is_null};
 ghost use Rattle.lp_functions.specs.Applied.{applied, applied_to_one, applied_to_two, applied_to_three, applied_to_more};
 
 use crate::Function;
@@ -32,6 +34,7 @@ use std::alloc::{AllocError, Global};
 pub fn apply(alloc: Global, function: Function, arguments: &ValueList) -> Result<Value, AllocError>
     ensures value { IfOk result (λ value. value ≡ applied function arguments.now) }
     ensures no_row { (values : List Value) → kind_of_call function (map kind_of values) ≡ None → applied function values ≡ Null }
+    ensures null { is_choice function ≡ false → (values : List Value) → list_any is_null values ≡ true → applied function values ≡ Null }
 {
     apply_to(alloc, function, arguments.as_slice())
 }
