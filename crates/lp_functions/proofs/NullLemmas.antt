@@ -213,8 +213,8 @@ null_given function other (a ∷ b ∷ c ∷ []) e =
     elim (is_first a (b ∷ c ∷ []) e) [
       | inl first ↦ rw first (first_of_three function b c other)
       | inr later ↦ elim (is_first b (c ∷ []) later) [
-          | inl second ↦ rw second (second_of_three function a c other)
-          | inr last ↦ elim (is_first c [] last) [ inl third ↦ rw third (third_of_three function a b other) | inr none ↦ absurd (nowhere none) ]
-        ]
+        | inl second ↦ rw second (second_of_three function a c other)
+        | inr last ↦ elim (is_first c [] last) [ inl third ↦ rw third (third_of_three function a b other) | inr none ↦ absurd (nowhere none) ]
+      ]
     ]
 null_given function other (a ∷ b ∷ c ∷ d ∷ values) e = further function (a ∷ b ∷ c ∷ d ∷ values) other
