@@ -1,5 +1,5 @@
 -- Values that aren't of one kind.
-use Rattle.std.proofs.Common.{◌≡◌, ℕ, ◌≤◌, Bool, true, false, ◌||◌, List, [], ◌∷◌, map, length, replicate, Option, Some, None, refl, ◌∙◌, inl, inr, arith, nat_le, le-leb}
+use Rattle.std.proofs.Common.{◌≡◌, true, ◌||◌, List, [], ◌∷◌, map, length, replicate, Option, Some, None, refl, ◌∙◌, inl, inr, arith, nat_le, le-leb}
 use Rattle.std.specs.List.{list_all}
 use Rattle.std.proofs.lemmas.Bool.{cases_Bool, and_parts, and_from}
 use Rattle.lp_values.specs.declared.kind.Kind.{Kind}

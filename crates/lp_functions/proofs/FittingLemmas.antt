@@ -1,5 +1,5 @@
 -- Many kinds at places of one set.
-use Rattle.std.proofs.Common.{◌≡◌, ℕ, List, [], ◌∷◌, ◌&&◌, Bool, length, replicate, refl, ap}
+use Rattle.std.proofs.Common.{◌≡◌, List, [], ◌∷◌, ◌&&◌, Bool, length, replicate, refl, ap}
 use Rattle.std.specs.List.{list_all}
 use Rattle.lp_values.specs.declared.kind.Kind.{Kind}
 use Rattle.lp_functions.specs.declared.place.Place.{Place}

@@ -4,7 +4,7 @@ use Rattle.std.specs.Char.{to_ascii_lowercase, to_ascii_uppercase}
 use Rattle.text_functions.specs.Replacing.{replaced, replaced_characters}
 use Rattle.lp_functions.specs.Texts.{text_value}
 use Rattle.lp_values.specs.declared.value.Value.{Value}
-use Rattle.lp_values.specs.declared.value.Value.TheVariants.{Null, Int, Text}
+use Rattle.lp_values.specs.declared.value.Value.TheVariants.{Null, Text}
 
 -- STRCAT
 abbrev pub strcat_value : Value → Value → Value

@@ -2,7 +2,7 @@
 use Rattle.std.specs.Prelude.{ℕ, List, Result, Ok, Err}
 use Rattle.std.specs.Str.Lossy.{utf8_lossy}
 use Rattle.lp_values.specs.declared.value.Value.{Value}
-use Rattle.lp_values.specs.declared.value.Value.TheVariants.{Null, Int, Real, Text, Stamp}
+use Rattle.lp_values.specs.declared.value.Value.TheVariants.{Null, Text, Stamp}
 use Rattle.lp_values.specs.declared.stamp.Stamp as S
 use Rattle.lp_values.specs.Civil.{civil_of}
 use Rattle.lp_values.specs.Printed.{printed}

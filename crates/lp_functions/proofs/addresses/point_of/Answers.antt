@@ -1,4 +1,4 @@
-use Rattle.std.proofs.Common.{◌≤◌, length, not, ℕ, Some, None, arith}
+use Rattle.std.proofs.Common.{◌≤◌, length, not, Some, None, arith}
 use Rattle.std.proofs.lemmas.List.Sums.{prefix_len-le-length}
 use Rattle.std.specs.List.{position_or_len}
 use Rattle.lp_values.specs.Readings.{is_point}
