@@ -1,5 +1,5 @@
 // The ends of a text, and the parts of a path.
-ghost use Rattle.std.specs.Prelude.{◌≡◌, ◌<◌, ◌+◌, ◌-◌, option_copied, length, MatchOption, not};
+ghost use Rattle.std.specs.Prelude.{◌≡◌, ◌<◌, ◌+◌, ◌-◌, option_copied, length};
 ghost use Rattle.std.specs.List.{prefix_len, suffix_len};
 ghost use Rattle.memchr.specs.Find.{IsLastByte};
 ghost use Rattle.text_functions.specs.Edges.{is_blank, is_slash, is_point, left_trimmed, right_trimmed, file_name, path_of, extension, extension_of};
