@@ -1,0 +1,4 @@
+mod SetsOnce
+mod Delimited
+mod Behind
+mod Taken
