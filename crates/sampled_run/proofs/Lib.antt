@@ -1,4 +1,3 @@
-mod SetsOnce
-mod Delimited
-mod Behind
-mod Taken
+mod Kept
+mod Begun
+mod Records

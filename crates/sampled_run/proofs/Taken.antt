@@ -50,7 +50,7 @@ one_halted text has_text format waits (Some folder) span a b u v halted = λ kep
 }
 
 -- it stopped behind its records
-pub one_stopped : {F : Type 0} (text : TextOf F) (has_text : HasTextOf F) (begins : BeginsOf text has_text) (format : Format) (waits : Bool) (told : Option Folder) (span : Span) (a b : Page (Sampling F)) (last : Sampling F) (u v : Option (List ℕ))
+pub one_stopped : {F : Type 0} (text : TextOf F) (has_text : HasTextOf F) (begins : BeginsOf F text has_text) (format : Format) (waits : Bool) (told : Option Folder) (span : Span) (a b : Page (Sampling F)) (last : Sampling F) (u v : Option (List ℕ))
     → last ≡ b.taker
     → Told told (λ folder. IsKept format waits (cut_of folder span) span → TakesSpan (λ (old : Sampling F) (before : Option (List ℕ)) founds new now. Samples text has_text old before founds new now) format waits folder span a b u v)
     → Told told (λ folder. IsKept format waits (cut_of folder span) span → HaltsIn text has_text (span_told format waits folder span) a.taker last u v)

@@ -21,8 +21,8 @@ use Rattle.sampled_run.specs.declared.phase.Phase.{Phase}
 use Rattle.sampled_run.specs.declared.phase.Phase.TheVariants as P
 use Rattle.sampled_run.specs.declared.phase.Sampling.{Sampling}
 
-abbrev pub BeginsOf : {F : Type 0} → TextOf F → HasTextOf F → Type 0
-BeginsOf {F} text has_text = (s : F) (fresh : Bool) (names : List (List ℕ)) (rows more : List (List Value)) (so_far : List ℕ) → has_text s fresh names rows so_far → Begins so_far (text s fresh names (rows ++ more))
+abbrev pub BeginsOf : (F : Type 0) → TextOf F → HasTextOf F → Type 0
+BeginsOf F text has_text = (s : F) (fresh : Bool) (names : List (List ℕ)) (rows more : List (List Value)) (so_far : List ℕ) → has_text s fresh names rows so_far → Begins so_far (text s fresh names (rows ++ more))
 
 -- whatever the records before, a run has taken these too
 pub record Samples {F : Type 0} (text : TextOf F) (has_text : HasTextOf F) (old : Sampling F) (before : Option (List ℕ)) (founds : List Found) (new : Sampling F) (now : Option (List ℕ)) : Type 0 where
@@ -80,7 +80,7 @@ told_stays rules past later is follows =
 pub rows_more : (pattern : List Piece) (told : Judged) (plan : Planned) (xs ys : List Found) → rows_with pattern told plan (xs ++ ys) ≡ rows_with pattern told plan xs ++ rows_with pattern told plan ys
 rows_more pattern told plan xs ys = picked-append (sampled_picks pattern told plan.items plan.condition) xs ys
 
-pub within_later : {F : Type 0} (text : TextOf F) (has_text : HasTextOf F) (begins : BeginsOf text has_text) (rules : Rules) (start now : Option (List ℕ)) (past later : Past) (writer : Writer F SampledPicker)
+pub within_later : {F : Type 0} (text : TextOf F) (has_text : HasTextOf F) (begins : BeginsOf F text has_text) (rules : Rules) (start now : Option (List ℕ)) (past later : Past) (writer : Writer F SampledPicker)
     → told_at rules later ≡ told_at rules past → Later past later → Begun text has_text rules start past writer now → IsWithin rules start later now
 within_later text has_text begins rules start now past later writer same follows begun =
     let plan = planned_in writer.picker.plan in
@@ -96,14 +96,14 @@ within_later text has_text begins rules start now past later writer same follows
       front = subst Of whole (front_of text has_text begins writer.shape true plan.names (rows_at rules past plan) more start now writer.buffers.held begun.under_way);
     }
 
-phase_stopped : {F : Type 0} (text : TextOf F) (has_text : HasTextOf F) (begins : BeginsOf text has_text) (rules : Rules) (start now : Option (List ℕ)) (past later : Past) (phase : Phase F)
+phase_stopped : {F : Type 0} (text : TextOf F) (has_text : HasTextOf F) (begins : BeginsOf F text has_text) (rules : Rules) (start now : Option (List ℕ)) (past later : Past) (phase : Phase F)
     → Later past later → PhaseHolds text has_text rules start past phase now → PhaseStopped rules start later phase now
 phase_stopped text has_text begins rules start now past later (P.Gathering gathering) follows holds = inl holds.nothing
 phase_stopped text has_text begins rules start now past later (P.Writing writer) follows holds = inr (within_later text has_text begins rules start now past later writer (told_stays rules past later holds.told follows) follows holds.begun)
 phase_stopped text has_text begins rules start now past later (P.Refused fault) follows holds = absurd holds
 phase_stopped text has_text begins rules start now past later P.Lost follows holds = absurd holds
 
-phase_front : {F : Type 0} (text : TextOf F) (has_text : HasTextOf F) (begins : BeginsOf text has_text) (rules : Rules) (start now : Option (List ℕ)) (past later : Past) (phase : Phase F)
+phase_front : {F : Type 0} (text : TextOf F) (has_text : HasTextOf F) (begins : BeginsOf F text has_text) (rules : Rules) (start now : Option (List ℕ)) (past later : Past) (phase : Phase F)
     → Later past later → PhaseHolds text has_text rules start past phase now → IsFront rules start later now
 phase_front text has_text begins rules start now past later (P.Gathering gathering) follows holds = inl holds.nothing
 phase_front text has_text begins rules start now past later (P.Writing writer) follows holds = inr (within_later text has_text begins rules start now past later writer (told_stays rules past later holds.told follows) follows holds.begun)
@@ -111,11 +111,11 @@ phase_front text has_text begins rules start now past later (P.Refused fault) fo
 phase_front text has_text begins rules start now past later P.Lost follows holds = absurd holds
 
 -- a run that stops between two records
-pub stopped_between : {F : Type 0} (text : TextOf F) (has_text : HasTextOf F) (begins : BeginsOf text has_text) (rules : Rules) (start now : Option (List ℕ)) (past later : Past) (sampling : Sampling F)
+pub stopped_between : {F : Type 0} (text : TextOf F) (has_text : HasTextOf F) (begins : BeginsOf F text has_text) (rules : Rules) (start now : Option (List ℕ)) (past later : Past) (sampling : Sampling F)
     → Later past later → Holds text has_text rules start past sampling now → PhaseStopped rules start later sampling.phase now
 stopped_between text has_text begins rules start now past later sampling follows holds = phase_stopped text has_text begins rules start now past later sampling.phase follows holds.phase
 
-pub front_between : {F : Type 0} (text : TextOf F) (has_text : HasTextOf F) (begins : BeginsOf text has_text) (rules : Rules) (start now : Option (List ℕ)) (past later : Past) (sampling : Sampling F)
+pub front_between : {F : Type 0} (text : TextOf F) (has_text : HasTextOf F) (begins : BeginsOf F text has_text) (rules : Rules) (start now : Option (List ℕ)) (past later : Past) (sampling : Sampling F)
     → Later past later → Holds text has_text rules start past sampling now → IsFront rules start later now
 front_between text has_text begins rules start now past later sampling follows holds = phase_front text has_text begins rules start now past later sampling.phase follows holds.phase
 
@@ -141,7 +141,7 @@ front_later past xs ys later follows =
     let Of : Past → Type 0 = λ p. Later (past_with past xs) p in
     later_trans (past_with past xs) (past_with past (xs ++ ys)) later (subst Of (past_with-append past xs ys) (later_with (past_with past xs) ys)) follows
 
-pub halts_here : {F : Type 0} (text : TextOf F) (has_text : HasTextOf F) (begins : BeginsOf text has_text) (a b : Sampling F) (u v : Option (List ℕ)) (xs ys : List Found)
+pub halts_here : {F : Type 0} (text : TextOf F) (has_text : HasTextOf F) (begins : BeginsOf F text has_text) (a b : Sampling F) (u v : Option (List ℕ)) (xs ys : List Found)
     → Samples text has_text a u xs b v → Halts text has_text a u (xs ++ ys) b v
 halts_here text has_text begins a b u v xs ys f = record {
   within = λ rules start past holds later follows.
