@@ -8,6 +8,7 @@ use Rattle.lp_model.specs.Reading.{Columns, Format, Slots, Record, columns_behin
 use Rattle.lp_model.specs.Following.{records_behind, records_following}
 use Rattle.log_reading.specs.Found.{Found, found_of}
 use Rattle.log_reading.proofs.Founds.{found_of-append}
+use Rattle.sampled_table.specs.declared.kept.FirstLog.{FirstLog}
 use Rattle.sampled_run.specs.Past.{columns_or, first_seen, log_with, or_first}
 
 pub record SetsOnce (format : Format) : Type 0 where
@@ -55,13 +56,16 @@ has_line format sets before line some = elim (cases_Bool (is_overlong line.text)
       (found.0, behind_more format before line short ∙ found.1)
 ]
 
+abbrev named : List ℕ → Columns → FirstLog
+named identity columns = record { identity = identity; columns = columns }
+
 told_by : (identity : List ℕ) (number : ℕ) (own whole : Option Columns) (slots : List Slots) (rest : List Found) → (0 < length slots → (columns : Columns) × (own ≡ Some columns) × (whole ≡ Some columns))
     → or_first (first_seen None rest) (log_with identity whole) ≡ log_with identity whole
     → or_first (first_seen None (found_of identity (map (λ (s : Slots). record { number = number; slots = s; columns = own }) slots) ++ rest)) (log_with identity whole) ≡ log_with identity whole
 told_by identity number own whole [] rest has told = told
 told_by identity number own whole (s ∷ slots) rest has told =
     let (columns, own_is, whole_is) = has (omega arith) in
-    ap (λ (t : Option Columns). Some (record { identity = identity; columns = columns_or t })) own_is ∙ sym (ap (log_with identity) whole_is)
+    ap (λ (t : Option Columns). Some (named identity (columns_or t))) own_is ∙ sym (ap (log_with identity) whole_is)
 
 -- the log that the first row tells is the one that the columns at the end tell
 pub first_told : (format : Format) → SetsOnce format → (identity : List ℕ) (before lines : List Line)

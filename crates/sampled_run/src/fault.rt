@@ -14,7 +14,7 @@ pub enum Stop {
 }
 
 /// Why a run over sampled columns stops.
-#[derive(Debug, Drop)]
+#[derive(Drop)]
 pub enum SampleFault {
     /// The query doesn't fit the columns of the logs.
     Plan(TypeFault),

@@ -3,8 +3,10 @@ use Rattle.std.proofs.Common.{◌≡◌, ℕ, ◌<◌, ◌≤◌, ◌==◌, fals
 use Rattle.std.proofs.lemmas.List.{map-append, take-append-le, length-map}
 use Rattle.std.specs.List.{range_with_len}
 use Rattle.lp_time.specs.declared.piece.Piece.{Piece}
+use Rattle.lp_values.specs.declared.kind.Kind.{Kind}
 use Rattle.log_reading.specs.Found.{Found}
 use Rattle.delimited_input.specs.Kinds.{Row, column_kind, kind_of_texts, kinds_of, text_in}
+use Rattle.sampled_table.specs.declared.judging.Judged.{Judged}
 use Rattle.sampled_table.specs.declared.kept.FirstLog.{FirstLog}
 use Rattle.sampled_table.specs.Fields.{texts_under}
 use Rattle.sampled_table.specs.Judged.{judged, named_kinds}
@@ -27,9 +29,12 @@ pub kinds_stay : (columns : ℕ) (pattern : List Piece) (limit : ℕ) (rows more
 unfolding kinds_of
 kinds_stay columns pattern limit rows more some enough = map_same (column_kind pattern limit (rows ++ more)) (column_kind pattern limit rows) (λ column. kind_stays pattern limit rows more column some enough) (range_with_len 0 columns)
 
+abbrev told_with : FirstLog → List Kind → Judged
+told_with log kinds = record { log = Some log.identity; columns = named_kinds kinds log.columns }
+
 pub judged_stays : (limit : ℕ) (pattern : List Piece) (log : FirstLog) (founds more : List Found) → 0 < length founds → limit ≤ length founds → judged limit pattern (Some log) (founds ++ more) ≡ judged limit pattern (Some log) founds
 judged_stays limit pattern log founds more some enough =
     let size = length-map founds (texts_under log) in
-    ap (λ kinds. record { log = Some log.identity; columns = named_kinds kinds log.columns })
+    ap (told_with log)
     (ap (kinds_of (length log.columns) pattern limit) (map-append (texts_under log) founds more)
     ∙ kinds_stay (length log.columns) pattern limit (map (texts_under log) founds) (map (texts_under log) more) (omega arith) (omega arith))
