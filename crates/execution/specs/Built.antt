@@ -34,7 +34,7 @@ reads_stdin (name ∷ next ∷ names) = false
 
 -- whether all that the options ask for is built
 abbrev pub are_options_built : Spec → InputFormat → Bool
-are_options_built spec input = is_built_input input && is_csv spec.output && is_none spec.errors && is_none spec.checkpoint
+are_options_built spec input = is_built_input input && is_csv spec.output && is_none spec.checkpoint
 
 -- whether all that the options and the query ask for is built
 abbrev pub all_built : Spec → Query → Bool

@@ -6,7 +6,8 @@ use Rattle.lp_values.specs.declared.value.Value.{Value}
 use Rattle.command_words.specs.declared.spec.Spec.{Spec}
 use Rattle.command_words.specs.declared.formats.InputFormat.{InputFormat}
 use Rattle.log_reading.specs.declared.span.Span.{Span}
-use Rattle.log_reading.specs.Spans.{AreKept, spans_found, spans_bad}
+use Rattle.log_reading.specs.Page.{IsTooMany, IsWithin}
+use Rattle.log_reading.specs.Spans.{AreKept, BadLine, spans_found, spans_bad, spans_bad_lines}
 use Rattle.output_formats.specs.Headers.{csv_of}
 use Rattle.query_run.specs.declared.executing.Counts.{Counts}
 use Rattle.query_types.specs.declared.fault.TypeFault.{TypeFault}
@@ -23,12 +24,13 @@ IsMoment moment = (pos 0 ≤ℤ moment) × (moment <ℤ pos 253402300800)
 abbrev pub rows_in : InputFormat → Planned → Folder → List Span → List (List Value)
 rows_in format plan folder spans = plan_rows (readings_of format) plan (lines_of format) folder spans
 
--- an output gains the CSV text of a plan's rows; so many records, rows and bad lines were met
+-- an output gains the CSV text of a plan's rows; so many records, rows and bad lines were met, of these no more than there may be
 pub record Writes (before now : Option (List ℕ)) (spec : Spec) (format : InputFormat) (plan : Planned) (spans : List Span) (counts : Counts) (folder : Folder) : Type 0 where
   pub text : Gains before now (csv_of spec.headers true plan.names (rows_in format plan folder spans))
   pub processed : counts.processed ≡ length (spans_found (lines_of format) false folder spans)
   pub output : counts.output ≡ length (rows_in format plan folder spans)
   pub bad : counts.bad ≡ length (spans_bad (lines_of format) false folder spans)
+  pub within : IsWithin spec.errors counts.bad
 
 -- a query has this plan
 abbrev pub IsPlanned : Spec → model.Query → Planned → Type 0
@@ -44,6 +46,13 @@ pub record IsExecuted (told : Option Folder) (before now : Option (List ℕ)) (s
 pub record IsFront (told : Option Folder) (before now : Option (List ℕ)) (spec : Spec) (q : model.Query) (spans : List Span) : Type 0 where
   pub plan : Planned
   pub is_planned : IsPlanned spec q plan
+  pub front : Told told (λ folder. AreKept (lines_of (input_of spec q)) false spans folder → GainsSome before now (csv_of spec.headers true plan.names (rows_in (input_of spec q) plan folder spans)))
+
+-- of the bad lines of the spans, in order, this is the first that is one too many; the output holds the front of the text
+pub record IsParseError (told : Option Folder) (before now : Option (List ℕ)) (spec : Spec) (q : model.Query) (spans : List Span) (line : BadLine) : Type 0 where
+  pub plan : Planned
+  pub is_planned : IsPlanned spec q plan
+  pub exceeds : Told told (λ folder. AreKept (lines_of (input_of spec q)) false spans folder → IsTooMany spec.errors 0 (spans_bad_lines (lines_of (input_of spec q)) false folder spans) line)
   pub front : Told told (λ folder. AreKept (lines_of (input_of spec q)) false spans folder → GainsSome before now (csv_of spec.headers true plan.names (rows_in (input_of spec q) plan folder spans)))
 
 -- a run stopped before it wrote anything, or within the text

@@ -1,5 +1,6 @@
 -- Facts on the fault of a run.
 use Rattle.std.specs.Prelude.{Result, Ok, Err, ⊤}
+use Rattle.log_reading.specs.Spans.{BadLine, bad_line}
 use Rattle.query_types.specs.declared.fault.TypeFault.{TypeFault}
 use Rattle.query_types.specs.declared.fault.TypeFault.TheVariants as T
 use Rattle.execution.specs.declared.fault.RunFault.{RunFault}
@@ -11,7 +12,17 @@ IfPlan (Ok value) P = ⊤
 IfPlan (Err (F.Plan fault)) P = P fault
 IfPlan (Err F.LogsFault) P = ⊤
 IfPlan (Err F.StageFault) P = ⊤
+IfPlan (Err (F.ParseErrors log row)) P = ⊤
 IfPlan (Err F.Memory) P = ⊤
+
+-- P of the bad line that was one too many, where that is the answer
+abbrev pub IfParse : {T : Type 0} → Result T RunFault → (BadLine → Type 0) → Type 0
+IfParse (Ok value) P = ⊤
+IfParse (Err (F.Plan fault)) P = ⊤
+IfParse (Err F.LogsFault) P = ⊤
+IfParse (Err F.StageFault) P = ⊤
+IfParse (Err (F.ParseErrors log row)) P = P (bad_line log row)
+IfParse (Err F.Memory) P = ⊤
 
 -- why a plan isn't made
 abbrev pub unplanned : TypeFault → RunFault

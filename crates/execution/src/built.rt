@@ -44,10 +44,7 @@ fn reads_stdin(names: &PlacedList) -> bool
 fn are_options_built(spec: &Spec, input: InputFormat) -> bool
     ensures { result ≡ are_options_built spec.now input }
 {
-    is_built_input(input)
-        && is_csv(spec.output)
-        && spec.errors.is_none()
-        && spec.checkpoint.is_none()
+    is_built_input(input) && is_csv(spec.output) && spec.checkpoint.is_none()
 }
 
 /// Whether all that the options and the query ask for is built.

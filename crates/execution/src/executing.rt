@@ -4,8 +4,8 @@ ghost use Rattle.lp_model.specs.Outside.{Rose, OnlyGrow, Told, bytes_in};
 ghost use Rattle.log_reading.specs.Spans.{AllSpans, IsSpan, spans_size};
 ghost use Rattle.query_tree.specs.Views.{query_of};
 ghost use Rattle.execution.specs.Built.{all_built};
-ghost use Rattle.execution.specs.Executed.{IsMoment, IsExecuted, IsStopped, IsUnplanned};
-ghost use Rattle.execution.specs.Faults.{IfPlan, unplanned};
+ghost use Rattle.execution.specs.Executed.{IsMoment, IsExecuted, IsParseError, IsStopped, IsUnplanned};
+ghost use Rattle.execution.specs.Faults.{IfParse, IfPlan, unplanned};
 
 use crate::RunFault;
 use crate::formats::input_of;
@@ -44,6 +44,16 @@ fn unplanned(fault: TypeFault) -> RunFault
     }
 }
 
+// How many bad lines a run may have.
+fn most_bad(errors: Option<u32>) -> Option<u64>
+    ensures { result ≡ errors }
+{
+    match errors {
+        Some(most) => Some(u64::from(most)),
+        None => None,
+    }
+}
+
 /// Runs a query over spans of logs, in order: their records, of which it takes those that WHERE keeps, and the text of the rows
 /// that SELECT makes of them.
 pub fn execute<L: Logs, I: Source, G: Stage>(
@@ -66,6 +76,7 @@ pub fn execute<L: Logs, I: Source, G: Stage>(
     ensures stopped { OnErr result (IsStopped (L.folder logs.new) (G.state stage.old).written (G.state stage.new).written spec.now (query_of query.now) spans.now) }
     ensures plan { IfPlan result (IsUnplanned spec.now (query_of query.now)) }
     ensures before { IfPlan result (λ fault. (G.state stage.new).written ≡ (G.state stage.old).written) }
+    ensures parse { IfParse result (IsParseError (L.folder logs.new) (G.state stage.old).written (G.state stage.new).written spec.now (query_of query.now) spans.now) }
     ensures input { input.new ≡ input.old }
     ensures given { L.given logs.new ≤ L.given logs.old + spans_size spans.now }
     ensures later_logs { L.faults logs.old ≤ L.faults logs.new }
@@ -87,11 +98,14 @@ pub fn execute<L: Logs, I: Source, G: Stage>(
         logs,
         spans.as_slice(),
         target,
+        most_bad(spec.errors),
         stage,
     ) {
         Ok(counts) => Ok(Ran { counts }),
         Err(ReadFault::Memory) => Err(RunFault::Memory),
         Err(ReadFault::Logs) => Err(RunFault::LogsFault),
         Err(ReadFault::Output) => Err(RunFault::StageFault),
+        Err(ReadFault::Stopped) => unreachable!(),
+        Err(ReadFault::Bad { log, row }) => Err(RunFault::ParseErrors { log, row }),
     }
 }

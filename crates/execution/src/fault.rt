@@ -1,8 +1,9 @@
 // Why a run of a query stops.
+use lp_outside::Name;
 use query_types::TypeFault;
 
 /// Why a run of a query stops. The fault of a plan is never want of memory.
-#[derive(Clone, Copy, Debug, PartialEq, Eq)]
+#[derive(Drop)]
 pub enum RunFault {
     /// The query doesn't fit the columns of the logs.
     Plan(TypeFault),
@@ -10,6 +11,8 @@ pub enum RunFault {
     LogsFault,
     /// A call of the stage failed.
     StageFault,
+    /// A bad line is one too many: the log's identity, and the line's number.
+    ParseErrors { log: Name, row: u64 },
     /// Memory was refused.
     Memory,
 }

@@ -1,5 +1,5 @@
 -- The reading of a log, line by line and piece by piece.
-use Rattle.std.proofs.Common.{◌≡◌, ℕ, ◌+◌, ◌≤◌, ◌<◌, Bool, true, false, not, List, [], ◌∷◌, ◌++◌, length, map, filter, Option, ap, sym, ◌∙◌, refl, subst, append_assoc, arith, length-append, nat_lt, lt-ltb, if◌then◌else◌}
+use Rattle.std.proofs.Common.{◌≡◌, ℕ, ◌+◌, ◌≤◌, ◌<◌, Bool, true, false, not, List, [], ◌∷◌, ◌++◌, length, map, filter, Option, Some, ap, sym, ◌∙◌, refl, subst, append_assoc, arith, length-append, nat_lt, lt-ltb, if◌then◌else◌}
 use Rattle.std.proofs.lemmas.List.{append-nil, map-append, length-map}
 use Rattle.std.proofs.lemmas.List.Elements.{filter-append}
 use Rattle.std.specs.List.{before_first, after_first, position_or_len}
@@ -14,7 +14,7 @@ use Rattle.line_input.specs.Handed.{TakesFirst}
 use Rattle.line_input.specs.Splitter.{Split}
 use Rattle.log_reading.specs.Found.{Found, found_of}
 use Rattle.log_reading.specs.declared.page.Page.{Page}
-use Rattle.log_reading.specs.Page.{Takes, Stops, to_come, Follows, Advances, StopsIn, StopsWithin, Spends}
+use Rattle.log_reading.specs.Page.{Takes, Stops, to_come, Follows, Advances, StopsIn, StopsWithin, Spends, IsTooMany, ExceedsIn, ExceedsWithin}
 use Rattle.log_reading.proofs.Founds.{found_of-append}
 
 -- the laws of a taker
@@ -304,4 +304,108 @@ stops_fed {T = T} stops format identity waits piece old split z u w place left s
   within = λ rest.
       let Of : List Line → Type 0 = λ lines. StopsIn stops format identity lines old z u w in
       subst Of (sym (to_come-fed waits piece rest old split place left)) (record { behind = λ history at. (s.within rest).behind history at });
+}
+
+-- a bad line that is one too many, with others behind it
+pub too_many_more : {B : Type 0} (most_bad : Option ℕ) (bad : ℕ) (first second : List B) (line : B) → IsTooMany most_bad bad first line → IsTooMany most_bad bad (first ++ second) line
+too_many_more most_bad bad first second line t = record {
+  front = t.front;
+  rest = t.rest ++ second;
+  stands = ap (λ l. l ++ second) t.stands ∙ append_assoc t.front (line ∷ t.rest) second;
+  most = t.most;
+}
+
+-- with others before it
+pub too_many_later : {B : Type 0} (a b : Option ℕ) (m n : ℕ) (first second : List B) (line : B) → b ≡ a → n ≡ m + length first → IsTooMany b n second line → IsTooMany a m (first ++ second) line
+too_many_later a b m n first second line same count t =
+    let size : length (first ++ t.front) ≡ length first + length t.front = length-append first t.front in
+    let all : n + length t.front ≡ m + length (first ++ t.front) = omega arith in
+    record {
+      front = first ++ t.front;
+      rest = t.rest;
+      stands = ap (λ l. first ++ l) t.stands ∙ sym (append_assoc first t.front (line ∷ t.rest));
+      most = sym same ∙ (t.most ∙ ap Some all);
+    }
+
+-- a bad line where there are as many as may be
+too_many_one : (format : Format) (history : List Line) (line : Line) (most_bad : Option ℕ) (bad row : ℕ) → line.number ≡ row → is_bad (reading_behind format history line) ≡ true → most_bad ≡ Some bad
+    → IsTooMany most_bad bad (bad_following format history (line ∷ [])) row
+too_many_one format history line most_bad bad row number is most =
+    let one : bad_behind format history line ≡ line.number ∷ [] = rw is refl in
+    let none : bad ≡ bad + 0 = omega arith in
+    record { front = []; rest = []; stands = append-nil (bad_behind format history line) ∙ (one ∙ ap (λ k. k ∷ []) number); most = most ∙ ap Some none }
+
+pub exceeds_line : {T : Type 0} (format : Format) (line : Line) (old : Page T) (text : List ℕ) (reading : Reading) (row : ℕ)
+    → line.number ≡ row → line.text ≡ text → is_overlong line.text ≡ false → reading ≡ format.reading text old.standing.columns → is_bad reading ≡ true → old.most_bad ≡ Some old.bad → ExceedsIn format (line ∷ []) old row
+exceeds_line format line old text reading row number same short read is most = record {
+  behind = λ history at.
+      let reading' : reading_behind format history line ≡ reading = reading_line format history line text old.standing at same short ∙ sym read in
+      too_many_one format history line old.most_bad old.bad row number (ap is_bad reading' ∙ is) most;
+}
+
+pub exceeds_overlong : {T : Type 0} (format : Format) (line : Line) (old : Page T) (row : ℕ) → line.number ≡ row → is_overlong line.text ≡ true → old.most_bad ≡ Some old.bad → ExceedsIn format (line ∷ []) old row
+exceeds_overlong format line old row number long most = record {
+  behind = λ history at.
+      let is : is_bad (reading_behind format history line) ≡ true = rw long refl in
+      too_many_one format history line old.most_bad old.bad row number is most;
+}
+
+pub exceeds_trans : {T O : Type 0} (takes : Takes T O) (format : Format) (identity : List ℕ) (first second : List Line) (a b : Page T) (u v : O) (row : ℕ)
+    → b.most_bad ≡ a.most_bad → Follows takes format identity first a b u v → ExceedsIn format second b row → ExceedsIn format (first ++ second) a row
+exceeds_trans takes format identity first second a b u v row most f s = record {
+  behind = λ history at.
+      let f' = f.behind history at in
+      let Of : List ℕ → Type 0 = λ l. IsTooMany a.most_bad a.bad l row in
+      subst Of (sym (bad_following-append format history first second))
+      (too_many_later a.most_bad b.most_bad a.bad b.bad (bad_following format history first) (bad_following format (history ++ first) second) row most f'.bad (s.behind (history ++ first) f'.standing));
+}
+
+pub exceeds_more : {T : Type 0} (format : Format) (first second : List Line) (a : Page T) (row : ℕ) → ExceedsIn format first a row → ExceedsIn format (first ++ second) a row
+exceeds_more format first second a row s = record {
+  behind = λ history at.
+      let Of : List ℕ → Type 0 = λ l. IsTooMany a.most_bad a.bad l row in
+      subst Of (sym (bad_following-append format history first second))
+      (too_many_more a.most_bad a.bad (bad_following format history first) (bad_following format (history ++ first) second) row (s.behind history at));
+}
+
+pub exceeds_in_line : {T : Type 0} (format : Format) (waits : Bool) (old : Page T) (split : Split) (row : ℕ) → TakesFirst old.splitter split
+    → ExceedsIn format (ended_line (old.standing.lines + 1) old.splitter.place (before_first is_lf old.splitter.left) ∷ []) old row → ExceedsWithin format waits [] old row
+exceeds_in_line format waits old split row first s = record {
+  within = λ rest.
+      let line = ended_line (old.standing.lines + 1) old.splitter.place (before_first is_lf old.splitter.left) in
+      let others = lines_to_come waits (old.standing.lines + 1 + 1) (old.splitter.place + length (before_first is_lf old.splitter.left) + 1) (after_first is_lf old.splitter.left ++ rest) in
+      let Of : List Line → Type 0 = λ lines. ExceedsIn format lines old row in
+      subst Of (sym (lines_to_come-first waits (old.standing.lines + 1) old.splitter.place old.splitter.left rest first.has_end)) (exceeds_more format (line ∷ []) others old row s);
+}
+
+pub exceeds_within : {T O : Type 0} (takes : Takes T O) (format : Format) (identity : List ℕ) (waits : Bool) (first second : List ℕ) (a b : Page T) (u v : O) (row : ℕ)
+    → b.most_bad ≡ a.most_bad → Advances takes format identity waits first a b u v → ExceedsWithin format waits second b row → ExceedsWithin format waits (first ++ second) a row
+exceeds_within takes format identity waits first second a b u v row most f s = record {
+  within = λ rest.
+      let Of : List Line → Type 0 = λ lines. ExceedsIn format lines a row in
+      subst Of (sym (ap (to_come waits a) (append_assoc first second rest) ∙ f.taken (second ++ rest)))
+      (exceeds_trans takes format identity f.lines (to_come waits b (second ++ rest)) a b u v row most f.follows (s.within rest));
+}
+
+pub exceeds_fed : {T : Type 0} (format : Format) (waits : Bool) (piece : List ℕ) (old : Page T) (split : Split) (row : ℕ)
+    → split.place ≡ old.splitter.place → split.left ≡ old.splitter.left ++ piece → ExceedsWithin format waits [] (record old { splitter = split }) row → ExceedsWithin format waits piece old row
+exceeds_fed format waits piece old split row place left s = record {
+  within = λ rest.
+      let Of : List Line → Type 0 = λ lines. ExceedsIn format lines old row in
+      subst Of (sym (to_come-fed waits piece rest old split place left)) (record { behind = λ history at. (s.within rest).behind history at });
+}
+
+-- it stopped with nothing taken
+pub stops_unmoved : {T O : Type 0} (takes : Takes T O) (stops : Stops T O) (here : StopsHere takes stops) (format : Format) (identity : List ℕ) (lines : List Line) (old new : Page T) (w : O)
+    → new.taker ≡ old.taker → takes old.taker w [] old.taker w → StopsIn stops format identity lines old new w w
+stops_unmoved {T = T} takes stops here format identity lines old new w taker nothing = record {
+  behind = λ history at.
+      let At : T → Type 0 = λ t. takes old.taker w [] t w in
+      here old.taker new.taker w w [] _ (subst At (sym taker) nothing);
+}
+
+pub stops_within_unmoved : {T O : Type 0} (takes : Takes T O) (stops : Stops T O) (here : StopsHere takes stops) (format : Format) (identity : List ℕ) (waits : Bool) (piece : List ℕ) (old new : Page T) (w : O)
+    → new.taker ≡ old.taker → takes old.taker w [] old.taker w → StopsWithin stops format identity waits piece old new w w
+stops_within_unmoved takes stops here format identity waits piece old new w taker nothing = record {
+  within = λ rest. stops_unmoved takes stops here format identity (to_come waits old (piece ++ rest)) old new w taker nothing;
 }

@@ -3,3 +3,5 @@ pub mod Advancing
 pub mod Spanning
 pub mod SpansTaken
 pub mod Starting
+pub mod Ending
+pub mod Faults

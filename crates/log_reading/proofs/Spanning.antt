@@ -1,11 +1,11 @@
 -- The reading of a log up to a cut, while it grows.
-use Rattle.std.proofs.Common.{◌≡◌, ℕ, ◌+◌, ◌≤◌, Bool, true, List, [], ◌∷◌, ◌++◌, length, Option, Some, None, ap, sym, ◌∙◌, refl, subst, arith, length-append, drop}
-use Rattle.std.proofs.lemmas.List.{length-map, append-nil}
+use Rattle.std.proofs.Common.{◌≡◌, ℕ, ◌+◌, ◌≤◌, Bool, true, List, [], ◌∷◌, ◌++◌, length, map, Option, Some, None, ap, sym, ◌∙◌, refl, subst, arith, length-append, drop}
+use Rattle.std.proofs.lemmas.List.{length-map, append-nil, map-append}
 use Rattle.std.specs.List.{position_or_len}
 use Rattle.lp_model.specs.Lines.{Line, is_lf, lines_to_come}
 use Rattle.lp_model.specs.Outside.{Folder, OnlyGrow, Told, bytes_in}
 use Rattle.lp_model.specs.Pieces.{IsPiece, rest_of}
-use Rattle.lp_model.specs.Reading.{Format, Record, records_of, bad_lines_of, lines_before, lines_between, standing_behind}
+use Rattle.lp_model.specs.Reading.{Format, Record, records_of, bad_lines_of, lines_before, lines_between, standing_behind, standing_at}
 use Rattle.lp_model.specs.Following.{records_following, bad_following, end_of}
 use Rattle.lp_model.proofs.Carrying.{standing_carried}
 use Rattle.lp_model.proofs.Following.{records_of-following, bad_lines_of-following}
@@ -16,9 +16,10 @@ use Rattle.log_reading.specs.Found.{Found, found_of}
 use Rattle.log_reading.specs.declared.span.Span.{Span}
 use Rattle.log_reading.specs.declared.span.Took.{Took}
 use Rattle.log_reading.specs.declared.page.Page.{Page}
-use Rattle.log_reading.specs.Page.{Takes, Stops, to_come, Follows, StopsIn, StopsWithin}
-use Rattle.log_reading.specs.Spans.{HasRead, StopsReading, log_to_come, IsKept, TakesSpan, cut_of, span_found, span_bad, EndsSpan, took_at, took_of, span_end}
-use Rattle.log_reading.proofs.Advancing.{TakesMore, StopsHere, StopsLater, advances_trans, advances_none, stops_trans, follows_trans, to_come-waiting}
+use Rattle.log_reading.specs.Page.{Takes, Stops, to_come, Follows, StopsIn, StopsWithin, IsTooMany, ExceedsIn, ExceedsWithin}
+use Rattle.log_reading.specs.Spans.{HasRead, StopsReading, ExceedsReading, BadLine, bad_line, span_bad_lines, log_to_come, IsKept, TakesSpan, cut_of, span_found, span_bad, EndsSpan, took_at, took_of, span_end}
+use Rattle.log_reading.proofs.Advancing.{TakesMore, StopsHere, StopsLater, advances_trans, advances_none, stops_trans, follows_trans, to_come-waiting, exceeds_trans}
+use Rattle.log_reading.proofs.Ending.{standing_at_cut}
 
 abbrev end_at : {T : Type 0} → Page T → ℕ
 end_at page = page.splitter.place + length page.splitter.left
@@ -205,3 +206,80 @@ told_took format None span page a b noted ends = tt
 told_took format (Some x) span page a b noted ends = λ kept.
     let e = ends kept in
     noted ∙ (ap (λ p. a ++ took_at span.identity span.from p page.standing ∷ []) e.place ∙ ap (λ s. a ++ took_at span.identity span.from (span_end x span) s ∷ []) e.standing)
+
+-- a bad line was one too many within a piece that was read
+pub exceeds_in_piece : {T : Type 0} (format : Format) (waits : Bool) (told : Option Folder) (name : List ℕ) (cut : ℕ) (old : Page T) (bytes : List ℕ) (row : ℕ)
+    → IsPiece told name (old.splitter.place + length old.splitter.left) cut bytes → ExceedsWithin format waits bytes old row → ExceedsReading format waits told name cut old row
+exceeds_in_piece format waits None name cut old bytes row piece s = record { within = tt }
+exceeds_in_piece {T = T} format waits (Some x) name cut old bytes row piece s = record {
+  within =
+      let Of : List ℕ → Type 0 = λ rest. ExceedsIn format (to_come waits old rest) old row in
+      subst Of (sym (rest_begins x name (end_at old) (end_at old + length bytes) cut bytes refl piece)) (s.within (rest_of x name (end_at old + length bytes) cut));
+}
+
+-- behind a part that was read
+pub exceeds_behind : {T O : Type 0} (takes : Takes T O) (format : Format) (identity : List ℕ) (waits : Bool) (first second : Option Folder) (name : List ℕ) (cut : ℕ) (a b : Page T) (u v : O) (row : ℕ)
+    → OnlyGrow first second → b.most_bad ≡ a.most_bad → HasRead takes format identity waits first name cut a b u v → ExceedsReading format waits second name cut b row → ExceedsReading format waits second name cut a row
+exceeds_behind takes format identity waits first None name cut a b u v row grows most f s = record { within = tt }
+exceeds_behind {T = T} takes format identity waits first (Some x) name cut a b u v row grows most f s =
+    let piece = IsPiece-grown first (Some x) name (end_at a) cut f.bytes grows f.piece in
+    let rest = rest_of x name (end_at b) cut in
+    let Of : List Line → Type 0 = λ lines. ExceedsIn format lines a row in
+    let lines : log_to_come waits a x name cut ≡ f.advances.lines ++ to_come waits b rest = ap (to_come waits a) (rest_begins x name (end_at a) (end_at b) cut f.bytes f.end piece) ∙ f.advances.taken rest in
+    record { within = subst Of (sym lines) (exceeds_trans takes format identity f.advances.lines (to_come waits b rest) a b u v row most f.advances.follows s.within) }
+
+-- in what stood behind the last LF
+pub exceeds_at_end : {T O : Type 0} (takes : Takes T O) (format : Format) (identity : List ℕ) (waits : Bool) (told : Option Folder) (name : List ℕ) (cut : ℕ) (a b : Page T) (u v : O) (row : ℕ)
+    → b.most_bad ≡ a.most_bad → HasRead takes format identity waits told name cut a b u v → b.splitter.place + length b.splitter.left ≡ cut → ExceedsIn format (to_come waits b []) b row → ExceedsReading format waits told name cut a row
+exceeds_at_end takes format identity waits None name cut a b u v row most f whole s = record { within = tt }
+exceeds_at_end {T = T} takes format identity waits (Some x) name cut a b u v row most f whole s =
+    let none : rest_of x name (end_at b) cut ≡ [] = rest_none x name (end_at b) cut (omega arith) in
+    let Of : List ℕ → Type 0 = λ rest. ExceedsIn format (to_come waits b rest) b row in
+    exceeds_behind takes format identity waits (Some x) (Some x) name cut a b u v row (OnlyGrow-refl (Some x)) most f (record { within = subst Of (sym none) s })
+
+-- the bad lines of a log that is named
+too_many_named : (most_bad : Option ℕ) (bad : ℕ) (identity : List ℕ) (rows : List ℕ) (row : ℕ) → IsTooMany most_bad bad rows row → IsTooMany most_bad bad (map (bad_line identity) rows) (bad_line identity row)
+too_many_named most_bad bad identity rows row t =
+    let size : length (map (bad_line identity) t.front) ≡ length t.front = length-map t.front (bad_line identity) in
+    record {
+      front = map (bad_line identity) t.front;
+      rest = map (bad_line identity) t.rest;
+      stands = ap (map (bad_line identity)) t.stands ∙ map-append (bad_line identity) t.front (row ∷ t.rest);
+      most = t.most ∙ ap (λ k. Some (bad + k)) (sym size);
+    }
+
+pub span_exceeded : {T : Type 0} (format : Format) (waits : Bool) (x : Folder) (span : Span) (old first : Page T) (row : ℕ) → IsStart span first → first.bad ≡ old.bad → first.most_bad ≡ old.most_bad
+    → ExceedsIn format (log_to_come waits first x span.name span.listed) first row → IsKept format waits (cut_of x span) span
+    → IsTooMany old.most_bad old.bad (span_bad_lines format waits x span) (bad_line span.identity row)
+span_exceeded format waits x span old first row start bad most s kept =
+    let bytes = cut_of x span in
+    let history = lines_before bytes waits span.from in
+    let behind = s.behind history (start.standing ∙ kept.standing) in
+    let lines = span_lines waits x span first format start kept in
+    let rows : bad_following format history (log_to_come waits first x span.name span.listed) ≡ span_bad format waits x span =
+    ap (bad_following format history) lines ∙ sym (bad_lines_of-following format bytes waits span.from kept.at_end) in
+    let Of : List ℕ → Type 0 = λ l. IsTooMany first.most_bad first.bad l row in
+    let Most : Option ℕ → Type 0 = λ m. IsTooMany m first.bad (span_bad format waits x span) row in
+    let So : ℕ → Type 0 = λ k. IsTooMany old.most_bad k (span_bad format waits x span) row in
+    too_many_named old.most_bad old.bad span.identity (span_bad format waits x span) row (subst So bad (subst Most most (subst Of rows behind)))
+
+pub told_exceeded : {T : Type 0} (format : Format) (waits : Bool) (told : Option Folder) (span : Span) (old first : Page T) (line : BadLine) → IsStart span first → first.bad ≡ old.bad → first.most_bad ≡ old.most_bad
+    → line.log ≡ span.identity → ExceedsReading format waits told span.name span.listed first line.row
+    → Told told (λ folder. IsKept format waits (cut_of folder span) span → IsTooMany old.most_bad old.bad (span_bad_lines format waits folder span) line)
+told_exceeded format waits None span old first line start bad most named s = tt
+told_exceeded format waits (Some x) span old first line start bad most named s = λ kept.
+    let Of : List ℕ → Type 0 = λ log. IsTooMany old.most_bad old.bad (span_bad_lines format waits x span) (bad_line log line.row) in
+    subst Of (sym named) (span_exceeded format waits x span old first line.row start bad most s.within kept)
+
+-- how a log stands where the span ends
+pub told_standing : {T O : Type 0} (takes : Takes T O) (more : TakesMore takes) (format : Format) (waits : Bool) (told : Option Folder) (span : Span) (first read new : Page T) (u v w : O) → IsStart span first
+    → HasRead takes format span.identity waits told span.name span.listed first read u v → read.splitter.place + length read.splitter.left ≡ span.listed → Follows takes format span.identity (to_come waits read []) read new v w
+    → Told told (λ folder. IsKept format waits (cut_of folder span) span → new.standing ≡ standing_at format (cut_of folder span) waits (length (cut_of folder span)))
+told_standing takes more format waits None span first read new u v w start f whole s = tt
+told_standing takes more format waits (Some x) span first read new u v w start f whole s = λ kept.
+    let bytes = cut_of x span in
+    let history = lines_before bytes waits span.from in
+    let follows = follows_whole takes more format span.identity waits (Some x) x span.name span.listed first read new u v w refl f whole s in
+    let behind = follows.behind history (start.standing ∙ kept.standing) in
+    let all : log_to_come waits first x span.name span.listed ≡ lines_between bytes waits span.from (length bytes) = span_lines waits x span first format start kept ∙ sym (lines_between_end bytes waits span.from kept.at_end) in
+    behind.standing ∙ (ap (λ t. standing_behind format (history ++ t)) all ∙ standing_at_cut format bytes waits span.from kept.at_end)

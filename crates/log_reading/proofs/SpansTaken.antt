@@ -1,6 +1,6 @@
 -- The reading of logs, one after the other, while they grow.
 use Rattle.std.proofs.Common.{◌≡◌, ℕ, suc, true, ◌+◌, ◌-◌, ◌<◌, ◌≤◌, Bool, List, [], ◌∷◌, ◌++◌, length, take, drop, get_or, map, flat_map, Option, Some, None, ap, sym, ◌∙◌, refl, subst, arith, length-append, append_assoc}
-use Rattle.std.proofs.lemmas.List.{take_more, take-append-drop, get_or-take, append-nil, length-take-le, map-append}
+use Rattle.std.proofs.lemmas.List.{take_more, take-append-drop, get_or-take, append-nil, length-take-le, map-append, length-map}
 use Rattle.std.proofs.lemmas.List.Sums.{sum_by-append}
 use Rattle.std.proofs.lemmas.Grind.{flat_map-append}
 use Rattle.lp_model.specs.Outside.{Folder, OnlyGrow, Told, bytes_in}
@@ -11,9 +11,9 @@ use Rattle.log_reading.specs.Found.{Found, found_of}
 use Rattle.log_reading.specs.declared.page.Page.{Page}
 use Rattle.log_reading.specs.declared.span.Span.{Span}
 use Rattle.log_reading.specs.declared.span.Took.{Took}
-use Rattle.log_reading.specs.Page.{Takes, Stops}
-use Rattle.log_reading.specs.Spans.{IsKept, TakesSpan, TakesSpans, AllSpans, AreKept, cut_of, span_found, span_bad, spans_found, spans_bad, spans_size, took_of, took_at}
-use Rattle.log_reading.proofs.Advancing.{TakesMore, StopsLater, StopsMore}
+use Rattle.log_reading.specs.Page.{Takes, Stops, IsTooMany}
+use Rattle.log_reading.specs.Spans.{BadLine, bad_line, span_bad_lines, spans_bad_lines, IsKept, TakesSpan, TakesSpans, AllSpans, AreKept, cut_of, span_found, span_bad, spans_found, spans_bad, spans_size, took_of, took_at}
+use Rattle.log_reading.proofs.Advancing.{TakesMore, StopsLater, StopsMore, too_many_more, too_many_later}
 
 -- what a span's bytes say, where they are the same in two folders
 kept_along : (format : Format) (waits : Bool) (a b : Folder) (span : Span) → cut_of b span ≡ cut_of a span → IsKept format waits (cut_of b span) span → IsKept format waits (cut_of a span) span
@@ -129,6 +129,44 @@ spans_stopped takes stops later more format waits (Some x) (Some y) spans i span
     ap (λ t. t ++ rest) all ∙ (sym (flat_map-append (span_found format waits y) (take (i + 1) spans) (drop (i + 1) spans)) ∙ ap (spans_found format waits y) (take-append-drop (i + 1) spans)) in
     let Stopped : List Found → Type 0 = λ t. stops a.taker u t z.taker w in
     subst Stopped whole (more _ _ _ _ _ _ (later _ _ _ _ _ _ _ _ so_far.done here))
+
+-- as many bad lines as numbers of bad lines
+bad_lines_length : (format : Format) (waits : Bool) (folder : Folder) (spans : List Span) → length (spans_bad_lines format waits folder spans) ≡ length (spans_bad format waits folder spans)
+bad_lines_length format waits folder [] = refl
+bad_lines_length format waits folder (span ∷ spans) =
+    let rest = bad_lines_length format waits folder spans in
+    let first : length (span_bad_lines format waits folder span) ≡ length (span_bad format waits folder span) = length-map (span_bad format waits folder span) (bad_line span.identity) in
+    let named : length (spans_bad_lines format waits folder (span ∷ spans)) ≡ length (span_bad_lines format waits folder span) + length (spans_bad_lines format waits folder spans) = length-append (span_bad_lines format waits folder span) (spans_bad_lines format waits folder spans) in
+    let numbers : length (spans_bad format waits folder (span ∷ spans)) ≡ length (span_bad format waits folder span) + length (spans_bad format waits folder spans) = length-append (span_bad format waits folder span) (spans_bad format waits folder spans) in
+    omega arith
+
+-- a bad line of a span was one too many
+pub spans_exceeded : {T O : Type 0} (takes : Takes T O) (format : Format) (waits : Bool) (first second : Option Folder) (spans : List Span) (i : ℕ) (span : Span) (a b : Page T) (u v : O) (line : BadLine) → i < length spans → span ≡ get_or spans i span
+    → OnlyGrow first second → Told first (λ folder. AllSpans spans (λ s. s.listed ≤ length (bytes_in folder s.name))) → b.most_bad ≡ a.most_bad
+    → Told first (λ folder. AreKept format waits spans folder → TakesSpans takes format waits folder (take i spans) a b u v)
+    → Told second (λ folder. IsKept format waits (cut_of folder span) span → IsTooMany b.most_bad b.bad (span_bad_lines format waits folder span) line)
+    → Told second (λ folder. AreKept format waits spans folder → IsTooMany a.most_bad a.bad (spans_bad_lines format waits folder spans) line)
+spans_exceeded takes format waits None None spans i span a b u v line lt is grows there most f s = tt
+spans_exceeded takes format waits None (Some y) spans i span a b u v line lt is grows there most f s = let e : Some y ≡ None = grows in cc
+spans_exceeded takes format waits (Some x) None spans i span a b u v line lt is grows there most f s = tt
+spans_exceeded takes format waits (Some x) (Some y) spans i span a b u v line lt is grows there most f s = λ kept.
+    let same = cuts_stay x y spans grows there in
+    let so_far = f (λ k s lt' is'. kept_along format waits x y s (same k s lt' is') (kept k s lt' is')) in
+    let here = s (kept i span lt is) in
+    let front = front_all spans (λ s. cut_of y s ≡ cut_of x s) i (omega arith) same in
+    let bads : spans_bad format waits y (take i spans) ≡ spans_bad format waits x (take i spans) =
+    flat_map-same (span_bad format waits y) (span_bad format waits x) (take i spans) (λ k s lt' is'. bad_along format waits x y s (front k s lt' is')) in
+    let size : length (spans_bad format waits y (take i spans)) ≡ length (spans_bad format waits x (take i spans)) = ap length bads in
+    let named = bad_lines_length format waits y (take i spans) in
+    let counted = so_far.bad in
+    let before = spans_bad_lines format waits y (take i spans) in
+    let rest = spans_bad_lines format waits y (drop (i + 1) spans) in
+    let one : spans_bad_lines format waits y (take (i + 1) spans) ≡ before ++ span_bad_lines format waits y span = flat_one (span_bad_lines format waits y) spans i span lt is in
+    let whole : (before ++ span_bad_lines format waits y span) ++ rest ≡ spans_bad_lines format waits y spans =
+    ap (λ t. t ++ rest) (sym one) ∙ (sym (flat_map-append (span_bad_lines format waits y) (take (i + 1) spans) (drop (i + 1) spans)) ∙ ap (spans_bad_lines format waits y) (take-append-drop (i + 1) spans)) in
+    let Of : List BadLine → Type 0 = λ l. IsTooMany a.most_bad a.bad l line in
+    subst Of whole (too_many_more a.most_bad a.bad (before ++ span_bad_lines format waits y span) rest line
+    (too_many_later a.most_bad b.most_bad a.bad b.bad before (span_bad_lines format waits y span) line most (omega arith) here))
 
 -- what a run notes of a log
 took_along : (format : Format) (a b : Folder) (span : Span) → cut_of b span ≡ cut_of a span → took_of format b span ≡ took_of format a span

@@ -1,10 +1,12 @@
 -- How far the reading of a log has come.
-use Rattle.std.specs.Prelude.{◌≡◌, ◌+◌, ◌<◌, ◌≤◌, ◌^◌, ℕ, Bool, List, ◌++◌, length}
+use Rattle.std.specs.Prelude.{◌≡◌, ◌+◌, ◌<◌, ◌≤◌, ◌^◌, ℕ, Bool, List, ◌++◌, ◌∷◌, length, Option, Some, IfSome, ⊤}
 use Rattle.lp_model.specs.Lines.{Line, lines_to_come}
 use Rattle.lp_model.specs.Reading.{Format, standing_behind}
 use Rattle.lp_model.specs.Following.{records_following, bad_following, end_of}
 use Rattle.log_reading.specs.Found.{Found, found_of}
 use Rattle.log_reading.specs.declared.page.Page.{Page}
+use Rattle.log_reading.specs.declared.taker.LineFault.{LineFault}
+use Rattle.log_reading.specs.declared.taker.LineFault.TheVariants as fault
 
 -- what a taker makes of rows
 abbrev pub Takes : Type 0 → Type 0 → Type 1
@@ -43,6 +45,32 @@ pub record StopsIn {T O : Type 0} (stops : Stops T O) (format : Format) (identit
 -- the same for a piece, whatever bytes follow it
 pub record StopsWithin {T O : Type 0} (stops : Stops T O) (format : Format) (identity : List ℕ) (waits : Bool) (piece : List ℕ) (old new : Page T) (before now : O) : Type 0 where
   pub within : (rest : List ℕ) → StopsIn stops format identity (to_come waits old (piece ++ rest)) old new before now
+
+-- there are no more bad lines than there may be
+abbrev pub IsWithin : Option ℕ → ℕ → Type 0
+IsWithin most_bad bad = IfSome most_bad (λ most. bad ≤ most)
+
+-- of these bad lines, with so many before them, this is the first that is one too many
+pub record IsTooMany {B : Type 0} (most_bad : Option ℕ) (bad : ℕ) (lines : List B) (line : B) : Type 0 where
+  pub front : List B
+  pub rest : List B
+  pub stands : lines ≡ front ++ line ∷ rest
+  pub most : most_bad ≡ Some (bad + length front)
+
+-- the bad line of this number among these is one too many
+pub record ExceedsIn {T : Type 0} (format : Format) (lines : List Line) (old : Page T) (row : ℕ) : Type 0 where
+  pub behind : (history : List Line) → old.standing ≡ standing_behind format history → IsTooMany old.most_bad old.bad (bad_following format history lines) row
+
+-- the same for a piece, whatever bytes follow it
+pub record ExceedsWithin {T : Type 0} (format : Format) (waits : Bool) (piece : List ℕ) (old : Page T) (row : ℕ) : Type 0 where
+  pub within : (rest : List ℕ) → ExceedsIn format (to_come waits old (piece ++ rest)) old row
+
+-- a fact on the bad line that was one too many
+abbrev pub OnBad : LineFault → (ℕ → Type 0) → Type 0
+OnBad fault.Memory P = ⊤
+OnBad fault.Failed P = ⊤
+OnBad fault.Stopped P = ⊤
+OnBad (fault.Bad row) P = P row
 
 -- the counts have room for so many lines more
 pub record HasRoom {T : Type 0} (count : T → ℕ) (page : Page T) (more : ℕ) : Type 0 where

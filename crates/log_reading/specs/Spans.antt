@@ -1,5 +1,5 @@
 -- Spans of logs, and what a run makes of them.
-use Rattle.std.specs.Prelude.{◌≡◌, ◌+◌, ◌-◌, ◌≤◌, ◌<◌, ◌^◌, ℕ, Bool, true, List, length, take, flat_map, sum_by, get_or, Option}
+use Rattle.std.specs.Prelude.{◌≡◌, ◌+◌, ◌-◌, ◌≤◌, ◌<◌, ◌^◌, ℕ, Bool, true, List, length, map, take, flat_map, sum_by, get_or, Option, ⊤}
 use Rattle.lp_model.specs.Lines.{Line}
 use Rattle.lp_model.specs.Outside.{Folder, Told, bytes_in}
 use Rattle.lp_model.specs.Pieces.{IsPiece, rest_of}
@@ -9,7 +9,9 @@ use Rattle.log_reading.specs.Found.{Found, found_of}
 use Rattle.log_reading.specs.declared.page.Page.{Page}
 use Rattle.log_reading.specs.declared.span.Span.{Span}
 use Rattle.log_reading.specs.declared.span.Took.{Took}
-use Rattle.log_reading.specs.Page.{Takes, Stops, Advances, StopsIn, to_come}
+use Rattle.log_reading.specs.declared.span.RunFault.{RunFault}
+use Rattle.log_reading.specs.declared.span.RunFault.TheVariants as fault
+use Rattle.log_reading.specs.Page.{Takes, Stops, Advances, StopsIn, ExceedsIn, to_come}
 
 -- a part of a log was read, and its lines were taken
 pub record HasRead {T O : Type 0} (takes : Takes T O) (format : Format) (identity : List ℕ) (waits : Bool) (told : Option Folder) (name : List ℕ) (cut : ℕ) (old new : Page T) (before now : O) : Type 0 where
@@ -26,6 +28,10 @@ log_to_come waits page folder name cut = to_come waits page (rest_of folder name
 pub record StopsReading {T O : Type 0} (stops : Stops T O) (format : Format) (identity : List ℕ) (waits : Bool) (told : Option Folder) (name : List ℕ) (cut : ℕ) (old new : Page T) (before now : O) : Type 0 where
   pub within : Told told (λ folder. StopsIn stops format identity (log_to_come waits old folder name cut) old new before now)
 
+-- the bad line of this number in the rest of a log is one too many
+pub record ExceedsReading {T : Type 0} (format : Format) (waits : Bool) (told : Option Folder) (name : List ℕ) (cut : ℕ) (old : Page T) (row : ℕ) : Type 0 where
+  pub within : Told told (λ folder. ExceedsIn format (log_to_come waits old folder name cut) old row)
+
 -- the bytes of a span's log up to its cut
 abbrev pub cut_of : Folder → Span → List ℕ
 cut_of folder span = take span.listed (bytes_in folder span.name)
@@ -41,6 +47,17 @@ span_found format waits folder span = let bytes = cut_of folder span in found_of
 
 abbrev pub span_bad : Format → Bool → Folder → Span → List ℕ
 span_bad format waits folder span = let bytes = cut_of folder span in bad_lines_of format bytes waits span.from (length bytes)
+
+-- a bad line: the identity of its log, and its number
+pub record BadLine : Type 0 where
+  pub log : List ℕ
+  pub row : ℕ
+
+abbrev pub bad_line : List ℕ → ℕ → BadLine
+bad_line log row = record { log = log; row = row }
+
+abbrev pub span_bad_lines : Format → Bool → Folder → Span → List BadLine
+span_bad_lines format waits folder span = map (bad_line span.identity) (span_bad format waits folder span)
 
 -- a span's log was read and its rows were taken
 pub record TakesSpan {T O : Type 0} (takes : Takes T O) (format : Format) (waits : Bool) (folder : Folder) (span : Span) (old new : Page T) (before now : O) : Type 0 where
@@ -64,6 +81,18 @@ spans_found format waits folder spans = flat_map (span_found format waits folder
 
 abbrev pub spans_bad : Format → Bool → Folder → List Span → List ℕ
 spans_bad format waits folder spans = flat_map (span_bad format waits folder) spans
+
+-- the bad lines of spans, joined
+abbrev pub spans_bad_lines : Format → Bool → Folder → List Span → List BadLine
+spans_bad_lines format waits folder spans = flat_map (span_bad_lines format waits folder) spans
+
+-- a fact on the bad line that was one too many
+abbrev pub OnBadLine : RunFault → (BadLine → Type 0) → Type 0
+OnBadLine fault.Memory P = ⊤
+OnBadLine fault.Logs P = ⊤
+OnBadLine fault.Output P = ⊤
+OnBadLine fault.Stopped P = ⊤
+OnBadLine (fault.Bad log row) P = P (bad_line log row)
 
 -- how many bytes spans have
 abbrev pub spans_size : List Span → ℕ

@@ -1,17 +1,28 @@
 // A log up to its cut, to a taker.
-ghost use Rattle.std.specs.Prelude.{◌≡◌, ◌≤◌, ◌<◌, ◌^◌, ◌+◌, ◌-◌, ◌++◌, ◌∷◌, [], ℕ, List, Bool, length, take, Option, OnOk, OnErr, IfOk, MatchResult, IsErrOf, true};
+ghost use Rattle.std.specs.Prelude.{◌≡◌, ◌≤◌, ◌<◌, ◌^◌, ◌+◌, ◌-◌, ◌++◌, ◌∷◌, [], ℕ, List, Bool, length, take, Option, OnOk, OnErr, IfOk, IfErr, MatchResult, IsErrOf, true};
 ghost use Rattle.std.specs.List.{position_or_len};
 ghost use Rattle.lp_model.specs.Outside.{Rose, OnlyGrow, Told, bytes_in};
 ghost use Rattle.lp_model.specs.Lines.{is_lf};
-ghost use Rattle.log_reading.specs.Page.{HasRoom, Spends, Follows, StopsIn, to_come};
-ghost use Rattle.log_reading.specs.Spans.{HasRead, StopsReading, IsKept, TakesSpan, EndsSpan, span_found, cut_of, took_at, took_of};
+ghost use Rattle.lp_model.specs.Reading.{standing_at};
+ghost use Rattle.log_reading.specs.Page.{HasRoom, Spends, Follows, StopsIn, ExceedsIn, IsTooMany, IsWithin, OnBad, to_come};
+ghost use Rattle.log_reading.specs.Spans.{HasRead, StopsReading, ExceedsReading, IsKept, TakesSpan, EndsSpan, OnBadLine, span_found, span_bad_lines, cut_of, took_at, took_of};
 
 use crate::lines::take_rest;
 use crate::pieces::{read_some, take_piece};
-use crate::{Page, RunFault, Span, TakeFault, Taker, Took, TookList};
+use crate::{LineFault, Page, RunFault, Span, Taker, Took, TookList};
 use line_input::{LineReader, Splitter};
 use lp_outside::Logs;
 use std::alloc::{AllocError, Global};
+
+// The bad line of a span that is one too many.
+fn one_too_many(span: &Span, row: u64) -> RunFault
+    ensures { result ≡ RunFault.Bad span.now.identity row }
+{
+    RunFault::Bad {
+        log: span.identity.copy(),
+        row,
+    }
+}
 
 // Reads a piece of a log and takes its lines.
 fn read_piece<R: LineReader, L: Logs, T: Taker<O>, O>(
@@ -28,9 +39,14 @@ fn read_piece<R: LineReader, L: Logs, T: Taker<O>, O>(
     requires below { page.old.splitter.place + length page.old.splitter.left < span.now.listed }
     requires chunk { 0 < length chunk.old }
     requires room { HasRoom T.count page.old (span.now.listed - page.old.splitter.place + 1) }
+    requires within { IsWithin page.old.most_bad page.old.bad }
     ensures grows { OnlyGrow (L.folder logs.old) (L.folder logs.new) }
     ensures read { OnOk result ((waits : Bool) → HasRead T.takes (R.format reader.now) span.now.identity waits (L.folder logs.new) span.now.name span.now.listed page.old page.new out.old out.new) }
     ensures stops { OnErr result ((waits : Bool) → StopsReading T.stops (R.format reader.now) span.now.identity waits (L.folder logs.new) span.now.name span.now.listed page.old page.new out.old out.new) }
+    ensures too_many { IfErr result (λ fault. OnBadLine fault (λ line. (line.log ≡ span.now.identity)
+        × ((waits : Bool) → ExceedsReading (R.format reader.now) waits (L.folder logs.new) span.now.name span.now.listed page.old line.row))) }
+    ensures within { OnOk result (IsWithin page.new.most_bad page.new.bad) }
+    ensures most { page.new.most_bad ≡ page.old.most_bad }
     ensures longer { OnOk result (page.old.splitter.place + length page.old.splitter.left < page.new.splitter.place + length page.new.splitter.left) }
     ensures fits { OnOk result (page.new.splitter.place + length page.new.splitter.left ≤ span.now.listed) }
     ensures last { OnOk result (length page.new.splitter.left ≤ position_or_len is_lf page.new.splitter.left) }
@@ -42,6 +58,7 @@ fn read_piece<R: LineReader, L: Logs, T: Taker<O>, O>(
     ensures logs { IsErrOf result RunFault.Logs → Rose (L.faults logs.old) (L.faults logs.new) }
     ensures later { T.faults out.old ≤ T.faults out.new }
     ensures output { IsErrOf result RunFault.Output → Rose (T.faults out.old) (T.faults out.new) }
+    ensures stopped { IsErrOf result RunFault.Stopped → T.stopped page.new.taker }
 {
     let at = page.splitter.end();
     let count = match read_some(logs, &span.name, at, span.listed, chunk) {
@@ -50,8 +67,10 @@ fn read_piece<R: LineReader, L: Logs, T: Taker<O>, O>(
     };
     match take_piece(alloc, reader, &span.identity, &chunk[..count], page, out) {
         Ok(()) => Ok(()),
-        Err(TakeFault::Memory) => Err(RunFault::Memory),
-        Err(TakeFault::Failed) => Err(RunFault::Output),
+        Err(LineFault::Memory) => Err(RunFault::Memory),
+        Err(LineFault::Failed) => Err(RunFault::Output),
+        Err(LineFault::Stopped) => Err(RunFault::Stopped),
+        Err(LineFault::Bad { row }) => Err(one_too_many(span, row)),
     }
 }
 
@@ -71,9 +90,14 @@ fn read_log<R: LineReader, L: Logs, T: Taker<O>, O>(
     requires empty { page.old.splitter.left ≡ [] }
     requires chunk { 0 < length chunk.old }
     requires room { HasRoom T.count page.old (span.now.listed - page.old.splitter.place + 1) }
+    requires within { IsWithin page.old.most_bad page.old.bad }
     ensures grows { OnlyGrow (L.folder logs.old) (L.folder logs.new) }
     ensures read { OnOk result ((waits : Bool) → HasRead T.takes (R.format reader.now) span.now.identity waits (L.folder logs.new) span.now.name span.now.listed page.old page.new out.old out.new) }
     ensures stops { OnErr result ((waits : Bool) → StopsReading T.stops (R.format reader.now) span.now.identity waits (L.folder logs.new) span.now.name span.now.listed page.old page.new out.old out.new) }
+    ensures too_many { IfErr result (λ fault. OnBadLine fault (λ line. (line.log ≡ span.now.identity)
+        × ((waits : Bool) → ExceedsReading (R.format reader.now) waits (L.folder logs.new) span.now.name span.now.listed page.old line.row))) }
+    ensures within { OnOk result (IsWithin page.new.most_bad page.new.bad) }
+    ensures most { page.new.most_bad ≡ page.old.most_bad }
     ensures whole { OnOk result (page.new.splitter.place + length page.new.splitter.left ≡ span.now.listed) }
     ensures last { OnOk result (length page.new.splitter.left ≤ position_or_len is_lf page.new.splitter.left) }
     ensures room { OnOk result (HasRoom T.count page.new (span.now.listed - page.new.splitter.place + 1)) }
@@ -83,6 +107,7 @@ fn read_log<R: LineReader, L: Logs, T: Taker<O>, O>(
     ensures logs { IsErrOf result RunFault.Logs → Rose (L.faults logs.old) (L.faults logs.new) }
     ensures later { T.faults out.old ≤ T.faults out.new }
     ensures output { IsErrOf result RunFault.Output → Rose (T.faults out.old) (T.faults out.new) }
+    ensures stopped { IsErrOf result RunFault.Stopped → T.stopped page.new.taker }
 {
     'log: while page.splitter.end() < span.listed {
         read_piece(alloc, reader, logs, span, chunk, page, out)?;
@@ -95,6 +120,7 @@ fn start_log<T>(alloc: Global, span: &Span, page: &mut Page<T>) -> Result<(), Al
     ensures taker { page.new.taker ≡ page.old.taker }
     ensures rows { page.new.rows ≡ page.old.rows }
     ensures bad { page.new.bad ≡ page.old.bad }
+    ensures most { page.new.most_bad ≡ page.old.most_bad }
     ensures place { OnOk result (page.new.splitter.place ≡ span.now.from) }
     ensures left { OnOk result (page.new.splitter.left ≡ []) }
     ensures standing { OnOk result (page.new.standing ≡ span.now.standing) }
@@ -113,15 +139,20 @@ fn finish_log<R: LineReader, T: Taker<O>, O>(
     span: &Span,
     page: &mut Page<T>,
     out: &mut O,
-) -> Result<(), TakeFault>
+) -> Result<(), LineFault>
     requires room { HasRoom T.count page.old (length page.old.splitter.left + 1) }
     requires last { length page.old.splitter.left ≤ position_or_len is_lf page.old.splitter.left }
+    requires within { IsWithin page.old.most_bad page.old.bad }
     ensures takes { OnOk result (Follows T.takes (R.format reader.now) span.now.identity (to_come waits page.old []) page.old page.new out.old out.new) }
     ensures stops { OnErr result (StopsIn T.stops (R.format reader.now) span.now.identity (to_come waits page.old []) page.old page.new out.old out.new) }
+    ensures too_many { IfErr result (λ fault. OnBad fault (λ row. ExceedsIn (R.format reader.now) (to_come waits page.old []) page.old row)) }
+    ensures within { OnOk result (IsWithin page.new.most_bad page.new.bad) }
+    ensures most { page.new.most_bad ≡ page.old.most_bad }
     ensures spends { OnOk result (Spends T.count page.old page.new 1) }
     ensures place { waits ≡ true → page.new.splitter ≡ page.old.splitter }
     ensures later { T.faults out.old ≤ T.faults out.new }
-    ensures failed { IsErrOf result TakeFault.Failed → Rose (T.faults out.old) (T.faults out.new) }
+    ensures failed { IsErrOf result LineFault.Failed → Rose (T.faults out.old) (T.faults out.new) }
+    ensures stopped { IsErrOf result LineFault.Stopped → T.stopped page.new.taker }
 {
     if waits {
         Ok(())
@@ -149,12 +180,19 @@ fn take_span<R: LineReader, L: Logs, T: Taker<O>, O>(
     requires chunk { 0 < length chunk.old }
     requires rows { page.old.rows + (span.now.listed - span.now.from) + 1 < 2 ^ 63 }
     requires bad { page.old.bad + (span.now.listed - span.now.from) + 1 < 2 ^ 63 }
+    requires within { IsWithin page.old.most_bad page.old.bad }
     requires taken { T.count page.old.taker + (span.now.listed - span.now.from) + 1 < 2 ^ 63 }
     ensures grows { OnlyGrow (L.folder logs.old) (L.folder logs.new) }
     ensures takes { OnOk result (Told (L.folder logs.new) (λ folder. IsKept (R.format reader.now) waits (cut_of folder span.now) span.now
         → TakesSpan T.takes (R.format reader.now) waits folder span.now page.old page.new out.old out.new)) }
     ensures stops { OnErr result (Told (L.folder logs.new) (λ folder. IsKept (R.format reader.now) waits (cut_of folder span.now) span.now
         → T.stops page.old.taker out.old (span_found (R.format reader.now) waits folder span.now) page.new.taker out.new)) }
+    ensures too_many { IfErr result (λ fault. OnBadLine fault (λ line. Told (L.folder logs.new) (λ folder. IsKept (R.format reader.now) waits (cut_of folder span.now) span.now
+        → IsTooMany page.old.most_bad page.old.bad (span_bad_lines (R.format reader.now) waits folder span.now) line))) }
+    ensures within { OnOk result (IsWithin page.new.most_bad page.new.bad) }
+    ensures most { page.new.most_bad ≡ page.old.most_bad }
+    ensures standing { OnOk result (Told (L.folder logs.new) (λ folder. IsKept (R.format reader.now) waits (cut_of folder span.now) span.now
+        → page.new.standing ≡ standing_at (R.format reader.now) (cut_of folder span.now) waits (length (cut_of folder span.now)))) }
     ensures ends { OnOk result (waits ≡ true → Told (L.folder logs.new) (λ folder. IsKept (R.format reader.now) true (cut_of folder span.now) span.now
         → EndsSpan (R.format reader.now) folder span.now page.new)) }
     ensures rows { OnOk result (page.new.rows ≤ page.old.rows + (span.now.listed - span.now.from) + 1) }
@@ -165,6 +203,7 @@ fn take_span<R: LineReader, L: Logs, T: Taker<O>, O>(
     ensures logs { IsErrOf result RunFault.Logs → Rose (L.faults logs.old) (L.faults logs.new) }
     ensures later { T.faults out.old ≤ T.faults out.new }
     ensures output { IsErrOf result RunFault.Output → Rose (T.faults out.old) (T.faults out.new) }
+    ensures stopped { IsErrOf result RunFault.Stopped → T.stopped page.new.taker }
 {
     let Ok(()) = start_log(alloc, span, page) else {
         return Err(RunFault::Memory);
@@ -172,8 +211,10 @@ fn take_span<R: LineReader, L: Logs, T: Taker<O>, O>(
     read_log(alloc, reader, logs, span, chunk, page, out)?;
     match finish_log(alloc, reader, waits, span, page, out) {
         Ok(()) => Ok(()),
-        Err(TakeFault::Memory) => Err(RunFault::Memory),
-        Err(TakeFault::Failed) => Err(RunFault::Output),
+        Err(LineFault::Memory) => Err(RunFault::Memory),
+        Err(LineFault::Failed) => Err(RunFault::Output),
+        Err(LineFault::Stopped) => Err(RunFault::Stopped),
+        Err(LineFault::Bad { row }) => Err(one_too_many(span, row)),
     }
 }
 
@@ -215,12 +256,19 @@ pub fn take_noted<R: LineReader, L: Logs, T: Taker<O>, O>(
     requires chunk { 0 < length chunk.old }
     requires rows { page.old.rows + (span.now.listed - span.now.from) + 1 < 2 ^ 63 }
     requires bad { page.old.bad + (span.now.listed - span.now.from) + 1 < 2 ^ 63 }
+    requires within { IsWithin page.old.most_bad page.old.bad }
     requires taken { T.count page.old.taker + (span.now.listed - span.now.from) + 1 < 2 ^ 63 }
     ensures grows { OnlyGrow (L.folder logs.old) (L.folder logs.new) }
     ensures takes { OnOk result (Told (L.folder logs.new) (λ folder. IsKept (R.format reader.now) waits (cut_of folder span.now) span.now
         → TakesSpan T.takes (R.format reader.now) waits folder span.now page.old page.new out.old out.new)) }
     ensures stops { OnErr result (Told (L.folder logs.new) (λ folder. IsKept (R.format reader.now) waits (cut_of folder span.now) span.now
         → T.stops page.old.taker out.old (span_found (R.format reader.now) waits folder span.now) page.new.taker out.new)) }
+    ensures too_many { IfErr result (λ fault. OnBadLine fault (λ line. Told (L.folder logs.new) (λ folder. IsKept (R.format reader.now) waits (cut_of folder span.now) span.now
+        → IsTooMany page.old.most_bad page.old.bad (span_bad_lines (R.format reader.now) waits folder span.now) line))) }
+    ensures within { OnOk result (IsWithin page.new.most_bad page.new.bad) }
+    ensures most { page.new.most_bad ≡ page.old.most_bad }
+    ensures standing { OnOk result (Told (L.folder logs.new) (λ folder. IsKept (R.format reader.now) waits (cut_of folder span.now) span.now
+        → page.new.standing ≡ standing_at (R.format reader.now) (cut_of folder span.now) waits (length (cut_of folder span.now)))) }
     ensures took { OnOk result (waits ≡ true → Told (L.folder logs.new) (λ folder. IsKept (R.format reader.now) true (cut_of folder span.now) span.now
         → took.new ≡ took.old ++ took_of (R.format reader.now) folder span.now ∷ [])) }
     ensures rows { OnOk result (page.new.rows ≤ page.old.rows + (span.now.listed - span.now.from) + 1) }
@@ -231,6 +279,7 @@ pub fn take_noted<R: LineReader, L: Logs, T: Taker<O>, O>(
     ensures logs { IsErrOf result RunFault.Logs → Rose (L.faults logs.old) (L.faults logs.new) }
     ensures later { T.faults out.old ≤ T.faults out.new }
     ensures output { IsErrOf result RunFault.Output → Rose (T.faults out.old) (T.faults out.new) }
+    ensures stopped { IsErrOf result RunFault.Stopped → T.stopped page.new.taker }
 {
     take_span(alloc, reader, waits, logs, span, chunk, page, out)?;
     match note_span(alloc, span, page, took) {

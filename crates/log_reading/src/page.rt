@@ -11,4 +11,6 @@ pub struct Page<T> {
     pub rows: u64,
     /// Bad lines of all logs so far.
     pub bad: u64,
+    /// How many bad lines there may be, if not any number.
+    pub most_bad: Option<u64>,
 }

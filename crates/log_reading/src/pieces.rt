@@ -1,13 +1,13 @@
 // A log's bytes, piece by piece, to a taker.
-ghost use Rattle.std.specs.Prelude.{◌≡◌, ◌≤◌, ◌<◌, ◌^◌, ◌+◌, ◌-◌, ◌++◌, [], ℕ, List, Bool, length, take, Option, OnOk, OnErr, IfOk, MatchResult, IsErrOf};
+ghost use Rattle.std.specs.Prelude.{◌≡◌, ◌≤◌, ◌<◌, ◌^◌, ◌+◌, ◌-◌, ◌++◌, [], ℕ, List, Bool, length, take, Option, OnOk, OnErr, IfOk, IfErr, MatchResult, IsErrOf};
 ghost use Rattle.std.specs.List.{position_or_len};
 ghost use Rattle.lp_model.specs.Outside.{Rose, HasCause, OnlyGrow, Told, bytes_in};
 ghost use Rattle.lp_model.specs.Lines.{is_lf};
 ghost use Rattle.lp_model.specs.Pieces.{IsPiece, rest_of};
-ghost use Rattle.log_reading.specs.Page.{HasRoom, Spends, Advances, StopsIn, StopsWithin, to_come};
+ghost use Rattle.log_reading.specs.Page.{HasRoom, Spends, Advances, StopsIn, StopsWithin, ExceedsWithin, IsWithin, OnBad, to_come};
 
 use crate::lines::take_next;
-use crate::{Page, TakeFault, Taker};
+use crate::{LineFault, Page, Taker};
 use line_input::LineReader;
 use lp_outside::{Logs, LogsFailed, Name};
 use std::alloc::Global;
@@ -19,15 +19,20 @@ pub fn take_lines<R: LineReader, T: Taker<O>, O>(
     identity: &Name,
     page: &mut Page<T>,
     out: &mut O,
-) -> Result<(), TakeFault>
-    requires { HasRoom T.count page.old (length page.old.splitter.left + 1) }
+) -> Result<(), LineFault>
+    requires room { HasRoom T.count page.old (length page.old.splitter.left + 1) }
+    requires within { IsWithin page.old.most_bad page.old.bad }
     ensures advances { OnOk result ((waits : Bool) → Advances T.takes (R.format reader.now) identity.now waits [] page.old page.new out.old out.new) }
     ensures stops { OnErr result ((waits : Bool) → StopsWithin T.stops (R.format reader.now) identity.now waits [] page.old page.new out.old out.new) }
+    ensures too_many { IfErr result (λ fault. OnBad fault (λ row. (waits : Bool) → ExceedsWithin (R.format reader.now) waits [] page.old row)) }
+    ensures within { OnOk result (IsWithin page.new.most_bad page.new.bad) }
+    ensures most { page.new.most_bad ≡ page.old.most_bad }
     ensures spends { OnOk result (Spends T.count page.old page.new 0) }
     ensures end { OnOk result (page.new.splitter.place + length page.new.splitter.left ≡ page.old.splitter.place + length page.old.splitter.left) }
     ensures last { OnOk result (length page.new.splitter.left ≤ position_or_len is_lf page.new.splitter.left) }
     ensures later { T.faults out.old ≤ T.faults out.new }
-    ensures failed { IsErrOf result TakeFault.Failed → Rose (T.faults out.old) (T.faults out.new) }
+    ensures failed { IsErrOf result LineFault.Failed → Rose (T.faults out.old) (T.faults out.new) }
+    ensures stopped { IsErrOf result LineFault.Stopped → T.stopped page.new.taker }
 {
     loop {
         let more = take_next(alloc, reader, identity, page, out)?;
@@ -46,19 +51,24 @@ pub fn take_piece<R: LineReader, T: Taker<O>, O>(
     piece: &[u8],
     page: &mut Page<T>,
     out: &mut O,
-) -> Result<(), TakeFault>
+) -> Result<(), LineFault>
     requires room { HasRoom T.count page.old (length page.old.splitter.left + length piece.now + 1) }
+    requires within { IsWithin page.old.most_bad page.old.bad }
     requires fits { page.old.splitter.place + length page.old.splitter.left + length piece.now < 2 ^ 64 }
     ensures advances { OnOk result ((waits : Bool) → Advances T.takes (R.format reader.now) identity.now waits piece.now page.old page.new out.old out.new) }
     ensures stops { OnErr result ((waits : Bool) → StopsWithin T.stops (R.format reader.now) identity.now waits piece.now page.old page.new out.old out.new) }
+    ensures too_many { IfErr result (λ fault. OnBad fault (λ row. (waits : Bool) → ExceedsWithin (R.format reader.now) waits piece.now page.old row)) }
+    ensures within { OnOk result (IsWithin page.new.most_bad page.new.bad) }
+    ensures most { page.new.most_bad ≡ page.old.most_bad }
     ensures spends { OnOk result (Spends T.count page.old page.new (length piece.now)) }
     ensures end { OnOk result (page.new.splitter.place + length page.new.splitter.left ≡ page.old.splitter.place + length page.old.splitter.left + length piece.now) }
     ensures last { OnOk result (length page.new.splitter.left ≤ position_or_len is_lf page.new.splitter.left) }
     ensures later { T.faults out.old ≤ T.faults out.new }
-    ensures failed { IsErrOf result TakeFault.Failed → Rose (T.faults out.old) (T.faults out.new) }
+    ensures failed { IsErrOf result LineFault.Failed → Rose (T.faults out.old) (T.faults out.new) }
+    ensures stopped { IsErrOf result LineFault.Stopped → T.stopped page.new.taker }
 {
     let Ok(()) = page.splitter.feed(piece) else {
-        return Err(TakeFault::Memory);
+        return Err(LineFault::Memory);
     };
     take_lines(alloc, reader, identity, page, out)?;
     Ok(())

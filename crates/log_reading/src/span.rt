@@ -15,11 +15,15 @@ pub struct Span {
     pub standing: Standing,
 }
 
-#[derive(Debug, Drop)]
+#[derive(Drop)]
 pub enum RunFault {
     Memory,
     Logs,
     Output,
+    /// The taker wants no more rows.
+    Stopped,
+    /// A bad line is one too many: the log's identity, and the line's number.
+    Bad { log: Name, row: u64 },
 }
 
 /// What a run took of a log.

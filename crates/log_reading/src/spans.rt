@@ -1,7 +1,8 @@
 // Logs, one after the other, to a taker.
-ghost use Rattle.std.specs.Prelude.{◌≡◌, ◌≤◌, ◌<◌, ◌^◌, ◌+◌, ◌-◌, ◌++◌, ℕ, List, Bool, true, length, map, Option, OnOk, OnErr, IfOk, IsErrOf};
+ghost use Rattle.std.specs.Prelude.{◌≡◌, ◌≤◌, ◌<◌, ◌^◌, ◌+◌, ◌-◌, ◌++◌, ℕ, List, Bool, true, length, map, Option, OnOk, OnErr, IfOk, IfErr, IsErrOf};
 ghost use Rattle.lp_model.specs.Outside.{Rose, OnlyGrow, Told, bytes_in};
-ghost use Rattle.log_reading.specs.Spans.{AllSpans, IsSpan, AreKept, TakesSpans, spans_found, spans_size, took_of};
+ghost use Rattle.log_reading.specs.Page.{IsTooMany, IsWithin};
+ghost use Rattle.log_reading.specs.Spans.{AllSpans, IsSpan, AreKept, TakesSpans, OnBadLine, spans_found, spans_bad_lines, spans_size, took_of};
 
 use crate::logs::take_noted;
 use crate::{Page, RunFault, Span, Taker, TookList};
@@ -26,12 +27,17 @@ pub fn take_spans<R: LineReader, L: Logs, T: Taker<O>, O>(
     requires chunk { 0 < length chunk.old }
     requires rows { page.old.rows + spans_size spans.now + length spans.now < 2 ^ 63 }
     requires bad { page.old.bad + spans_size spans.now + length spans.now < 2 ^ 63 }
+    requires within { IsWithin page.old.most_bad page.old.bad }
     requires taken { T.count page.old.taker + spans_size spans.now + length spans.now < 2 ^ 63 }
     ensures grows { OnlyGrow (L.folder logs.old) (L.folder logs.new) }
     ensures takes { OnOk result (Told (L.folder logs.new) (λ folder. AreKept (R.format reader.now) waits spans.now folder
         → TakesSpans T.takes (R.format reader.now) waits folder spans.now page.old page.new out.old out.new)) }
     ensures stops { OnErr result (Told (L.folder logs.new) (λ folder. AreKept (R.format reader.now) waits spans.now folder
         → T.stops page.old.taker out.old (spans_found (R.format reader.now) waits folder spans.now) page.new.taker out.new)) }
+    ensures too_many { IfErr result (λ fault. OnBadLine fault (λ line. Told (L.folder logs.new) (λ folder. AreKept (R.format reader.now) waits spans.now folder
+        → IsTooMany page.old.most_bad page.old.bad (spans_bad_lines (R.format reader.now) waits folder spans.now) line))) }
+    ensures within { OnOk result (IsWithin page.new.most_bad page.new.bad) }
+    ensures most { page.new.most_bad ≡ page.old.most_bad }
     ensures took { OnOk result (waits ≡ true → Told (L.folder logs.new) (λ folder. AreKept (R.format reader.now) true spans.now folder
         → took.new ≡ took.old ++ map (took_of (R.format reader.now) folder) spans.now)) }
     ensures given { L.given logs.new ≤ L.given logs.old + spans_size spans.now }
@@ -39,6 +45,7 @@ pub fn take_spans<R: LineReader, L: Logs, T: Taker<O>, O>(
     ensures logs { IsErrOf result RunFault.Logs → Rose (L.faults logs.old) (L.faults logs.new) }
     ensures later { T.faults out.old ≤ T.faults out.new }
     ensures output { IsErrOf result RunFault.Output → Rose (T.faults out.old) (T.faults out.new) }
+    ensures stopped { IsErrOf result RunFault.Stopped → T.stopped page.new.taker }
 {
     for span in spans {
         take_noted(alloc, reader, waits, logs, span, chunk, page, took, out)?;

@@ -14,17 +14,34 @@ pub enum TakeFault {
     Memory,
     /// The output failed.
     Failed,
+    /// The taker wants no more rows.
+    Stopped,
+}
+
+/// Why the lines of a log weren't all taken.
+#[derive(Debug, Drop)]
+pub enum LineFault {
+    Memory,
+    /// The output failed.
+    Failed,
+    /// The taker wants no more rows.
+    Stopped,
+    /// The bad line of this number is one too many.
+    Bad { row: u64 },
 }
 
 /// Takes rows, one after the other, with an output `O` at hand: a writer, a table of groups, a list of values.
 ///
-/// The loop over logs knows a taker by the two relations and the five laws alone.
+/// The loop over logs knows a taker by its relations and the five laws alone.
 pub trait Taker<O> {
     /// From the first state and output it has taken these rows to the second state and output.
     ghost takes: { Self → O → List Found → Self → O → Type 0 };
 
     /// It stopped within these rows, and has left this state and output.
     ghost stops: { Self → O → List Found → Self → O → Type 0 };
+
+    /// It wants no more rows.
+    ghost stopped: { Self → Type 0 };
 
     /// How many rows it has taken.
     ghost count: { Self → ℕ };
@@ -49,7 +66,8 @@ pub trait Taker<O> {
         ensures stops { OnErr result (stops self.old out.old (found_of identity.now (records_read number columns.now (rows (slots_of line.now fields.now ∷ [])))) self.new out.new) }
         ensures count { OnOk result (count self.new ≡ count self.old + 1) }
         ensures later { faults out.old ≤ faults out.new }
-        ensures failed { IsErrOf result TakeFault.Failed → Rose (faults out.old) (faults out.new) };
+        ensures failed { IsErrOf result TakeFault.Failed → Rose (faults out.old) (faults out.new) }
+        ensures stopped { IsErrOf result TakeFault.Stopped → stopped self.new };
 
     ghost takes_none: { (s : Self) (w : O) → takes s w [] s w };
 

@@ -6,12 +6,15 @@ use Rattle.checkpoint.specs.Wholes.{whole_spans}
 use Rattle.command_words.specs.declared.spec.Spec.{Spec}
 use Rattle.execution.specs.Built.{all_built}
 use Rattle.execution.specs.Executed.{IsExecuted, IsFront, IsMoment, IsUnplanned, Writes, rows_in}
-use Rattle.execution.specs.Executed.{IsStopped as IsHalted}
+use Rattle.execution.specs.Executed.{IsStopped as IsHalted, IsParseError as IsExceeded}
 use Rattle.execution.specs.Formats.{input_of}
-use Rattle.execution.specs.Faults.{IfPlan}
+use Rattle.execution.specs.Faults.{IfParse, IfPlan}
 use Rattle.execution.specs.declared.fault.RunFault.{RunFault}
 use Rattle.execution.specs.declared.fault.RunFault.TheVariants as X
+use Rattle.input_tables.specs.Tables.{lines_of}
 use Rattle.log_reading.specs.declared.span.Span.{Span}
+use Rattle.log_reading.specs.Page.{IsTooMany}
+use Rattle.log_reading.specs.Spans.{BadLine, spans_bad_lines, bad_line}
 use Rattle.output_formats.specs.Headers.{csv_of}
 use Rattle.query_run.specs.declared.executing.Counts.{Counts}
 use Rattle.query_text.specs.declared.fault.QueryFault.TheVariants as Q
@@ -19,14 +22,14 @@ use Rattle.query_types.specs.declared.fault.TypeFault.{TypeFault}
 use Rattle.query_types.specs.Planned.{Planned}
 use Rattle.log_listing.specs.declared.lengths.NameLength.{NameLength}
 use Rattle.reports.specs.declared.status.Status.{Status}
-use Rattle.reports.specs.declared.status.Status.TheVariants.{Done, Memory, Clock, Usage, Query, NotBuilt, NoSuchLog, BadName, TooManyLogs, LogsFault, SinkFault}
+use Rattle.reports.specs.declared.status.Status.TheVariants.{Done, Memory, Clock, Usage, Query, NotBuilt, NoSuchLog, BadName, TooManyLogs, LogsFault, SinkFault, ParseErrors}
 use Rattle.reports.specs.Status.{OnRefused}
 use Rattle.requests.specs.Requests.{Asks, IsRefused}
 use Rattle.requests.specs.declared.fault.RequestFault.{RequestFault}
 use Rattle.requests.specs.declared.fault.RequestFault.TheVariants as R
 use Rattle.requests.proofs.Growing.{asks_grown}
 use Rattle.logparser_cli.specs.Logs.{AreSpans, IsUnlisted}
-use Rattle.logparser_cli.specs.Whole.{World, Runs, Tells, told_statistics, IsWhole, HoldsFront, IsUnwritten}
+use Rattle.logparser_cli.specs.Whole.{World, Runs, Tells, told_statistics, IsWhole, HoldsFront, IsParseError, IsUnwritten}
 use Rattle.logparser_cli.specs.Answers.{IsStopped, IsUnplannable, AnswersBuilt, AnswersQuery, Asked, IsUnasked, Answers, unasked, stopped}
 use Rattle.logparser_cli.proofs.Wholes.{whole_told, logs_later, logs_earlier}
 
@@ -42,6 +45,7 @@ on_refused (BadName fault) P p = p
 on_refused TooManyLogs P p = p
 on_refused LogsFault P p = p
 on_refused SinkFault P p = p
+on_refused (ParseErrors log row) P p = p
 
 -- a count that rose since a later moment has risen since an earlier one
 pub rose_since : (a b c : ℕ) → a ≤ b → Rose b c → Rose a c
@@ -60,6 +64,7 @@ unlisted_answers old new spec q (BadName fault) is same rose = (is, same)
 unlisted_answers old new spec q TooManyLogs is same rose = (is, same)
 unlisted_answers old new spec q LogsFault is same rose = (inl same, rose refl)
 unlisted_answers old new spec q SinkFault is same rose = absurd is
+unlisted_answers old new spec q (ParseErrors log row) is same rose = absurd is
 
 -- a query was run over whole logs
 pub whole : (old new : World) (mid : Option Folder) (spec : Spec) (q : model.Query) (spans : List Span) (counts : Counts) → AreSpans old.folder mid q spans → OnlyGrow mid new.folder
@@ -83,17 +88,32 @@ halted old new mid spec q spans found grow (inr front) = inr (record {
   front = whole_told new.folder (input_of spec q) found.logs spans (λ s folder. GainsSome old.out new.out (csv_of spec.headers true front.plan.names (rows_in (input_of spec q) front.plan folder s))) found.wholes front.front;
 })
 
-stopped_by : (old new : World) (spec : Spec) (q : model.Query) (fault : RunFault) → IsStopped old new spec q → IfPlan {T = Unit {0}} (Err fault) (IsUnplanned spec q) → IfPlan {T = Unit {0}} (Err fault) (λ f. new.out ≡ old.out)
+-- a bad line was one too many
+exceeded : (old new : World) (mid : Option Folder) (spec : Spec) (q : model.Query) (spans : List Span) (line : BadLine) → AreSpans old.folder mid q spans → OnlyGrow mid new.folder → IsExceeded new.folder old.out new.out spec q spans line
+    → IsParseError old.folder new.folder old.out new.out spec q line
+exceeded old new mid spec q spans line found grow e = record {
+  logs = found.logs;
+  plan = e.plan;
+  runs = record { are_logs = logs_later old.folder mid new.folder q found.logs grow found.are_logs; is_planned = e.is_planned };
+  exceeds = whole_told new.folder (input_of spec q) found.logs spans (λ s folder. IsTooMany spec.errors 0 (spans_bad_lines (lines_of (input_of spec q)) false folder s) line) found.wholes e.exceeds;
+  front = whole_told new.folder (input_of spec q) found.logs spans (λ s folder. GainsSome old.out new.out (csv_of spec.headers true e.plan.names (rows_in (input_of spec q) e.plan folder s))) found.wholes e.front;
+}
+
+stopped_by : (old new : World) (mid : Option Folder) (spec : Spec) (q : model.Query) (spans : List Span) (fault : RunFault) → AreSpans old.folder mid q spans → OnlyGrow mid new.folder
+    → IsStopped old new spec q → IfPlan {T = Unit {0}} (Err fault) (IsUnplanned spec q) → IfPlan {T = Unit {0}} (Err fault) (λ f. new.out ≡ old.out)
+    → IfParse {T = Unit {0}} (Err fault) (IsExceeded new.folder old.out new.out spec q spans)
     → (fault ≡ X.LogsFault → Rose old.logs_faults new.logs_faults) → (fault ≡ X.StageFault → Rose old.out_faults new.out_faults) → AnswersBuilt old new spec q (stopped fault)
-stopped_by old new spec q (X.Plan fault) stop plan before logs stage = (plan, before)
-stopped_by old new spec q X.LogsFault stop plan before logs stage = (stop, logs refl)
-stopped_by old new spec q X.StageFault stop plan before logs stage = (stop, stage refl)
-stopped_by old new spec q X.Memory stop plan before logs stage = stop
+stopped_by old new mid spec q spans (X.Plan fault) found grow stop plan before parse logs stage = (plan, before)
+stopped_by old new mid spec q spans X.LogsFault found grow stop plan before parse logs stage = (stop, logs refl)
+stopped_by old new mid spec q spans X.StageFault found grow stop plan before parse logs stage = (stop, stage refl)
+stopped_by old new mid spec q spans (X.ParseErrors log row) found grow stop plan before parse logs stage = exceeded old new mid spec q spans (bad_line log row) found grow parse
+stopped_by old new mid spec q spans X.Memory found grow stop plan before parse logs stage = stop
 
 pub stopped_answers : (old new : World) (mid : Option Folder) (spec : Spec) (q : model.Query) (spans : List Span) (fault : RunFault) → AreSpans old.folder mid q spans → OnlyGrow mid new.folder
     → IsHalted new.folder old.out new.out spec q spans → IfPlan {T = Unit {0}} (Err fault) (IsUnplanned spec q) → IfPlan {T = Unit {0}} (Err fault) (λ f. new.out ≡ old.out)
+    → IfParse {T = Unit {0}} (Err fault) (IsExceeded new.folder old.out new.out spec q spans)
     → (fault ≡ X.LogsFault → Rose old.logs_faults new.logs_faults) → (fault ≡ X.StageFault → Rose old.out_faults new.out_faults) → AnswersBuilt old new spec q (stopped fault)
-stopped_answers old new mid spec q spans fault found grow stop plan before logs stage = stopped_by old new spec q fault (halted old new mid spec q spans found grow stop) plan before logs stage
+stopped_answers old new mid spec q spans fault found grow stop plan before parse logs stage = stopped_by old new mid spec q spans fault found grow (halted old new mid spec q spans found grow stop) plan before parse logs stage
 
 -- the same world with the logs as they were before
 abbrev with_logs : World → Option Folder → ℕ → World
@@ -119,6 +139,7 @@ built_earlier mid new before faults spec q (BadName fault) grow later s = s
 built_earlier mid new before faults spec q TooManyLogs grow later s = s
 built_earlier mid new before faults spec q LogsFault grow later s = (stop_earlier mid new before faults spec q grow s.0, rose_since faults mid.logs_faults new.logs_faults later s.1)
 built_earlier mid new before faults spec q SinkFault grow later s = (stop_earlier mid new before faults spec q grow s.0, s.1)
+built_earlier mid new before faults spec q (ParseErrors log row) grow later s = record { logs = s.logs; plan = s.plan; runs = runs_earlier before mid.folder new.folder spec q s.logs s.plan grow s.runs; exceeds = s.exceeds; front = s.front }
 
 query_earlier : (mid new : World) (before : Option Folder) (faults : ℕ) (spec : Spec) (q : model.Query) (status : Status) → OnlyGrow before mid.folder → faults ≤ mid.logs_faults
     → AnswersQuery mid new spec q status → AnswersQuery (with_logs mid before faults) new spec q status
@@ -160,6 +181,7 @@ built_told old new err faults spec q (BadName fault) refused s = s
 built_told old new err faults spec q TooManyLogs refused s = s
 built_told old new err faults spec q LogsFault refused s = s
 built_told old new err faults spec q SinkFault refused s = s
+built_told old new err faults spec q (ParseErrors log row) refused s = s
 
 query_told : (old new : World) (err : Option (List ℕ)) (faults : ℕ) (spec : Spec) (q : model.Query) (status : Status) → (status ≡ Done → ⊥) → AnswersQuery old new spec q status → AnswersQuery old (with_err new err faults) spec q status
 query_told old new err faults spec q status refused (inl none) = inl none
@@ -177,6 +199,7 @@ unasked_told old new err faults words (BadName fault) s = s
 unasked_told old new err faults words TooManyLogs s = s
 unasked_told old new err faults words LogsFault s = s
 unasked_told old new err faults words SinkFault s = s
+unasked_told old new err faults words (ParseErrors log row) s = s
 
 -- a refusal says the same once it is told
 pub told_answers : (old new : World) (err : Option (List ℕ)) (faults : ℕ) (moment : ℤ) (words : List (List ℕ)) (status : Status) → (status ≡ Done → ⊥) → Answers moment words old new status → Answers moment words old (with_err new err faults) status
@@ -198,3 +221,4 @@ refused_is (BadName fault) P refused p = p
 refused_is TooManyLogs P refused p = p
 refused_is LogsFault P refused p = p
 refused_is SinkFault P refused p = p
+refused_is (ParseErrors log row) P refused p = p

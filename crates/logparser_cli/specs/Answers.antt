@@ -5,17 +5,18 @@ use Rattle.lp_model.specs.Outside.{Rose}
 use Rattle.command_words.specs.declared.spec.Spec.{Spec}
 use Rattle.execution.specs.Built.{all_built}
 use Rattle.execution.specs.Executed.{IsMoment, IsUnplanned}
+use Rattle.log_reading.specs.Spans.{bad_line}
 use Rattle.query_text.specs.declared.fault.QueryFault.{QueryFault}
 use Rattle.query_text.specs.declared.fault.QueryFault.TheVariants as Q
 use Rattle.reports.specs.declared.status.Status.{Status}
-use Rattle.reports.specs.declared.status.Status.TheVariants.{Done, Memory, Clock, Usage, Query, NotBuilt, NoSuchLog, BadName, TooManyLogs, LogsFault, SinkFault}
+use Rattle.reports.specs.declared.status.Status.TheVariants.{Done, Memory, Clock, Usage, Query, NotBuilt, NoSuchLog, BadName, TooManyLogs, LogsFault, SinkFault, ParseErrors}
 use Rattle.requests.specs.Requests.{Asks, IsRefused}
 use Rattle.requests.specs.declared.fault.RequestFault.{RequestFault}
 use Rattle.requests.specs.declared.fault.RequestFault.TheVariants as R
 use Rattle.execution.specs.declared.fault.RunFault.{RunFault}
 use Rattle.execution.specs.declared.fault.RunFault.TheVariants as X
 use Rattle.logparser_cli.specs.Logs.{IsUnlisted}
-use Rattle.logparser_cli.specs.Whole.{World, IsWhole, HoldsFront, IsUnwritten}
+use Rattle.logparser_cli.specs.Whole.{World, IsWhole, HoldsFront, IsParseError, IsUnwritten}
 
 -- the query's fault is one of its plan
 abbrev pub IsUnplannable : Spec → model.Query → QueryFault → Type 0
@@ -43,6 +44,7 @@ AnswersBuilt old new spec q (BadName fault) = IsUnlisted new.folder q (BadName f
 AnswersBuilt old new spec q TooManyLogs = IsUnlisted new.folder q TooManyLogs × IsUnwritten old new
 AnswersBuilt old new spec q LogsFault = IsStopped old new spec q × Rose old.logs_faults new.logs_faults
 AnswersBuilt old new spec q SinkFault = IsStopped old new spec q × Rose old.out_faults new.out_faults
+AnswersBuilt old new spec q (ParseErrors log row) = IsParseError old.folder new.folder old.out new.out spec q (bad_line log row)
 
 -- what an answer says of a query: that it isn't built, or what became of it
 abbrev pub AnswersQuery : World → World → Spec → model.Query → Status → Type 0
@@ -68,6 +70,7 @@ IsUnasked old new words (BadName fault) = IsRefused old.folder new.folder words 
 IsUnasked old new words TooManyLogs = ⊥
 IsUnasked old new words LogsFault = Rose old.logs_faults new.logs_faults × IsUnwritten old new
 IsUnasked old new words SinkFault = ⊥
+IsUnasked old new words (ParseErrors log row) = ⊥
 
 -- the clock gives no moment
 pub record IsClock (moment : ℤ) (old new : World) (status : Status) : Type 0 where
@@ -93,4 +96,5 @@ abbrev pub stopped : RunFault → Status
 stopped (X.Plan fault) = Query (Q.Plan fault)
 stopped X.LogsFault = LogsFault
 stopped X.StageFault = SinkFault
+stopped (X.ParseErrors log row) = ParseErrors log row
 stopped X.Memory = Memory

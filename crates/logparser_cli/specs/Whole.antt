@@ -7,7 +7,10 @@ use Rattle.command_words.specs.declared.spec.Spec.{Spec}
 use Rattle.checkpoint.specs.Wholes.{whole_spans}
 use Rattle.execution.specs.Executed.{Writes, IsPlanned, rows_in}
 use Rattle.execution.specs.Formats.{input_of}
+use Rattle.input_tables.specs.Tables.{lines_of}
 use Rattle.log_listing.specs.declared.lengths.NameLength.{NameLength}
+use Rattle.log_reading.specs.Page.{IsTooMany}
+use Rattle.log_reading.specs.Spans.{BadLine, spans_bad_lines}
 use Rattle.output_formats.specs.Headers.{csv_of}
 use Rattle.query_run.specs.declared.executing.Counts.{Counts}
 use Rattle.query_types.specs.Planned.{Planned}
@@ -50,6 +53,14 @@ pub record HoldsFront (before now : Option Folder) (out_before out_now : Option 
   pub logs : List NameLength
   pub plan : Planned
   pub runs : Runs before now spec q logs plan
+  pub front : Told now (λ folder. GainsSome out_before out_now (csv_of spec.headers true plan.names (rows_in (input_of spec q) plan folder (whole_spans logs))))
+
+-- of the bad lines of the whole logs, in order, this is the first that is one too many; the output holds the front of the text
+pub record IsParseError (before now : Option Folder) (out_before out_now : Option (List ℕ)) (spec : Spec) (q : model.Query) (line : BadLine) : Type 0 where
+  pub logs : List NameLength
+  pub plan : Planned
+  pub runs : Runs before now spec q logs plan
+  pub exceeds : Told now (λ folder. IsTooMany spec.errors 0 (spans_bad_lines (lines_of (input_of spec q)) false folder (whole_spans logs)) line)
   pub front : Told now (λ folder. GainsSome out_before out_now (csv_of spec.headers true plan.names (rows_in (input_of spec q) plan folder (whole_spans logs))))
 
 -- nothing was written

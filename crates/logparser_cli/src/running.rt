@@ -46,6 +46,7 @@ fn stopped(fault: RunFault) -> Status
         RunFault::Plan(fault) => Status::Query(QueryFault::Plan(fault)),
         RunFault::LogsFault => Status::LogsFault,
         RunFault::StageFault => Status::SinkFault,
+        RunFault::ParseErrors { log, row } => Status::ParseErrors { log, row },
         RunFault::Memory => Status::Memory,
     }
 }

@@ -234,6 +234,30 @@ fn runs_leave_their_text_and_their_message(rt: HostRuntime) -> Result<(), Fail> 
     Ok(())
 }
 
+// One bad row in each of two lines, the third and the fifth.
+const TWO_BAD: &[u8] = b"#Fields: cs-method cs-uri-stem\nGET /a\nGET\nGET /b\nGET /c x\nGET /d\n";
+
+#[test]
+fn a_bad_line_more_than_there_may_be_refuses_the_run(rt: HostRuntime) -> Result<(), Fail> {
+    let cases = [
+        ("-e:0", 8, "logparser: parse errors: w.log row 3\n"),
+        ("-e:1", 8, "logparser: parse errors: w.log row 5\n"),
+        (
+            "-e:2",
+            0,
+            "Statistics:\n-----------\nElements processed: 3\nElements output:    3\nLines not read:     2\n",
+        ),
+    ];
+    for (errors, code, line) in &cases {
+        let mut outside = with_log(rt.alloc(), "w.log", TWO_BAD)?;
+        let words = ["-i:IISW3C", "-o:CSV", *errors, "SELECT LogRow FROM w.log"];
+        let status = run_words(rt.alloc(), &words, 0, &mut outside)?;
+        assert_eq!(rt; outside.err.bytes(), line.as_bytes());
+        assert_eq!(rt; status.code(), *code);
+    }
+    Ok(())
+}
+
 const ALL: [&str; 3] = ["-i:TEXTLINE", "-o:CSV", "SELECT * FROM a.log"];
 
 #[test]

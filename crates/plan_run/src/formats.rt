@@ -1,7 +1,8 @@
 // A plan over spans, by their format.
-ghost use Rattle.std.specs.Prelude.{◌≡◌, ◌≤◌, ◌+◌, true, false, length, option_map, OnOk, OnErr, IfOk, IsErrOf};
+ghost use Rattle.std.specs.Prelude.{◌≡◌, ◌≤◌, ◌+◌, true, false, length, option_map, OnOk, OnErr, IfOk, IfErr, IsErrOf};
 ghost use Rattle.lp_model.specs.Outside.{Rose, OnlyGrow, Told, bytes_in, Gains, GainsSome};
-ghost use Rattle.log_reading.specs.Spans.{AllSpans, IsSpan, AreKept, spans_found, spans_bad, spans_size};
+ghost use Rattle.log_reading.specs.Page.{IsTooMany, IsWithin};
+ghost use Rattle.log_reading.specs.Spans.{AllSpans, IsSpan, AreKept, OnBadLine, spans_found, spans_bad, spans_bad_lines, spans_size};
 ghost use Rattle.output_formats.specs.Headers.{csv_of};
 ghost use Rattle.query_types.specs.Conditions.{filter_of};
 ghost use Rattle.query_types.specs.Planned.{Covers, planned_in};
@@ -30,6 +31,7 @@ pub fn run_plan<L: Logs, G: Stage>(
     logs: &mut L,
     spans: &[Span],
     target: Target,
+    most_bad: Option<u64>,
     stage: &mut G,
 ) -> Result<Counts, RunFault>
     requires covers { Covers plan.used plan.items (option_map filter_of plan.condition) }
@@ -46,6 +48,10 @@ pub fn run_plan<L: Logs, G: Stage>(
         → counts.output ≡ length (plan_rows (readings_of format) (planned_in plan) (lines_of format) folder spans.now))) }
     ensures bad { IfOk result (λ counts. Told (L.folder logs.new) (λ folder. AreKept (lines_of format) false spans.now folder
         → counts.bad ≡ length (spans_bad (lines_of format) false folder spans.now))) }
+    ensures within { IfOk result (λ counts. IsWithin most_bad counts.bad) }
+    ensures too_many { IfErr result (λ fault. OnBadLine fault (λ line. Told (L.folder logs.new) (λ folder. AreKept (lines_of format) false spans.now folder
+        → IsTooMany most_bad 0 (spans_bad_lines (lines_of format) false folder spans.now) line))) }
+    ensures stopped { IsErrOf result RunFault.Stopped → ⊥ }
     ensures front { OnErr result (Told (L.folder logs.new) (λ folder. AreKept (lines_of format) false spans.now folder
         → GainsSome (G.state stage.old).written (G.state stage.new).written (csv_of headers true plan.names (plan_rows (readings_of format) (planned_in plan) (lines_of format) folder spans.now)))) }
     ensures given { L.given logs.new ≤ L.given logs.old + spans_size spans.now }
@@ -61,16 +67,16 @@ pub fn run_plan<L: Logs, G: Stage>(
     let shape = CsvOut::new(alloc, headers);
     match format {
         InputFormat::IisW3c => run_reader(
-            alloc, &IisW3c, format, readings, plan, logs, spans, shape, target, stage,
+            alloc, &IisW3c, format, readings, plan, logs, spans, shape, target, most_bad, stage,
         ),
         InputFormat::Ncsa => run_reader(
-            alloc, &Ncsa, format, readings, plan, logs, spans, shape, target, stage,
+            alloc, &Ncsa, format, readings, plan, logs, spans, shape, target, most_bad, stage,
         ),
         InputFormat::TextWord => run_reader(
-            alloc, &TextWords, format, readings, plan, logs, spans, shape, target, stage,
+            alloc, &TextWords, format, readings, plan, logs, spans, shape, target, most_bad, stage,
         ),
         InputFormat::Csv | InputFormat::Tsv | InputFormat::TextLine => run_reader(
-            alloc, &TextLines, format, readings, plan, logs, spans, shape, target, stage,
+            alloc, &TextLines, format, readings, plan, logs, spans, shape, target, most_bad, stage,
         ),
     }
 }

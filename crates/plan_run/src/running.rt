@@ -1,7 +1,8 @@
 // A plan over spans, read by any reader of a format.
-ghost use Rattle.std.specs.Prelude.{◌≡◌, ◌≤◌, ◌+◌, true, false, length, option_map, OnOk, OnErr, IfOk, IsErrOf};
+ghost use Rattle.std.specs.Prelude.{◌≡◌, ◌≤◌, ◌+◌, true, false, length, option_map, OnOk, OnErr, IfOk, IfErr, IsErrOf};
 ghost use Rattle.lp_model.specs.Outside.{Rose, OnlyGrow, Told, bytes_in, Gains, GainsSome};
-ghost use Rattle.log_reading.specs.Spans.{AllSpans, IsSpan, AreKept, spans_found, spans_bad, spans_size};
+ghost use Rattle.log_reading.specs.Page.{IsTooMany, IsWithin};
+ghost use Rattle.log_reading.specs.Spans.{AllSpans, IsSpan, AreKept, OnBadLine, spans_found, spans_bad, spans_bad_lines, spans_size};
 ghost use Rattle.query_types.specs.Conditions.{filter_of};
 ghost use Rattle.query_types.specs.Planned.{Covers, planned_in};
 ghost use Rattle.input_tables.specs.Tables.{lines_of};
@@ -29,6 +30,7 @@ pub fn run_reader<R: LineReader, L: Logs, F: Shape + Drop, G: Stage>(
     spans: &[Span],
     shape: F,
     target: Target,
+    most_bad: Option<u64>,
     stage: &mut G,
 ) -> Result<Counts, RunFault>
     requires reads { R.format reader.now ≡ lines_of format }
@@ -46,6 +48,10 @@ pub fn run_reader<R: LineReader, L: Logs, F: Shape + Drop, G: Stage>(
         → counts.output ≡ length (plan_rows readings (planned_in plan) (lines_of format) folder spans.now))) }
     ensures bad { IfOk result (λ counts. Told (L.folder logs.new) (λ folder. AreKept (lines_of format) false spans.now folder
         → counts.bad ≡ length (spans_bad (lines_of format) false folder spans.now))) }
+    ensures within { IfOk result (λ counts. IsWithin most_bad counts.bad) }
+    ensures too_many { IfErr result (λ fault. OnBadLine fault (λ line. Told (L.folder logs.new) (λ folder. AreKept (lines_of format) false spans.now folder
+        → IsTooMany most_bad 0 (spans_bad_lines (lines_of format) false folder spans.now) line))) }
+    ensures stopped { IsErrOf result RunFault.Stopped → ⊥ }
     ensures front { OnErr result (Told (L.folder logs.new) (λ folder. AreKept (lines_of format) false spans.now folder
         → GainsSome (G.state stage.old).written (G.state stage.new).written (F.text shape true plan.names (plan_rows readings (planned_in plan) (lines_of format) folder spans.now)))) }
     ensures given { L.given logs.new ≤ L.given logs.old + spans_size spans.now }
@@ -61,6 +67,7 @@ pub fn run_reader<R: LineReader, L: Logs, F: Shape + Drop, G: Stage>(
     let picker = PlanPicker { plan, readings };
     let mut took = TookList::new(alloc);
     write_spans(
-        alloc, reader, false, logs, spans, &names, true, shape, picker, target, &mut took, stage,
+        alloc, reader, false, logs, spans, &names, true, shape, picker, target, most_bad,
+        &mut took, stage,
     )
 }

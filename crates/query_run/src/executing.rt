@@ -1,10 +1,11 @@
 // A query over logs to a stage.
-ghost use Rattle.std.specs.Prelude.{◌≡◌, ◌≤◌, ◌<◌, ◌^◌, ◌+◌, ◌++◌, [], ℕ, List, Bool, true, length, map, Option, OnOk, OnErr, IfOk, IsErrOf};
+ghost use Rattle.std.specs.Prelude.{◌≡◌, ◌≤◌, ◌<◌, ◌^◌, ◌+◌, ◌++◌, [], ℕ, List, Bool, true, length, map, Option, OnOk, OnErr, IfOk, IfErr, IsErrOf};
 ghost use Rattle.lp_model.specs.Outside.{Rose, OnlyGrow, Told, bytes_in, Gains, GainsSome};
 ghost use Rattle.lp_values.specs.declared.value.Value.{Value};
 ghost use Rattle.query_run.specs.Output.{IsUnderWay};
 ghost use Rattle.query_run.specs.Rows.{picked};
-ghost use Rattle.log_reading.specs.Spans.{AllSpans, IsSpan, AreKept, spans_found, spans_bad, spans_size, took_of};
+ghost use Rattle.log_reading.specs.Page.{IsTooMany, IsWithin};
+ghost use Rattle.log_reading.specs.Spans.{AllSpans, IsSpan, AreKept, OnBadLine, spans_found, spans_bad, spans_bad_lines, spans_size, took_of};
 
 use crate::{Buffers, Picker, Target, Writer};
 use line_input::{LineReader, Splitter, Standing};
@@ -76,6 +77,7 @@ pub fn finish<F: Shape + Drop, P: Picker + Drop, G: Stage>(
     ensures output { writer.new.output ≡ writer.old.output }
     ensures later { G.faults stage.old ≤ G.faults stage.new }
     ensures failed { IsErrOf result TakeFault.Failed → Rose (G.faults stage.old) (G.faults stage.new) }
+    ensures stopped { IsErrOf result TakeFault.Stopped → ⊥ }
 {
     let Ok(()) = writer.shape.end(&mut writer.buffers.held) else {
         return Err(TakeFault::Memory);
@@ -90,10 +92,12 @@ pub fn finish<F: Shape + Drop, P: Picker + Drop, G: Stage>(
 fn first_page<F: Shape + Drop, P: Picker + Drop>(
     alloc: Global,
     writer: Writer<F, P>,
+    most_bad: Option<u64>,
 ) -> Page<Writer<F, P>>
     ensures taker { result.taker ≡ writer }
     ensures rows { result.rows ≡ 0 }
     ensures bad { result.bad ≡ 0 }
+    ensures most { result.most_bad ≡ most_bad }
 {
     Page {
         taker: writer,
@@ -101,6 +105,7 @@ fn first_page<F: Shape + Drop, P: Picker + Drop>(
         standing: Standing::new(),
         rows: 0,
         bad: 0,
+        most_bad,
     }
 }
 
@@ -116,6 +121,7 @@ pub fn write_spans<R: LineReader, L: Logs, F: Shape + Drop, P: Picker + Drop, G:
     shape: F,
     picker: P,
     target: Target,
+    most_bad: Option<u64>,
     took: &mut TookList,
     stage: &mut G,
 ) -> Result<Counts, RunFault>
@@ -139,6 +145,10 @@ pub fn write_spans<R: LineReader, L: Logs, F: Shape + Drop, P: Picker + Drop, G:
     ensures later_logs { L.faults logs.old ≤ L.faults logs.new }
     ensures logs { IsErrOf result RunFault.Logs → Rose (L.faults logs.old) (L.faults logs.new) }
     ensures later { G.faults stage.old ≤ G.faults stage.new }
+    ensures within { IfOk result (λ counts. IsWithin most_bad counts.bad) }
+    ensures too_many { IfErr result (λ fault. OnBadLine fault (λ line. Told (L.folder logs.new) (λ folder. AreKept (R.format reader.now) waits spans.now folder
+        → IsTooMany most_bad 0 (spans_bad_lines (R.format reader.now) waits folder spans.now) line))) }
+    ensures stopped { IsErrOf result RunFault.Stopped → ⊥ }
     ensures sink { IsErrOf result RunFault.Output → Rose (G.faults stage.old) (G.faults stage.new) }
 {
     let Ok(writer) = first_writer(alloc, shape, picker, names, fresh, target) else {
@@ -147,7 +157,7 @@ pub fn write_spans<R: LineReader, L: Logs, F: Shape + Drop, P: Picker + Drop, G:
     let Ok(mut chunk) = zeros(alloc, CHUNK) else {
         return Err(RunFault::Memory);
     };
-    let mut page = first_page(alloc, writer);
+    let mut page = first_page(alloc, writer, most_bad);
     take_spans(
         alloc, reader, waits, logs, spans, &mut chunk, &mut page, took, stage,
     )?;
@@ -158,6 +168,7 @@ pub fn write_spans<R: LineReader, L: Logs, F: Shape + Drop, P: Picker + Drop, G:
             bad: page.bad,
         }),
         Err(TakeFault::Memory) => Err(RunFault::Memory),
+        Err(TakeFault::Stopped) => unreachable!(),
         Err(TakeFault::Failed) => Err(RunFault::Output),
     }
 }

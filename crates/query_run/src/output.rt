@@ -29,6 +29,7 @@ fn put_pieces<G: Stage>(
     ensures err { OnErr result (GainsSome (G.state stage.old).written (G.state stage.new).written buffers.old.held) }
     ensures later { G.faults stage.old ≤ G.faults stage.new }
     ensures failed { IsErrOf result TakeFault.Failed → Rose (G.faults stage.old) (G.faults stage.new) }
+    ensures stopped { IsErrOf result TakeFault.Stopped → ⊥ }
 {
     let whole = buffers.held.len() - buffers.held.len() % PIECE;
     let Ok(()) = target.put(stage, bytes_to(buffers.held.as_slice(), whole)) else {
@@ -56,6 +57,7 @@ fn put_full<G: Stage>(
     ensures err { OnErr result (GainsSome (G.state stage.old).written (G.state stage.new).written buffers.old.held) }
     ensures later { G.faults stage.old ≤ G.faults stage.new }
     ensures failed { IsErrOf result TakeFault.Failed → Rose (G.faults stage.old) (G.faults stage.new) }
+    ensures stopped { IsErrOf result TakeFault.Stopped → ⊥ }
 {
     if buffers.held.len() >= FULL {
         put_pieces(target, buffers, stage)
@@ -82,6 +84,7 @@ pub fn put_row<F: Shape, G: Stage>(
     ensures small { OnOk result (length buffers.new.held < 65536) }
     ensures later { G.faults stage.old ≤ G.faults stage.new }
     ensures failed { IsErrOf result TakeFault.Failed → Rose (G.faults stage.old) (G.faults stage.new) }
+    ensures stopped { IsErrOf result TakeFault.Stopped → ⊥ }
 {
     let Ok(()) = shape.row(row, &mut buffers.held) else {
         return Err(TakeFault::Memory);

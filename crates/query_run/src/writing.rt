@@ -16,6 +16,8 @@ impl<F: Shape + Drop, P: Picker + Drop, G: Stage> Taker<G> for Writer<F, P> {
 
     ghost stops = { λ a u xs b v. Halts F.text F.has_text P.picks a (G.state u).written xs (G.state v).written };
 
+    ghost stopped = { λ w. ⊥ };
+
     ghost count = { λ w. w.taken };
 
     ghost faults = { G.faults };

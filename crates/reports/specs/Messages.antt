@@ -10,7 +10,7 @@ use Rattle.query_types.specs.declared.fault.TypeFault.TheVariants as type
 use Rattle.query_text.specs.declared.fault.QueryFault.{QueryFault}
 use Rattle.query_text.specs.declared.fault.QueryFault.TheVariants as query
 use Rattle.reports.specs.declared.status.Status.{Status}
-use Rattle.reports.specs.declared.status.Status.TheVariants.{Done, Memory, Clock, Usage, Query, NotBuilt, NoSuchLog, BadName, TooManyLogs, LogsFault, SinkFault}
+use Rattle.reports.specs.declared.status.Status.TheVariants.{Done, Memory, Clock, Usage, Query, NotBuilt, NoSuchLog, BadName, TooManyLogs, LogsFault, SinkFault, ParseErrors}
 
 -- a number, where there is one, with what parts it from the text behind
 abbrev pub counted : Option ℕ → List ℕ
@@ -48,19 +48,33 @@ query_reason (query.Parse fault) = parse_reason fault
 query_reason (query.StdinMisplaced at) = at_place at (codes "STDIN misplaced")
 query_reason (query.Plan fault) = type_reason fault
 
+-- the number of a line that a refusal names
+abbrev pub row_text : Option ℕ → List ℕ
+row_text None = []
+row_text (Some row) = codes " row " ++ decimal row
+
+-- what a refusal is called, but for the number of a line
+abbrev pub named : Status → List ℕ
+named Done = []
+named Memory = codes "out of memory"
+named (Clock moment) = codes "clock"
+named (Usage fault) = codes "usage: word " ++ counted (Some fault.word) ++ usage_text fault.kind
+named (Query fault) = query_reason fault
+named NotBuilt = codes "not built"
+named (NoSuchLog name) = codes "input: no such log " ++ name
+named (BadName fault) = codes "input: bad name"
+named TooManyLogs = codes "input: more than 100000 logs"
+named LogsFault = codes "read fault: logs"
+named SinkFault = codes "write fault"
+named (ParseErrors log row) = codes "parse errors: " ++ log
+
+abbrev pub row_in : Status → Option ℕ
+row_in (ParseErrors log row) = Some row
+row_in other = None
+
 -- what a refusal is called
 abbrev pub reason : Status → List ℕ
-reason Done = []
-reason Memory = codes "out of memory"
-reason (Clock moment) = codes "clock"
-reason (Usage fault) = codes "usage: word " ++ counted (Some fault.word) ++ usage_text fault.kind
-reason (Query fault) = query_reason fault
-reason NotBuilt = codes "not built"
-reason (NoSuchLog name) = codes "input: no such log " ++ name
-reason (BadName fault) = codes "input: bad name"
-reason TooManyLogs = codes "input: more than 100000 logs"
-reason LogsFault = codes "read fault: logs"
-reason SinkFault = codes "write fault"
+reason status = named status ++ row_text (row_in status)
 
 -- the line that tells of a refusal
 abbrev pub message : Status → List ℕ

@@ -4,7 +4,7 @@ use Rattle.command_words.specs.declared.usage.UsageFault.{UsageFault}
 use Rattle.query_text.specs.declared.fault.QueryFault.{QueryFault}
 use Rattle.lp_outside.specs.declared.name.NameFault.{NameFault}
 use Rattle.reports.specs.declared.status.Status.{Status}
-use Rattle.reports.specs.declared.status.Status.TheVariants.{Done, Memory, Clock, Usage, Query, NotBuilt, NoSuchLog, BadName, TooManyLogs, LogsFault, SinkFault}
+use Rattle.reports.specs.declared.status.Status.TheVariants.{Done, Memory, Clock, Usage, Query, NotBuilt, NoSuchLog, BadName, TooManyLogs, LogsFault, SinkFault, ParseErrors}
 
 abbrev pub OnDone : Status → Type 0 → Type 0
 OnDone Done P = P
@@ -56,6 +56,7 @@ abbrev pub OnStopped : Status → Type 0 → Type 0
 OnStopped Memory P = P
 OnStopped LogsFault P = P
 OnStopped SinkFault P = P
+OnStopped (ParseErrors log row) P = P
 OnStopped other P = ⊤
 
 -- an answer that comes before anything is written
@@ -82,3 +83,4 @@ code (BadName fault) = 4
 code TooManyLogs = 4
 code LogsFault = 5
 code SinkFault = 7
+code (ParseErrors log row) = 8

@@ -1,6 +1,6 @@
 // What a refusal is called: a text, a number where there is one, and a text behind it.
 ghost use Rattle.std.specs.Prelude.{◌≡◌, ◌++◌};
-ghost use Rattle.reports.specs.Messages.{counted, lex_reason, parse_reason, type_reason, query_reason, reason};
+ghost use Rattle.reports.specs.Messages.{counted, lex_reason, parse_reason, type_reason, query_reason, named, row_in};
 
 use crate::Status;
 use query_lexer::LexFault;
@@ -55,8 +55,8 @@ fn query_reason(fault: QueryFault) -> (&'static str, Option<u32>, &'static str)
     }
 }
 
-pub(crate) fn reason(status: &Status) -> (&str, Option<u32>, &str)
-    ensures { result.0.now ++ counted result.1 ++ result.2.now ≡ reason status.now }
+pub(crate) fn named(status: &Status) -> (&str, Option<u32>, &str)
+    ensures { result.0.now ++ counted result.1 ++ result.2.now ≡ named status.now }
 {
     match status {
         Status::Done => ("", None, ""),
@@ -70,5 +70,16 @@ pub(crate) fn reason(status: &Status) -> (&str, Option<u32>, &str)
         Status::TooManyLogs => ("input: more than 100000 logs", None, ""),
         Status::LogsFault => ("read fault: logs", None, ""),
         Status::SinkFault => ("write fault", None, ""),
+        Status::ParseErrors { log, .. } => ("parse errors: ", None, log.as_str()),
+    }
+}
+
+// The number of a line that a refusal names.
+pub(crate) fn row_in(status: &Status) -> Option<u64>
+    ensures { result ≡ row_in status.now }
+{
+    match status {
+        Status::ParseErrors { row, .. } => Some(*row),
+        _ => None,
     }
 }

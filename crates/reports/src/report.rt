@@ -2,10 +2,10 @@
 ghost use Rattle.std.specs.Prelude.{◌≡◌, ◌++◌, ◌∷◌, [], codes, decimal, OnOk, OnErr};
 ghost use Rattle.lp_model.specs.Outside.{Gains, GainsSome, HasCause};
 ghost use Rattle.lp_model.specs.Report.{statistics, bad_report};
-ghost use Rattle.reports.specs.Messages.{counted, message};
+ghost use Rattle.reports.specs.Messages.{counted, message, reason, row_text};
 
 use crate::Status;
-use crate::reason::reason;
+use crate::reason::{named, row_in};
 use itoa::Buffer;
 use lp_outside::{Sink, SinkFailed, write_all};
 
@@ -105,15 +105,38 @@ fn write_reason<E: Sink>(
     Ok(())
 }
 
+// Writes the number of a line, where there is one.
+fn write_row<E: Sink>(err: &mut E, row: Option<u64>) -> Result<(), SinkFailed>
+    ensures ok { OnOk result (Gains (E.written err.old) (E.written err.new) (row_text row)) }
+    ensures err { OnErr result (GainsSome (E.written err.old) (E.written err.new) (row_text row)) }
+    ensures cause { HasCause (E.faults err.old) (E.faults err.new) result }
+{
+    match row {
+        None => Ok(()),
+        Some(row) => write_number(err, b" row ", row, b""),
+    }
+}
+
+// Writes what a refusal is called.
+fn write_called<E: Sink>(err: &mut E, status: &Status) -> Result<(), SinkFailed>
+    ensures ok { OnOk result (Gains (E.written err.old) (E.written err.new) (reason status.now)) }
+    ensures err { OnErr result (GainsSome (E.written err.old) (E.written err.new) (reason status.now)) }
+    ensures cause { HasCause (E.faults err.old) (E.faults err.new) result }
+{
+    let (head, number, tail) = named(status);
+    write_reason(err, head.as_bytes(), number, tail.as_bytes())?;
+    write_row(err, row_in(status))?;
+    Ok(())
+}
+
 /// Writes the line that tells of a refusal. It takes no memory.
 pub fn write_message<E: Sink>(err: &mut E, status: &Status) -> Result<(), SinkFailed>
     ensures ok { OnOk result (Gains (E.written err.old) (E.written err.new) (message status.now)) }
     ensures err { OnErr result (GainsSome (E.written err.old) (E.written err.new) (message status.now)) }
     ensures cause { HasCause (E.faults err.old) (E.faults err.new) result }
 {
-    let (head, number, tail) = reason(status);
     write_all(err, b"logparser: ")?;
-    write_reason(err, head.as_bytes(), number, tail.as_bytes())?;
+    write_called(err, status)?;
     write_all(err, b"\n")?;
     Ok(())
 }

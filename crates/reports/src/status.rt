@@ -30,6 +30,8 @@ pub enum Status {
     LogsFault,
     /// The output couldn't be written.
     SinkFault,
+    /// A bad line is one too many: the log's identity, and the line's number.
+    ParseErrors { log: Name, row: u64 },
 }
 
 impl Status {
@@ -47,6 +49,7 @@ impl Status {
             Status::NoSuchLog(_) | Status::BadName(_) | Status::TooManyLogs => 4,
             Status::LogsFault => 5,
             Status::SinkFault => 7,
+            Status::ParseErrors { .. } => 8,
         }
     }
 }

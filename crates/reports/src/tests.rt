@@ -171,6 +171,16 @@ fn a_log_that_is_missing_is_named(rt: HostRuntime) -> Result<(), Fail> {
         )
     );
     assert_eq!(rt; Status::Done.code(), 0);
+    let log = Name::read("logs/ex 1.log").ok().ok_or("name")?;
+    let status = Status::ParseErrors { log, row: 4096 };
+    assert!(rt;
+        tells(
+            rt.alloc(),
+            &status,
+            8,
+            "logparser: parse errors: logs/ex 1.log row 4096\n"
+        )
+    );
     Ok(())
 }
 

@@ -1,8 +1,9 @@
-use Rattle.std.proofs.Common.{◌+◌, List, refl, sym, subst}
+use Rattle.std.proofs.Common.{◌+◌, List, [], false, refl, sym, ◌∙◌, subst}
 use Rattle.lp_model.specs.Lines.{Line, last_line}
-use Rattle.log_reading.specs.Page.{Follows, StopsIn}
+use Rattle.log_reading.specs.Page.{Follows, StopsIn, ExceedsIn, OnBad, to_come}
 use Rattle.lp_model.proofs.Results.{on_err}
-use Rattle.log_reading.proofs.Advancing.{follows_overlong, to_come-last}
+use Rattle.log_reading.proofs.Advancing.{follows_overlong, to_come-last, stops_unmoved, exceeds_overlong}
+use Rattle.log_reading.proofs.Faults.{handed_on, bad_so}
 use Rattle.log_reading.proofs.lines.take_rest.Goals as goal
 
 pub returns-in_err-take_text-in-Line-clause-stops : goal.returns-in_err-take_text-in-Line-clause-stops
@@ -13,8 +14,8 @@ returns-in_err-take_text-in-Line-clause-stops g c = on_err _ c.from_residual.res
     let Of : List Line → Type 0 = λ lines. StopsIn g.T.Taker.stops (g.R.LineReader.format c.args.reader.now) c.args.identity.now lines page c.take_text.new.page c.args.out.now c.take_text.new.out in
     subst Of (sym (to_come-last page c.requires.last c.in-Line.ensures.0.some)) (record { behind = λ history at. stopped.behind history at }))
 
-pub returns-in-TooLongLine-clause-takes : goal.returns-in-TooLongLine-clause-takes
-returns-in-TooLongLine-clause-takes g c =
+pub returns-else-pass_overlong-clause-takes : goal.returns-else-pass_overlong-clause-takes
+returns-else-pass_overlong-clause-takes g c =
     let page = c.args.page.now in
     let new = c.pass_overlong.new.page in
     let passed = c.pass_overlong.ensures in
@@ -34,3 +35,30 @@ returns-in_ok-take_text-in-Line-clause-takes g c =
     let Of : List Line → Type 0 = λ lines. Follows g.T.Taker.takes (g.R.LineReader.format c.args.reader.now) c.args.identity.now lines page new c.args.out.now c.take_text.new.out in
     subst Of (sym (to_come-last page c.requires.last c.in-Line.ensures.0.some))
     (record { behind = λ history at. let b = follows.behind history at in record { done = b.done; standing = b.standing; rows = b.rows; bad = b.bad } })
+
+pub returns-then-pass_overlong-clause-stops : goal.returns-then-pass_overlong-clause-stops
+returns-then-pass_overlong-clause-stops g c =
+    let page = c.args.page.now in
+    let w = c.args.out.now in
+    stops_unmoved g.T.Taker.takes g.T.Taker.stops g.met.T.Taker.stops_here (g.R.LineReader.format c.args.reader.now) c.args.identity.now (to_come false page []) page c.pass_overlong.new.page w c.pass_overlong.ensures.taker (g.met.T.Taker.takes_none page.taker w)
+
+pub returns-then-pass_overlong-clause-too_many : goal.returns-then-pass_overlong-clause-too_many
+returns-then-pass_overlong-clause-too_many g c =
+    let page = c.args.page.now in
+    let line = last_line (page.standing.lines + 1) page.splitter.place page.splitter.left in
+    let format = g.R.LineReader.format c.args.reader.now in
+    let Of : List Line → Type 0 = λ lines. ExceedsIn format lines page c.lines.result in
+    subst Of (sym (to_come-last page c.requires.last c.in-TooLongLine.ensures.0.some))
+    (exceeds_overlong format line page c.lines.result (sym c.pass_overlong.ensures.lines ∙ sym c.lines.ensures) c.in-TooLongLine.ensures.2 (c.pass_overlong.ensures.too_many c.if-pass_overlong.true))
+
+pub returns-in_err-take_text-in-Line-clause-too_many : goal.returns-in_err-take_text-in-Line-clause-too_many
+returns-in_err-take_text-in-Line-clause-too_many g c =
+    let page = c.args.page.now in
+    let line = last_line (page.standing.lines + 1) page.splitter.place page.splitter.left in
+    let format = g.R.LineReader.format c.args.reader.now in
+    handed_on c.from_residual.result _ (λ fault. OnBad fault (λ row. ExceedsIn format (to_come false page []) page row)) c.from_residual.ensures.1
+    (bad_so _ _ (λ row. ExceedsIn format (to_come false page []) page row)
+    (λ row so.
+    let Of : List Line → Type 0 = λ lines. ExceedsIn format lines page row in
+    subst Of (sym (to_come-last page c.requires.last c.in-Line.ensures.0.some)) (record { behind = λ history at. (so line refl (sym c.in-Line.ensures.1) c.in-Line.ensures.2).behind history at }))
+    c.in_err-take_text-in-Line.ensures.too_many)

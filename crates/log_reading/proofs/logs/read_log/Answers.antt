@@ -1,8 +1,10 @@
-use Rattle.std.proofs.Common.{◌≡◌, length, ap, arith}
+use Rattle.std.proofs.Common.{◌≡◌, Bool, length, ap, refl, ◌∙◌, arith}
 use Rattle.lp_model.proofs.Growing.{OnlyGrow-refl, OnlyGrow-trans}
 use Rattle.lp_model.proofs.Pieces.{there_grown}
 use Rattle.lp_model.proofs.Results.{on_err}
-use Rattle.log_reading.proofs.Spanning.{has_read_none, has_read_trans, stops_behind}
+use Rattle.log_reading.proofs.Spanning.{has_read_none, has_read_trans, stops_behind, exceeds_behind}
+use Rattle.log_reading.proofs.Faults.{handed_on, bad_line_so}
+use Rattle.log_reading.specs.Spans.{BadLine, OnBadLine, ExceedsReading}
 use Rattle.log_reading.proofs.logs.read_log.Goals as goal
 
 pub log-init : goal.log-init
@@ -18,6 +20,8 @@ log-init g c =
       read = λ waits. has_read_none g.T.Taker.takes (g.R.LineReader.format c.args.reader.now) span.identity waits (g.L.Logs.folder c.args.logs.now) span.name span.listed page w (g.met.T.Taker.takes_none page.taker w) (omega arith) c.requires.there;
       fits = omega arith;
       last = omega arith;
+      within = c.requires.within;
+      most = refl;
       room = c.requires.room;
       spends = record { lines = omega arith; rows = omega arith; bad = omega arith; taken = omega arith };
       longer = omega arith;
@@ -45,6 +49,8 @@ log-preserved g c =
       read = λ waits. has_read_trans g.T.Taker.takes g.met.T.Taker.takes_more (g.R.LineReader.format c.args.reader.now) span.identity waits _ _ span.name span.listed _ _ _ _ _ _ here.grows (so_far.read waits) (here.read waits);
       fits = here.fits;
       last = here.last;
+      within = here.within;
+      most = here.most ∙ so_far.most;
       room = here.room;
       spends = let first = so_far.spends in let second = here.spends in
           let f1 = first.lines in let f2 = first.rows in let f3 = first.bad in let f4 = first.taken in
@@ -61,3 +67,15 @@ returns-in_err-read_piece-clause-stops g c = on_err _ c.from_residual.result (λ
     let span = c.args.span.now in
     let here = c.in_err-read_piece.ensures in
     stops_behind g.T.Taker.takes g.T.Taker.stops g.met.T.Taker.stops_later (g.R.LineReader.format c.args.reader.now) span.identity waits _ _ span.name span.listed _ _ _ _ _ _ here.grows (c.log.invariant.read waits) (here.stops waits))
+
+pub returns-in_err-read_piece-clause-too_many : goal.returns-in_err-read_piece-clause-too_many
+returns-in_err-read_piece-clause-too_many g c =
+    let span = c.args.span.now in
+    let page = c.args.page.now in
+    let format = g.R.LineReader.format c.args.reader.now in
+    let here = c.in_err-read_piece.ensures in
+    let so_far = c.log.invariant in
+    let Q : BadLine → Type 0 = λ line. (line.log ≡ span.identity) × ((waits : Bool) → ExceedsReading format waits (g.L.Logs.folder c.read_piece.new.logs) span.name span.listed page line.row) in
+    handed_on c.from_residual.result _ (λ fault. OnBadLine fault Q) c.from_residual.ensures.1
+    (bad_line_so _ _ Q (λ line s. (s.0, λ waits. exceeds_behind g.T.Taker.takes format span.identity waits _ _ span.name span.listed page c.log.page _ _ line.row here.grows so_far.most (so_far.read waits) (s.1 waits)))
+    here.too_many)

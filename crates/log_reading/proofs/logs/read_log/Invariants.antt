@@ -2,7 +2,7 @@ use Rattle.std.proofs.Common.{◌≡◌, ◌≤◌, ◌+◌, ◌-◌, length, Bo
 use Rattle.std.specs.List.{position_or_len}
 use Rattle.lp_model.specs.Lines.{is_lf}
 use Rattle.lp_model.specs.Outside.{OnlyGrow, Told, bytes_in}
-use Rattle.log_reading.specs.Page.{HasRoom, Spends}
+use Rattle.log_reading.specs.Page.{HasRoom, Spends, IsWithin}
 use Rattle.log_reading.specs.Spans.{HasRead}
 use Rattle.log_reading.proofs.logs.read_log.Given as goal
 
@@ -14,6 +14,8 @@ invariant-log g l = record {
   read : (waits : Bool) → HasRead g.T.Taker.takes (g.R.LineReader.format l.reader) l.span.identity waits (g.L.Logs.folder l.logs) l.span.name l.span.listed l.initial.page l.page l.initial.out l.out;
   fits : l.page.splitter.place + length l.page.splitter.left ≤ l.span.listed;
   last : length l.page.splitter.left ≤ position_or_len is_lf l.page.splitter.left;
+  within : IsWithin l.page.most_bad l.page.bad;
+  most : l.page.most_bad ≡ l.initial.page.most_bad;
   room : HasRoom g.T.Taker.count l.page (l.span.listed - l.page.splitter.place + 1);
   spends : Spends g.T.Taker.count l.initial.page l.page ((l.page.splitter.place + length l.page.splitter.left) - l.initial.page.splitter.place);
   longer : l.initial.page.splitter.place ≤ l.page.splitter.place + length l.page.splitter.left;

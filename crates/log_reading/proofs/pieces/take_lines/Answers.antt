@@ -1,6 +1,8 @@
-use Rattle.std.proofs.Common.{[], ◌∙◌, arith}
+use Rattle.std.proofs.Common.{[], Bool, ◌∙◌, refl, arith}
 use Rattle.lp_model.proofs.Results.{on_err}
-use Rattle.log_reading.proofs.Advancing.{advances_none, advances_trans, stops_within, spends_trans}
+use Rattle.log_reading.proofs.Advancing.{advances_none, advances_trans, stops_within, spends_trans, exceeds_within}
+use Rattle.log_reading.proofs.Faults.{handed_on, bad_so}
+use Rattle.log_reading.specs.Page.{OnBad, ExceedsWithin}
 use Rattle.log_reading.proofs.pieces.take_lines.Goals as goal
 
 pub loop-more-init : goal.loop-more-init
@@ -11,6 +13,8 @@ loop-more-init g c =
       advances = λ waits. advances_none g.T.Taker.takes (g.R.LineReader.format c.args.reader.now) c.args.identity.now waits page w (g.met.T.Taker.takes_none page.taker w);
       spends = record { lines = omega arith; rows = omega arith; bad = omega arith; taken = omega arith };
       end = omega arith;
+      within = c.requires.within;
+      most = refl;
       later = omega arith;
     }
 
@@ -24,6 +28,8 @@ loop-more-preserved g c =
       advances = λ waits. advances_trans g.T.Taker.takes g.met.T.Taker.takes_more (g.R.LineReader.format c.args.reader.now) c.args.identity.now waits [] [] _ _ _ _ _ _ (so_far.advances waits) (took.advances waits);
       spends = spends_trans g.T.Taker.count _ _ _ 0 0 so_far.spends took.spends;
       end = took.end ∙ so_far.end;
+      within = took.within;
+      most = took.most ∙ so_far.most;
       later = omega arith;
     }
 
@@ -37,3 +43,13 @@ returns-clause-advances g c = λ waits.
 
 pub returns-clause-spends : goal.returns-clause-spends
 returns-clause-spends g c = spends_trans g.T.Taker.count _ _ _ 0 0 c.loop-more.invariant.spends c.in_ok-more.ensures.spends
+
+pub returns-in_err-more-clause-too_many : goal.returns-in_err-more-clause-too_many
+returns-in_err-more-clause-too_many g c =
+    let page = c.args.page.now in
+    let format = g.R.LineReader.format c.args.reader.now in
+    let so_far = c.loop-more.invariant in
+    handed_on c.from_residual.result _ (λ fault. OnBad fault (λ row. (waits : Bool) → ExceedsWithin format waits [] page row)) c.from_residual.ensures.1
+    (bad_so _ _ (λ row. (waits : Bool) → ExceedsWithin format waits [] page row)
+    (λ row s waits. exceeds_within g.T.Taker.takes format c.args.identity.now waits [] [] page c.loop-more.page _ _ row so_far.most (so_far.advances waits) (s waits))
+    c.in_err-more.ensures.too_many)

@@ -1,7 +1,11 @@
-use Rattle.std.proofs.Common.{arith}
+use Rattle.std.proofs.Common.{◌∙◌, arith}
 use Rattle.lp_model.proofs.Growing.{OnlyGrow-trans}
 use Rattle.lp_model.proofs.Results.{on_err}
-use Rattle.log_reading.proofs.SpansTaken.{there_all, spans_more, spans_stopped, size_more, took_more}
+use Rattle.log_reading.proofs.SpansTaken.{there_all, spans_more, spans_stopped, spans_exceeded, size_more, took_more}
+use Rattle.log_reading.proofs.Faults.{handed_on, bad_line_so}
+use Rattle.lp_model.specs.Outside.{Told}
+use Rattle.log_reading.specs.Page.{IsTooMany}
+use Rattle.log_reading.specs.Spans.{BadLine, OnBadLine, AreKept, spans_bad_lines}
 use Rattle.log_reading.proofs.spans.take_spans.Goals as goal
 
 pub returns-in_err-take_noted-clause-grows : goal.returns-in_err-take_noted-clause-grows
@@ -33,6 +37,8 @@ loop-span-preserved g c =
           here.grows so_far.there so_far.takes here.takes;
       took = λ waits. took_more (g.R.LineReader.format c.args.reader.now) _ _ c.args.spans.now c.loop-span.span-index c.span-item.result c.args.took.now _ _ c.loop-span-test.true c.span-item.is
           here.grows so_far.there (so_far.took waits) (here.took waits);
+      within = here.within;
+      most = here.most ∙ so_far.most;
       rows = omega arith;
       bad = omega arith;
       taken = omega arith;
@@ -40,3 +46,15 @@ loop-span-preserved g c =
       later_logs = omega arith;
       later = omega arith;
     }
+
+pub returns-in_err-take_noted-clause-too_many : goal.returns-in_err-take_noted-clause-too_many
+returns-in_err-take_noted-clause-too_many g c =
+    let so_far = c.loop-span.invariant in
+    let here = c.in_err-take_noted.ensures in
+    let spans = c.args.spans.now in
+    let page = c.args.page.now in
+    let format = g.R.LineReader.format c.args.reader.now in
+    let Q : BadLine → Type 0 = λ line. Told (g.L.Logs.folder c.take_noted.new.logs) (λ folder. AreKept format c.args.waits spans folder → IsTooMany page.most_bad page.bad (spans_bad_lines format c.args.waits folder spans) line) in
+    handed_on c.from_residual.result _ (λ fault. OnBadLine fault Q) c.from_residual.ensures.1
+    (bad_line_so _ _ Q (λ line s. spans_exceeded g.T.Taker.takes format c.args.waits _ _ spans c.loop-span.span-index c.span-item.result page c.loop-span.page _ _ line c.loop-span-test.true c.span-item.is here.grows so_far.there so_far.most so_far.takes s)
+    here.too_many)

@@ -1,5 +1,6 @@
 use Rattle.std.proofs.Common.{◌≡◌, ◌≤◌, ◌+◌, length, take, map, true, ◌++◌}
 use Rattle.lp_model.specs.Outside.{OnlyGrow, Told, bytes_in}
+use Rattle.log_reading.specs.Page.{IsWithin}
 use Rattle.log_reading.specs.Spans.{AllSpans, AreKept, TakesSpans, spans_size, took_of}
 use Rattle.log_reading.proofs.spans.take_spans.Given as goal
 
@@ -11,6 +12,8 @@ invariant-loop-span g l = record {
   takes : Told (g.L.Logs.folder l.logs) (λ folder. AreKept (g.R.LineReader.format l.reader) l.waits l.spans folder
       → TakesSpans g.T.Taker.takes (g.R.LineReader.format l.reader) l.waits folder (take l.span-index l.spans) l.initial.page l.page l.initial.out l.out);
   took : l.waits ≡ true → Told (g.L.Logs.folder l.logs) (λ folder. AreKept (g.R.LineReader.format l.reader) true l.spans folder → l.took ≡ l.initial.took ++ map (took_of (g.R.LineReader.format l.reader) folder) (take l.span-index l.spans));
+  within : IsWithin l.page.most_bad l.page.bad;
+  most : l.page.most_bad ≡ l.initial.page.most_bad;
   rows : l.page.rows ≤ l.initial.page.rows + spans_size (take l.span-index l.spans) + l.span-index;
   bad : l.page.bad ≤ l.initial.page.bad + spans_size (take l.span-index l.spans) + l.span-index;
   taken : g.T.Taker.count l.page.taker ≤ g.T.Taker.count l.initial.page.taker + spans_size (take l.span-index l.spans) + l.span-index;

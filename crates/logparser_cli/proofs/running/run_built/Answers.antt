@@ -18,4 +18,4 @@ returns-clause-answers g c =
     let new : World = record { folder = g.L.Logs.folder c.execute.new.logs; logs_faults = g.L.Logs.faults c.execute.new.logs; out = g.S.Sink.written c.execute.new.stage; out_faults = g.S.Sink.faults c.execute.new.stage; err = g.E.Sink.written c.args.err.now; err_faults = g.E.Sink.faults c.args.err.now } in
     let q = query_of c.args.query.now in
     subst (λ (status : Status). AnswersBuilt old new c.args.spec.now q status) (sym c.stopped.ensures)
-    (stopped_answers old new (g.L.Logs.folder c.find_spans.new.logs) c.args.spec.now q c.in-Ok.spans c.in-Err-execute.fault c.in-Ok.ensures.found c.in-Err-execute.ensures.grows c.in-Err-execute.ensures.stopped c.in-Err-execute.ensures.plan c.in-Err-execute.ensures.before (λ e. rose_since _ _ _ c.in-Ok.ensures.later (c.in-Err-execute.ensures.logs (ap Err e))) (λ e. c.in-Err-execute.ensures.stage (ap Err e)))
+    (stopped_answers old new (g.L.Logs.folder c.find_spans.new.logs) c.args.spec.now q c.in-Ok.spans c.in-Err-execute.fault c.in-Ok.ensures.found c.in-Err-execute.ensures.grows c.in-Err-execute.ensures.stopped c.in-Err-execute.ensures.plan c.in-Err-execute.ensures.before c.in-Err-execute.ensures.parse (λ e. rose_since _ _ _ c.in-Ok.ensures.later (c.in-Err-execute.ensures.logs (ap Err e))) (λ e. c.in-Err-execute.ensures.stage (ap Err e)))

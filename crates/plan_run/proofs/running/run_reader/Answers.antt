@@ -1,10 +1,11 @@
 use Rattle.lp_model.proofs.Growing.{OnlyGrow-refl}
-use Rattle.log_reading.specs.Spans.{AreKept}
+use Rattle.log_reading.specs.Page.{IsTooMany}
+use Rattle.log_reading.specs.Spans.{AreKept, OnBadLine, spans_bad_lines}
 use Rattle.query_types.specs.Planned.{planned_in}
 use Rattle.input_tables.specs.Tables.{lines_of}
 use Rattle.plan_run.specs.Rows.{plan_rows}
 use Rattle.plan_run.proofs.Sizes.{has_room, told_none}
-use Rattle.std.proofs.Common.{List, ℕ, true, false, OnOk, subst}
+use Rattle.std.proofs.Common.{List, ℕ, true, false, OnOk, IfErr, subst}
 use Rattle.lp_model.specs.Outside.{Told, Gains}
 use Rattle.lp_model.specs.Reading.{Format}
 use Rattle.plan_run.proofs.running.run_reader.Goals as goal
@@ -26,3 +27,9 @@ returns-clause-text g c =
     let Of : Format → List (List ℕ) → Type 0 = λ format names. OnOk c.write_spans.result (Told (g.L.Logs.folder c.write_spans.new.logs) (λ folder. AreKept format false c.args.spans.now folder
     → Gains (g.G.Stage.state c.args.stage.now).written (g.G.Stage.state c.write_spans.new.stage).written (g.F.Shape.text c.args.shape true names (plan_rows c.args.readings (planned_in c.args.plan) format folder c.args.spans.now)))) in
     subst (λ (format : Format). Of format c.args.plan.names) c.requires.reads (subst (λ (names : List (List ℕ)). Of (g.R.LineReader.format c.args.reader.now) names) c.in-Ok.ensures c.write_spans.ensures.text)
+
+pub returns-clause-too_many : goal.returns-clause-too_many
+returns-clause-too_many g c =
+    let Of : Format → Type 0 = λ format. IfErr c.write_spans.result (λ fault. OnBadLine fault (λ line. Told (g.L.Logs.folder c.write_spans.new.logs) (λ folder. AreKept format false c.args.spans.now folder
+    → IsTooMany c.args.most_bad 0 (spans_bad_lines format false folder c.args.spans.now) line))) in
+    subst Of c.requires.reads c.write_spans.ensures.too_many

@@ -1,8 +1,10 @@
-use Rattle.std.proofs.Common.{[], List, ℕ, ap, sym, ◌∙◌, subst}
-use Rattle.lp_model.specs.Outside.{Folder, Gains, GainsSome}
+use Rattle.std.proofs.Common.{[], List, ℕ, Option, ap, sym, ◌∙◌, subst}
+use Rattle.lp_model.specs.Outside.{Folder, Told, Gains, GainsSome}
 use Rattle.query_run.specs.Output.{IsUnderWay}
 use Rattle.query_run.specs.Rows.{picked}
-use Rattle.log_reading.specs.Spans.{AreKept, spans_found, TakesSpans}
+use Rattle.log_reading.specs.Page.{IsTooMany, IsWithin}
+use Rattle.log_reading.specs.Spans.{AreKept, BadLine, OnBadLine, spans_found, spans_bad_lines, TakesSpans}
+use Rattle.log_reading.proofs.Faults.{handed_on, bad_line_so}
 use Rattle.query_run.specs.Writer.{Writes, Halts}
 use Rattle.query_run.specs.declared.writer.Writer.{Writer}
 use Rattle.lp_model.proofs.Results.{on_err}
@@ -87,3 +89,18 @@ returns-clause-front g c =
     at_end g.F.Shape.text g.F.Shape.has_text g.P.Picker.picks (λ t. GainsSome u (g.G.Stage.state c.finish.new.stage).written t) page.taker c.take_spans.new.page.taker c.args.shape c.args.picker c.args.fresh c.args.names.now (spans_found (g.R.LineReader.format c.args.reader.now) c.args.waits folder c.args.spans.now) u (g.G.Stage.state c.take_spans.new.out).written format picker under_way ((took kept).done)
     (λ rows. c.in-Err-Failed.ensures.front c.args.fresh c.args.names.now rows u))
     c.in_ok-take_spans.ensures.takes
+
+pub returns-in-Ok-finish-clause-within : goal.returns-in-Ok-finish-clause-within
+returns-in-Ok-finish-clause-within g c =
+    subst (λ (most : Option ℕ). IsWithin most c.take_spans.new.page.bad) (c.in_ok-take_spans.ensures.most ∙ c.first_page-page.ensures.most) c.in_ok-take_spans.ensures.within
+
+pub returns-in_err-take_spans-clause-too_many : goal.returns-in_err-take_spans-clause-too_many
+returns-in_err-take_spans-clause-too_many g c =
+    let page = c.first_page-page.result in
+    let format = g.R.LineReader.format c.args.reader.now in
+    let told = g.L.Logs.folder c.take_spans.new.logs in
+    let Of : Option ℕ → ℕ → BadLine → Type 0 = λ most bad line. Told told (λ folder. AreKept format c.args.waits c.args.spans.now folder → IsTooMany most bad (spans_bad_lines format c.args.waits folder c.args.spans.now) line) in
+    handed_on c.from_residual.result _ (λ fault. OnBadLine fault (Of c.args.most_bad 0)) c.from_residual.ensures.1
+    (bad_line_so _ _ (Of c.args.most_bad 0)
+    (λ line s. subst (λ (most : Option ℕ). Of most 0 line) c.first_page-page.ensures.most (subst (λ (bad : ℕ). Of page.most_bad bad line) c.first_page-page.ensures.bad s))
+    c.in_err-take_spans.ensures.too_many)
