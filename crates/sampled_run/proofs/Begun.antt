@@ -2,7 +2,7 @@
 use Rattle.std.proofs.Common.{◌≡◌, ℕ, Bool, true, List, [], ◌∷◌, ◌++◌, length, map, Option, Some, Ok, ap, ap₂, sym, ◌∙◌, refl, subst, inl, inr, append_assoc, option_map}
 use Rattle.std.proofs.lemmas.List.{append-nil}
 use Rattle.grammar.specs.Trees.{Query}
-use Rattle.lp_model.specs.Outside.{GainsSome}
+use Rattle.lp_model.specs.Outside.{Gains, GainsSome}
 use Rattle.lp_time.specs.declared.piece.Piece.{Piece}
 use Rattle.lp_values.specs.declared.value.Value.{Value}
 use Rattle.log_reading.specs.Found.{Found}
@@ -13,6 +13,8 @@ use Rattle.query_run.specs.Rows.{picked}
 use Rattle.query_run.specs.Writer.{Writes, Halts}
 use Rattle.query_run.specs.Writing.{TextOf, HasTextOf, PicksOf, picked-append}
 use Rattle.query_run.specs.declared.writer.Writer.{Writer}
+use Rattle.query_tree.specs.Views.{query_of}
+use Rattle.query_types.specs.declared.fault.TypeFault.{TypeFault}
 use Rattle.query_types.specs.Conditions.{filter_of}
 use Rattle.query_types.specs.Planned.{plan_of, planned_in}
 use Rattle.sampled_table.specs.Judged.{judged, table_of}
@@ -21,7 +23,11 @@ use Rattle.sampled_table.specs.Picks.{sampled_picks}
 use Rattle.sampled_table.specs.declared.judging.Judged.{Judged}
 use Rattle.sampled_table.specs.declared.picking.SampledPicker.{SampledPicker}
 use Rattle.sampled_run.specs.Past.{Past, Later, Rules, plan_at, rows_at, rows_with, text_at, told_at}
-use Rattle.sampled_run.specs.Holds.{Asks, Begun, Gathers, IsFront, IsWithin, IsRefused}
+use Rattle.sampled_run.specs.Holds.{Asks, Begun, Gathers, Holds, IsFront, IsRefused, IsTold, IsWithin, IsWritten, PhaseHolds}
+use Rattle.sampled_run.specs.Laws.{told_stays}
+use Rattle.sampled_run.specs.declared.phase.Phase.{Phase}
+use Rattle.sampled_run.specs.declared.phase.Phase.TheVariants as P
+use Rattle.sampled_run.specs.declared.phase.Sampling.{Sampling}
 use Rattle.sampled_run.specs.Stops.{IsFaultOf, IsStop, stop_of}
 use Rattle.sampled_run.specs.declared.fault.Stop.{Stop}
 use Rattle.sampled_run.specs.declared.fault.Stop.TheVariants as S
@@ -120,4 +126,71 @@ nothing_begun text limit pattern query gathering S.Memory u is rules start past 
 -- a writer failed
 pub failed_begun : (rules : Rules) (start : Option (List ℕ)) (later : Past) (fault : TakeFault) (v : Option (List ℕ)) → IsWithin rules start later v → IsStop rules start later (stop_of fault) v
 failed_begun rules start later F.Memory v within = inr within
+failed_begun rules start later F.Stopped v within = inr within
 failed_begun rules start later F.Failed v within = inr within
+
+-- ---- the turn from keeping records to writing
+
+pub turned : {F : Type 0} (text : TextOf F) (has_text : HasTextOf F) (old : Sampling F) (gathering : Gathering F) (writer : Writer F SampledPicker) (u v : Option (List ℕ)) → old.phase ≡ P.Gathering gathering
+    → ((rules : Rules) (start : Option (List ℕ)) (past : Past) → Asks old.limit old.pattern.now (query_of old.query.now) rules → Gathers text rules start past gathering u → Begun text has_text rules start past writer v)
+    → (rules : Rules) (start : Option (List ℕ)) (past : Past) → Holds text has_text rules start past old u → IsTold rules past → Holds text has_text rules start past (record old { phase = P.Writing writer }) v
+turned text has_text old gathering writer u v is begun rules start past holds told =
+    let Of : Phase _ → Type 0 = λ p. PhaseHolds text has_text rules start past p u in
+    record { asks = holds.asks; phase = record { told = told; begun = begun rules start past holds.asks (subst Of is holds.phase) } }
+
+-- the same, where it stopped
+pub turn_stopped : {F : Type 0} (text : TextOf F) (has_text : HasTextOf F) (old : Sampling F) (gathering : Gathering F) (stop : Stop) (u v : Option (List ℕ)) → old.phase ≡ P.Gathering gathering
+    → ((rules : Rules) (start : Option (List ℕ)) (past later : Past) → Asks old.limit old.pattern.now (query_of old.query.now) rules → Gathers text rules start past gathering u → Later past later → told_at rules later ≡ told_at rules past → IsStop rules start later stop v)
+    → (rules : Rules) (start : Option (List ℕ)) (past later : Past) → Holds text has_text rules start past old u → IsTold rules past → Later past later → IsStop rules start later stop v
+turn_stopped text has_text old gathering stop u v is stopped rules start past later holds told follows =
+    let Of : Phase _ → Type 0 = λ p. PhaseHolds text has_text rules start past p u in
+    stopped rules start past later holds.asks (subst Of is holds.phase) follows (told_stays rules past later told follows)
+
+-- ---- the end of a run
+
+pub ended : {F : Type 0} (text : TextOf F) (has_text : HasTextOf F) (rules : Rules) (start u v : Option (List ℕ)) (past : Past) (writer : Writer F SampledPicker) (output : ℕ)
+    → output ≡ writer.output
+    → ((fresh : Bool) (names : List (List ℕ)) (rows : List (List Value)) (start : Option (List ℕ)) → IsUnderWay (has_text writer.shape fresh names rows) start u writer.buffers.held → Gains start v (text writer.shape fresh names rows))
+    → Begun text has_text rules start past writer u → IsWritten rules start past output v
+ended text has_text rules start u v past writer output same whole begun =
+    let plan = planned_in writer.picker.plan in
+    let Of : List ℕ → Type 0 = λ t. Gains start v t in
+    record {
+      plan = plan;
+      planned = begun.planned;
+      text = subst Of (ap (λ t. t true plan.names (rows_at rules past plan)) begun.format) (whole true plan.names (rows_at rules past plan) start begun.under_way);
+      output = same ∙ begun.output;
+    }
+
+pub end_within : {F : Type 0} (text : TextOf F) (has_text : HasTextOf F) (rules : Rules) (start u v : Option (List ℕ)) (past : Past) (writer : Writer F SampledPicker)
+    → ((fresh : Bool) (names : List (List ℕ)) (rows : List (List Value)) (start : Option (List ℕ)) → IsUnderWay (has_text writer.shape fresh names rows) start u writer.buffers.held → GainsSome start v (text writer.shape fresh names rows))
+    → Begun text has_text rules start past writer u → IsWithin rules start past v
+end_within text has_text rules start u v past writer front begun =
+    let plan = planned_in writer.picker.plan in
+    let Of : List ℕ → Type 0 = λ t. GainsSome start v t in
+    record {
+      plan = plan;
+      planned = begun.planned;
+      front = subst Of (ap (λ t. t true plan.names (rows_at rules past plan)) begun.format) (front true plan.names (rows_at rules past plan) start begun.under_way);
+    }
+
+-- what holds of the phase at the end
+pub at_gathering : {F : Type 0} (text : TextOf F) (has_text : HasTextOf F) (sampling : Sampling F) (gathering : Gathering F) (rules : Rules) (start u : Option (List ℕ)) (past : Past) → sampling.phase ≡ P.Gathering gathering → Holds text has_text rules start past sampling u → Gathers text rules start past gathering u
+at_gathering text has_text sampling gathering rules start u past is holds =
+    let Of : Phase _ → Type 0 = λ p. PhaseHolds text has_text rules start past p u in
+    subst Of is holds.phase
+
+pub at_writing : {F : Type 0} (text : TextOf F) (has_text : HasTextOf F) (sampling : Sampling F) (writer : Writer F SampledPicker) (rules : Rules) (start u : Option (List ℕ)) (past : Past) → sampling.phase ≡ P.Writing writer → Holds text has_text rules start past sampling u → Begun text has_text rules start past writer u
+at_writing text has_text sampling writer rules start u past is holds =
+    let Of : Phase _ → Type 0 = λ p. PhaseHolds text has_text rules start past p u in
+    (subst Of is holds.phase).begun
+
+pub at_refused : {F : Type 0} (text : TextOf F) (has_text : HasTextOf F) (sampling : Sampling F) (plan : TypeFault) (rules : Rules) (start u : Option (List ℕ)) (past : Past) → sampling.phase ≡ P.Refused plan → Holds text has_text rules start past sampling u → ⊥
+at_refused text has_text sampling plan rules start u past is holds =
+    let Of : Phase _ → Type 0 = λ p. PhaseHolds text has_text rules start past p u in
+    subst Of is holds.phase
+
+pub at_lost : {F : Type 0} (text : TextOf F) (has_text : HasTextOf F) (sampling : Sampling F) (rules : Rules) (start u : Option (List ℕ)) (past : Past) → sampling.phase ≡ P.Lost → Holds text has_text rules start past sampling u → ⊥
+at_lost text has_text sampling rules start u past is holds =
+    let Of : Phase _ → Type 0 = λ p. PhaseHolds text has_text rules start past p u in
+    subst Of is holds.phase

@@ -21,7 +21,8 @@ use Rattle.sampled_table.specs.declared.kept.FirstLog.{FirstLog}
 use Rattle.sampled_table.specs.declared.picking.SampledPicker.{SampledPicker}
 use Rattle.sampled_run.specs.Past.{Past, Later, Rules, first_seen, log_of, past_with, plan_at, rows_at, rows_with, text_at, told_at}
 use Rattle.sampled_run.specs.Holds.{Asks, Begun, Gathers, Holds, IsFront, IsTold, IsWithin, PhaseHolds, PhaseStopped, WritesOn}
-use Rattle.sampled_run.specs.Laws.{later_with, rows_more, told_stays}
+use Rattle.query_types.specs.declared.fault.TypeFault.{TypeFault}
+use Rattle.sampled_run.specs.Laws.{Samples, Halts, later_with, rows_more, told_stays}
 use Rattle.sampled_run.specs.declared.phase.Gathering.{Gathering}
 use Rattle.sampled_run.specs.declared.phase.Phase.{Phase}
 use Rattle.sampled_run.specs.declared.phase.Phase.TheVariants as P
@@ -126,3 +127,80 @@ halts_front text has_text rules start u v past later old founds halts on follows
   where
     picked_both : (picker : SampledPicker) (xs ys : List Found) → picked (picks_of picker) (xs ++ ys) ≡ picked (picks_of picker) xs ++ picked (picks_of picker) ys
     picked_both picker xs ys = rows_more picker.pattern.now picker.told (planned_in picker.plan) xs ys
+
+-- ---- the phases of a run
+
+abbrev pub at_phase : {F : Type 0} → Sampling F → Phase F → Sampling F
+at_phase sampling phase = record sampling { phase = phase }
+
+phase_is : {F : Type 0} (text : TextOf F) (has_text : HasTextOf F) (rules : Rules) (start now : Option (List ℕ)) (past : Past) (old : Sampling F) (phase : Phase F) → old.phase ≡ phase → Holds text has_text rules start past old now → PhaseHolds text has_text rules start past phase now
+phase_is text has_text rules start now past old phase is holds =
+    let Of : Phase _ → Type 0 = λ p. PhaseHolds text has_text rules start past p now in
+    subst Of is holds.phase
+
+pub samples_writing : {F : Type 0} (text : TextOf F) (has_text : HasTextOf F) (old : Sampling F) (first last : Writer F SampledPicker) (u v : Option (List ℕ)) (founds : List Found)
+    → old.phase ≡ P.Writing first → Writes text has_text picks_of first u founds last v → Samples text has_text old u founds (at_phase old (P.Writing last)) v
+samples_writing text has_text old first last u v founds is writes = record {
+  along = λ rules start past holds. record {
+      asks = holds.asks;
+      phase = writes_more text has_text rules start u v past first last founds writes (phase_is text has_text rules start u past old (P.Writing first) is holds);
+  };
+}
+
+pub halts_writing : {F : Type 0} (text : TextOf F) (has_text : HasTextOf F) (old : Sampling F) (first last : Writer F SampledPicker) (u v : Option (List ℕ)) (founds : List Found)
+    → old.phase ≡ P.Writing first → WriterHalts text has_text picks_of first u founds v → Halts text has_text old u founds (at_phase old (P.Writing last)) v
+halts_writing text has_text old first last u v founds is halts = record {
+  within = λ rules start past holds later follows.
+      halts_front text has_text rules start u v past later first founds halts (phase_is text has_text rules start u past old (P.Writing first) is holds) follows;
+}
+
+pub samples_gathering : {F : Type 0} (text : TextOf F) (has_text : HasTextOf F) (old : Sampling F) (first last : Gathering F) (u : Option (List ℕ)) (found : Found)
+    → old.phase ≡ P.Gathering first → last.first ≡ first_seen first.first (found ∷ []) → map found_in last.rows ≡ map found_in first.rows ++ found ∷ [] → last.shape ≡ first.shape
+    → Samples text has_text old u (found ∷ []) (at_phase old (P.Gathering last)) u
+samples_gathering text has_text old first last u found is log rows shape = record {
+  along = λ rules start past holds. record {
+      asks = holds.asks;
+      phase = gathers_more text rules start u past first last found log rows shape (phase_is text has_text rules start u past old (P.Gathering first) is holds);
+  };
+}
+
+-- a record that couldn't be kept
+pub halts_gathering : {F : Type 0} (text : TextOf F) (has_text : HasTextOf F) (old : Sampling F) (first last : Gathering F) (u : Option (List ℕ)) (founds : List Found)
+    → old.phase ≡ P.Gathering first → Halts text has_text old u founds (at_phase old (P.Gathering last)) u
+halts_gathering text has_text old first last u founds is = record {
+  within = λ rules start past holds later follows. inl (phase_is text has_text rules start u past old (P.Gathering first) is holds).nothing;
+}
+
+-- the record with which the columns are told
+pub samples_turning : {F : Type 0} (text : TextOf F) (has_text : HasTextOf F) (old new : Sampling F) (first last : Gathering F) (u v : Option (List ℕ)) (found : Found)
+    → old.phase ≡ P.Gathering first → last.first ≡ first_seen first.first (found ∷ []) → map found_in last.rows ≡ map found_in first.rows ++ found ∷ [] → last.shape ≡ first.shape → old.limit ≤ length last.rows
+    → ((rules : Rules) (start : Option (List ℕ)) (past : Past) → Holds text has_text rules start past (at_phase old (P.Gathering last)) u → IsTold rules past → Holds text has_text rules start past new v)
+    → Samples text has_text old u (found ∷ []) new v
+samples_turning text has_text old new first last u v found is log rows shape enough turned = record {
+  along = λ rules start past holds.
+      let gathers = gathers_more text rules start u past first last found log rows shape (phase_is text has_text rules start u past old (P.Gathering first) is holds) in
+      let limit = holds.asks.limit in
+      turned rules start (past_with past (found ∷ [])) (record { asks = holds.asks; phase = gathers }) (told_now text rules start u past last found (omega arith) gathers);
+}
+
+pub halts_turning : {F : Type 0} (text : TextOf F) (has_text : HasTextOf F) (old new : Sampling F) (first last : Gathering F) (u v : Option (List ℕ)) (found : Found)
+    → old.phase ≡ P.Gathering first → last.first ≡ first_seen first.first (found ∷ []) → map found_in last.rows ≡ map found_in first.rows ++ found ∷ [] → last.shape ≡ first.shape → old.limit ≤ length last.rows
+    → ((rules : Rules) (start : Option (List ℕ)) (past later : Past) → Holds text has_text rules start past (at_phase old (P.Gathering last)) u → IsTold rules past → Later past later → PhaseStopped rules start later new.phase v)
+    → Halts text has_text old u (found ∷ []) new v
+halts_turning text has_text old new first last u v found is log rows shape enough stopped = record {
+  within = λ rules start past holds later follows.
+      let gathers = gathers_more text rules start u past first last found log rows shape (phase_is text has_text rules start u past old (P.Gathering first) is holds) in
+      let limit = holds.asks.limit in
+      stopped rules start (past_with past (found ∷ [])) later (record { asks = holds.asks; phase = gathers }) (told_now text rules start u past last found (omega arith) gathers) follows;
+}
+
+-- nothing is taken behind a refusal
+pub halts_refused : {F : Type 0} (text : TextOf F) (has_text : HasTextOf F) (old new : Sampling F) (u v : Option (List ℕ)) (founds : List Found) (plan : TypeFault) → old.phase ≡ P.Refused plan → Halts text has_text old u founds new v
+halts_refused text has_text old new u v founds plan is = record {
+  within = λ rules start past holds later follows. absurd (phase_is text has_text rules start u past old (P.Refused plan) is holds);
+}
+
+pub halts_lost : {F : Type 0} (text : TextOf F) (has_text : HasTextOf F) (old new : Sampling F) (u v : Option (List ℕ)) (founds : List Found) → old.phase ≡ P.Lost → Halts text has_text old u founds new v
+halts_lost text has_text old new u v founds is = record {
+  within = λ rules start past holds later follows. absurd (phase_is text has_text rules start u past old P.Lost is holds);
+}

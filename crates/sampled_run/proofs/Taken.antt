@@ -8,7 +8,9 @@ use Rattle.lp_model.proofs.Pieces.{take_grown}
 use Rattle.log_reading.specs.Found.{Found, found_of}
 use Rattle.log_reading.specs.declared.page.Page.{Page}
 use Rattle.log_reading.specs.declared.span.Span.{Span}
-use Rattle.log_reading.specs.Spans.{IsKept, TakesSpan, AllSpans, AreKept, cut_of, span_found, span_bad, spans_found, spans_bad}
+use Rattle.log_reading.specs.Spans.{BadLine, IsKept, TakesSpan, TakesSpans, AllSpans, AreKept, cut_of, span_found, span_bad, span_bad_lines, spans_found, spans_bad, spans_bad_lines}
+use Rattle.log_reading.specs.Page.{IsTooMany}
+use Rattle.log_reading.proofs.SpansTaken.{spans_exceeded}
 use Rattle.query_run.specs.Writing.{TextOf, HasTextOf}
 use Rattle.sampled_run.specs.Past.{Past, Later, Rules, noted, past_with}
 use Rattle.sampled_run.specs.Spans.{past_behind, past_behind_span}
@@ -200,3 +202,21 @@ halted_within text has_text format waits (Some x) (Some y) spans i span a b z u 
           here.within rules start known (so_far.along rules start past holds) later
           (later_trans behind (past_behind format waits y past spans) later (subst Of whole (later_spans format waits y behind rest)) follows);
     }
+
+-- ---- bad lines
+
+counted : {F : Type 0} (text : TextOf F) (has_text : HasTextOf F) (format : Format) (waits : Bool) (told : Option Folder) (all spans : List Span) (a b : Page (Sampling F)) (u v : Option (List ℕ))
+    → Told told (λ folder. AreKept format waits all folder → SamplesSpans text has_text format waits folder spans a b u v)
+    → Told told (λ folder. AreKept format waits all folder → TakesSpans (λ (old : Sampling F) (before : Option (List ℕ)) founds new now. Unit {0}) format waits folder spans a b u v)
+counted text has_text format waits None all spans a b u v f = tt
+counted text has_text format waits (Some folder) all spans a b u v f = λ kept. record { done = tt; rows = (f kept).rows; bad = (f kept).bad }
+
+-- a bad line of a log was one too many
+pub exceeded : {F : Type 0} (text : TextOf F) (has_text : HasTextOf F) (format : Format) (waits : Bool) (first second : Option Folder) (spans : List Span) (i : ℕ) (span : Span) (a b : Page (Sampling F)) (u v : Option (List ℕ)) (line : BadLine) → i < length spans → span ≡ get_or spans i span
+    → OnlyGrow first second → Told first (λ folder. AllSpans spans (λ s. s.listed ≤ length (bytes_in folder s.name))) → b.most_bad ≡ a.most_bad
+    → Told first (λ folder. AreKept format waits spans folder → SamplesSpans text has_text format waits folder (take i spans) a b u v)
+    → Told second (λ folder. IsKept format waits (cut_of folder span) span → IsTooMany b.most_bad b.bad (span_bad_lines format waits folder span) line)
+    → Told second (λ folder. AreKept format waits spans folder → IsTooMany a.most_bad a.bad (spans_bad_lines format waits folder spans) line)
+exceeded text has_text format waits first second spans i span a b u v line lt is grows there most f s =
+    spans_exceeded (λ (old : Sampling _) (before : Option (List ℕ)) founds new now. Unit {0}) format waits first second spans i span a b u v line lt is grows there most
+    (counted text has_text format waits first spans (take i spans) a b u v f) s

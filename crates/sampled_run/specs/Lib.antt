@@ -5,3 +5,4 @@ pub mod Holds
 pub mod Laws
 pub mod Stops
 pub mod Taking
+pub mod Ran

@@ -33,4 +33,5 @@ IsFaultOf planned S.Memory = ⊤
 -- why a run stops, where a writer failed
 abbrev pub stop_of : TakeFault → Stop
 stop_of F.Memory = S.Memory
+stop_of F.Stopped = S.Memory
 stop_of F.Failed = S.Output

@@ -31,7 +31,7 @@ pub(crate) fn stop_of(fault: TakeFault) -> Stop
     ensures { result ≡ stop_of fault }
 {
     match fault {
-        TakeFault::Memory => Stop::Memory,
+        TakeFault::Memory | TakeFault::Stopped => Stop::Memory,
         TakeFault::Failed => Stop::Output,
     }
 }

@@ -20,6 +20,7 @@ pub(crate) fn give_kept<T: Taker<O>, O>(
     ensures count { OnOk result (T.count taker.new ≡ T.count taker.old + length rows.now) }
     ensures later { T.faults out.old ≤ T.faults out.new }
     ensures failed { IsErrOf result TakeFault.Failed → Rose (T.faults out.old) (T.faults out.new) }
+    ensures stopped { IsErrOf result TakeFault.Stopped → T.stopped taker.new }
 {
     for row in rows.as_slice() {
         taker.take(

@@ -6,14 +6,19 @@
 mod beginning;
 mod ending;
 mod fault;
+mod formats;
 mod giving;
+mod noting;
 mod phase;
 mod planning;
+mod running;
+mod spans;
 mod taking;
 mod turning;
 
 pub use ending::finish_run;
-pub use fault::Stop;
+pub use fault::{SampleFault, Stop};
+pub use formats::run_sampled;
 pub use phase::{Gathering, Phase, Sampling};
 #[cfg(test)]
 mod tests;

@@ -4,7 +4,7 @@ ghost use Rattle.lp_model.specs.Outside.{Rose};
 ghost use Rattle.line_input.specs.Taken.{slots_of};
 ghost use Rattle.log_reading.specs.Found.{Found};
 ghost use Rattle.sampled_table.specs.Kept.{found_in};
-ghost use Rattle.sampled_run.specs.Counts.{taken_in};
+ghost use Rattle.sampled_run.specs.Counts.{IsRefusedIn, taken_in};
 ghost use Rattle.sampled_run.specs.Past.{columns_or, first_seen};
 ghost use Rattle.sampled_run.specs.Laws.{Samples, Halts, samples_none, samples_more, halts_here, halts_later, halts_more};
 
@@ -99,6 +99,8 @@ impl<'a, F: Shape + Drop, G: Stage> Taker<G> for Sampling<'a, F> {
     ghost takes = { λ a u xs b v. Samples F.text F.has_text a (G.state u).written xs b (G.state v).written };
 
     ghost stops = { λ a u xs b v. Halts F.text F.has_text a (G.state u).written xs b (G.state v).written };
+
+    ghost stopped = { λ s. IsRefusedIn s.phase };
 
     ghost count = { λ s. taken_in s.phase };
 

@@ -1,7 +1,7 @@
 // The turn from keeping records to writing rows.
 ghost use Rattle.std.specs.Prelude.{◌≡◌, ◌≤◌, List, ℕ, Option, OnOk, OnErr, IsErrOf};
 ghost use Rattle.lp_model.specs.Outside.{Rose};
-ghost use Rattle.sampled_run.specs.Counts.{taken_in};
+ghost use Rattle.sampled_run.specs.Counts.{IsRefusedIn, taken_in};
 ghost use Rattle.sampled_run.specs.Past.{Past, Later, Rules};
 ghost use Rattle.sampled_run.specs.Holds.{Holds, IsTold, PhaseStopped};
 
@@ -26,6 +26,7 @@ pub(crate) fn turn<'a, F: Shape + Drop, G: Stage>(
     ensures count { OnOk result (taken_in sampling.new.phase ≡ taken_in sampling.old.phase) }
     ensures later { G.faults stage.old ≤ G.faults stage.new }
     ensures failed { IsErrOf result TakeFault.Failed → Rose (G.faults stage.old) (G.faults stage.new) }
+    ensures refused { IsErrOf result TakeFault.Stopped → IsRefusedIn sampling.new.phase }
 {
     let Phase::Gathering(gathering) = replace(&mut sampling.phase, Phase::Lost) else {
         return Err(TakeFault::Memory);
@@ -44,7 +45,7 @@ pub(crate) fn turn<'a, F: Shape + Drop, G: Stage>(
         }
         Err(Stop::Plan(fault)) => {
             sampling.phase = Phase::Refused(fault);
-            Err(TakeFault::Memory)
+            Err(TakeFault::Stopped)
         }
         Err(Stop::Output) => Err(TakeFault::Failed),
         Err(Stop::Memory) => Err(TakeFault::Memory),
