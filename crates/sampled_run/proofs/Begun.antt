@@ -134,16 +134,16 @@ failed_begun rules start later F.Failed v within = inr within
 pub turned : {F : Type 0} (text : TextOf F) (has_text : HasTextOf F) (old : Sampling F) (gathering : Gathering F) (writer : Writer F SampledPicker) (u v : Option (List ℕ)) → old.phase ≡ P.Gathering gathering
     → ((rules : Rules) (start : Option (List ℕ)) (past : Past) → Asks old.limit old.pattern.now (query_of old.query.now) rules → Gathers text rules start past gathering u → Begun text has_text rules start past writer v)
     → (rules : Rules) (start : Option (List ℕ)) (past : Past) → Holds text has_text rules start past old u → IsTold rules past → Holds text has_text rules start past (record old { phase = P.Writing writer }) v
-turned text has_text old gathering writer u v is begun rules start past holds told =
-    let Of : Phase _ → Type 0 = λ p. PhaseHolds text has_text rules start past p u in
+turned {F = F} text has_text old gathering writer u v is begun rules start past holds told =
+    let Of : Phase F → Type 0 = λ p. PhaseHolds text has_text rules start past p u in
     record { asks = holds.asks; phase = record { told = told; begun = begun rules start past holds.asks (subst Of is holds.phase) } }
 
 -- the same, where it stopped
 pub turn_stopped : {F : Type 0} (text : TextOf F) (has_text : HasTextOf F) (old : Sampling F) (gathering : Gathering F) (stop : Stop) (u v : Option (List ℕ)) → old.phase ≡ P.Gathering gathering
     → ((rules : Rules) (start : Option (List ℕ)) (past later : Past) → Asks old.limit old.pattern.now (query_of old.query.now) rules → Gathers text rules start past gathering u → Later past later → told_at rules later ≡ told_at rules past → IsStop rules start later stop v)
     → (rules : Rules) (start : Option (List ℕ)) (past later : Past) → Holds text has_text rules start past old u → IsTold rules past → Later past later → IsStop rules start later stop v
-turn_stopped text has_text old gathering stop u v is stopped rules start past later holds told follows =
-    let Of : Phase _ → Type 0 = λ p. PhaseHolds text has_text rules start past p u in
+turn_stopped {F = F} text has_text old gathering stop u v is stopped rules start past later holds told follows =
+    let Of : Phase F → Type 0 = λ p. PhaseHolds text has_text rules start past p u in
     stopped rules start past later holds.asks (subst Of is holds.phase) follows (told_stays rules past later told follows)
 
 -- ---- the end of a run
@@ -176,21 +176,21 @@ end_within text has_text rules start u v past writer front begun =
 
 -- what holds of the phase at the end
 pub at_gathering : {F : Type 0} (text : TextOf F) (has_text : HasTextOf F) (sampling : Sampling F) (gathering : Gathering F) (rules : Rules) (start u : Option (List ℕ)) (past : Past) → sampling.phase ≡ P.Gathering gathering → Holds text has_text rules start past sampling u → Gathers text rules start past gathering u
-at_gathering text has_text sampling gathering rules start u past is holds =
-    let Of : Phase _ → Type 0 = λ p. PhaseHolds text has_text rules start past p u in
+at_gathering {F = F} text has_text sampling gathering rules start u past is holds =
+    let Of : Phase F → Type 0 = λ p. PhaseHolds text has_text rules start past p u in
     subst Of is holds.phase
 
 pub at_writing : {F : Type 0} (text : TextOf F) (has_text : HasTextOf F) (sampling : Sampling F) (writer : Writer F SampledPicker) (rules : Rules) (start u : Option (List ℕ)) (past : Past) → sampling.phase ≡ P.Writing writer → Holds text has_text rules start past sampling u → Begun text has_text rules start past writer u
-at_writing text has_text sampling writer rules start u past is holds =
-    let Of : Phase _ → Type 0 = λ p. PhaseHolds text has_text rules start past p u in
+at_writing {F = F} text has_text sampling writer rules start u past is holds =
+    let Of : Phase F → Type 0 = λ p. PhaseHolds text has_text rules start past p u in
     (subst Of is holds.phase).begun
 
 pub at_refused : {F : Type 0} (text : TextOf F) (has_text : HasTextOf F) (sampling : Sampling F) (plan : TypeFault) (rules : Rules) (start u : Option (List ℕ)) (past : Past) → sampling.phase ≡ P.Refused plan → Holds text has_text rules start past sampling u → ⊥
-at_refused text has_text sampling plan rules start u past is holds =
-    let Of : Phase _ → Type 0 = λ p. PhaseHolds text has_text rules start past p u in
+at_refused {F = F} text has_text sampling plan rules start u past is holds =
+    let Of : Phase F → Type 0 = λ p. PhaseHolds text has_text rules start past p u in
     subst Of is holds.phase
 
 pub at_lost : {F : Type 0} (text : TextOf F) (has_text : HasTextOf F) (sampling : Sampling F) (rules : Rules) (start u : Option (List ℕ)) (past : Past) → sampling.phase ≡ P.Lost → Holds text has_text rules start past sampling u → ⊥
-at_lost text has_text sampling rules start u past is holds =
-    let Of : Phase _ → Type 0 = λ p. PhaseHolds text has_text rules start past p u in
+at_lost {F = F} text has_text sampling rules start u past is holds =
+    let Of : Phase F → Type 0 = λ p. PhaseHolds text has_text rules start past p u in
     subst Of is holds.phase

@@ -134,8 +134,8 @@ abbrev pub at_phase : {F : Type 0} → Sampling F → Phase F → Sampling F
 at_phase sampling phase = record sampling { phase = phase }
 
 phase_is : {F : Type 0} (text : TextOf F) (has_text : HasTextOf F) (rules : Rules) (start now : Option (List ℕ)) (past : Past) (old : Sampling F) (phase : Phase F) → old.phase ≡ phase → Holds text has_text rules start past old now → PhaseHolds text has_text rules start past phase now
-phase_is text has_text rules start now past old phase is holds =
-    let Of : Phase _ → Type 0 = λ p. PhaseHolds text has_text rules start past p now in
+phase_is {F = F} text has_text rules start now past old phase is holds =
+    let Of : Phase F → Type 0 = λ p. PhaseHolds text has_text rules start past p now in
     subst Of is holds.phase
 
 pub samples_writing : {F : Type 0} (text : TextOf F) (has_text : HasTextOf F) (old : Sampling F) (first last : Writer F SampledPicker) (u v : Option (List ℕ)) (founds : List Found)

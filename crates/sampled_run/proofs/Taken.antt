@@ -56,11 +56,11 @@ pub one_stopped : {F : Type 0} (text : TextOf F) (has_text : HasTextOf F) (begin
     → last ≡ b.taker
     → Told told (λ folder. IsKept format waits (cut_of folder span) span → TakesSpan (λ (old : Sampling F) (before : Option (List ℕ)) founds new now. Samples text has_text old before founds new now) format waits folder span a b u v)
     → Told told (λ folder. IsKept format waits (cut_of folder span) span → HaltsIn text has_text (span_told format waits folder span) a.taker last u v)
-one_stopped text has_text begins format waits None span a b last u v same taken = tt
-one_stopped text has_text begins format waits (Some folder) span a b last u v same taken = λ kept. record {
+one_stopped {F = F} text has_text begins format waits None span a b last u v same taken = tt
+one_stopped {F = F} text has_text begins format waits (Some folder) span a b last u v same taken = λ kept. record {
   within = λ rules start past holds later follows.
       let behind = past_with past (span_found format waits folder span) in
-      let Of : Sampling _ → Type 0 = λ s. PhaseStopped rules start later s.phase v in
+      let Of : Sampling F → Type 0 = λ s. PhaseStopped rules start later s.phase v in
       subst Of (sym same)
       (stopped_between text has_text begins rules start v behind later b.taker
       (later_trans behind (past_behind_span format waits folder past span) later (later_noted behind span.identity (standing_at format (cut_of folder span) waits (length (cut_of folder span))).columns) follows)
@@ -217,6 +217,6 @@ pub exceeded : {F : Type 0} (text : TextOf F) (has_text : HasTextOf F) (format :
     → Told first (λ folder. AreKept format waits spans folder → SamplesSpans text has_text format waits folder (take i spans) a b u v)
     → Told second (λ folder. IsKept format waits (cut_of folder span) span → IsTooMany b.most_bad b.bad (span_bad_lines format waits folder span) line)
     → Told second (λ folder. AreKept format waits spans folder → IsTooMany a.most_bad a.bad (spans_bad_lines format waits folder spans) line)
-exceeded text has_text format waits first second spans i span a b u v line lt is grows there most f s =
-    spans_exceeded (λ (old : Sampling _) (before : Option (List ℕ)) founds new now. Unit {0}) format waits first second spans i span a b u v line lt is grows there most
+exceeded {F = F} text has_text format waits first second spans i span a b u v line lt is grows there most f s =
+    spans_exceeded (λ (old : Sampling F) (before : Option (List ℕ)) founds new now. Unit {0}) format waits first second spans i span a b u v line lt is grows there most
     (counted text has_text format waits first spans (take i spans) a b u v f) s

@@ -10,11 +10,12 @@ use Rattle.log_reading.specs.Found.{Found}
 use Rattle.plan_rows.specs.Picks.{if_kept, masked}
 use Rattle.plan_rows.proofs.Masking.{keeps_masked, items_masked}
 use Rattle.sampled_table.specs.declared.judging.Judged.{Judged}
-use Rattle.sampled_table.specs.Picks.{row_of, sampled_picks, value_for}
+use Rattle.sampled_table.specs.Fields.{is_first}
+use Rattle.sampled_table.specs.Picks.{row_of, sampled_picks, value_in_column}
 use Rattle.sampled_table.proofs.Steps.{indexed_length}
 
 row_fits : (pattern : List Piece) (told : Judged) (found : Found) (used : List Bool) → length told.columns + 2 ≤ length used → length (row_of pattern told found) ≤ length used
-row_fits pattern told found used fits = let size = indexed_length (value_for pattern told.log found) 0 told.columns in omega arith
+row_fits pattern told found used fits = let size = indexed_length (value_in_column pattern (is_first told.log found.identity) found.row.columns found.row.slots) 0 told.columns in omega arith
 
 -- a record whose row isn't kept
 pub picks_none : (used : List Bool) (pattern : List Piece) (told : Judged) (items : List Meaning) (condition : Option Filter) (found : Found) (values : List Value)

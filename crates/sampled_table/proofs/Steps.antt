@@ -1,9 +1,18 @@
 -- Steps along lists whose items count their places.
-use Rattle.std.proofs.Common.{◌≡◌, ℕ, suc, ◌+◌, ◌<◌, Bool, false, List, [], ◌∷◌, ◌++◌, length, drop, get_or, sym, ◌∙◌, ap, arith, add-one, append_assoc}
+use Rattle.std.proofs.Common.{◌≡◌, ℕ, suc, ◌+◌, ◌<◌, ◌≤◌, Bool, false, List, [], ◌∷◌, ◌++◌, length, drop, get_or, map, take, sym, ◌∙◌, ap, arith, add-one, append_assoc}
 use Rattle.std.proofs.Math.Seq.{drop-cons}
+use Rattle.std.proofs.lemmas.List.{map-append, take_all, take_more}
+use Rattle.lp_time.specs.declared.piece.Piece.{Piece}
+use Rattle.lp_values.specs.declared.kind.Kind.{Kind}
 use Rattle.lp_values.specs.declared.value.Value.{Value}
 use Rattle.plan_rows.specs.Picks.{if_used, masked}
-use Rattle.sampled_table.specs.Fields.{indexed}
+use Rattle.delimited_input.specs.Kinds.{kinds_of}
+use Rattle.delimited_input.specs.Sampled.{Sampled, StandsFor}
+use Rattle.sampled_table.specs.Fields.{indexed, texts_under}
+use Rattle.sampled_table.specs.Judged.{kinds_under}
+use Rattle.sampled_table.specs.Kept.{found_in}
+use Rattle.sampled_table.specs.declared.kept.FirstLog.{FirstLog}
+use Rattle.sampled_table.specs.declared.kept.KeptRow.{KeptRow}
 
 -- what is left begins with the one at this place
 dropped : {A : Type 0} (xs : List A) (i : ℕ) (x : A) → i < length xs → x ≡ get_or xs i x → drop i xs ≡ x ∷ drop (i + 1) xs
@@ -30,3 +39,23 @@ values_step used make xs i x front value here is value_is =
 pub indexed_length : {A B : Type 0} (make : ℕ → A → B) (at : ℕ) (xs : List A) → length (indexed make at xs) ≡ length xs
 indexed_length make at [] = omega arith
 indexed_length make at (x ∷ xs) = ap suc (indexed_length make (at + 1) xs)
+
+-- the texts of one record more
+pub texts_more : (first : FirstLog) (rows : List KeptRow) (i : ℕ) (row : KeptRow) (texts : List (List ℕ)) → i < length rows → row ≡ get_or rows i row → texts ≡ texts_under first (found_in row)
+    → map (texts_under first) (map found_in (take i rows)) ++ texts ∷ [] ≡ map (texts_under first) (map found_in (take (i + 1) rows))
+texts_more first rows i row texts here is texts_is =
+    ap (λ t. map (texts_under first) (map found_in (take i rows)) ++ t ∷ []) texts_is
+    ∙ sym (ap (λ t. map (texts_under first) (map found_in t)) (take_more rows i row here ∙ ap (λ r. take i rows ++ r ∷ []) (sym is))
+    ∙ (ap (map (texts_under first)) (map-append found_in (take i rows) (row ∷ [])) ∙ map-append (texts_under first) (map found_in (take i rows)) (found_in row ∷ [])))
+
+-- the kinds that a sampler tells, which was given all rows
+pub kinds_told : (sampler : Sampled) (first : FirstLog) (limit : ℕ) (pattern : List Piece) (rows items : List KeptRow) (i : ℕ) (kinds : List Kind)
+    → sampler.columns ≡ length first.columns → sampler.limit ≡ limit → sampler.pattern ≡ pattern → StandsFor sampler (map (texts_under first) (map found_in (take i items))) → length items ≤ i → items ≡ rows
+    → ((given : List (List (List ℕ))) → StandsFor sampler given → kinds ≡ kinds_of sampler.columns sampler.pattern sampler.limit given) → kinds ≡ kinds_under limit pattern first (map found_in rows)
+kinds_told sampler first limit pattern rows items i kinds columns limit_is pattern_is stands all same told =
+    let given = map (texts_under first) (map found_in (take i items)) in
+    told given stands
+    ∙ (ap (λ n. kinds_of n sampler.pattern sampler.limit given) columns
+    ∙ (ap (λ p. kinds_of (length first.columns) p sampler.limit given) pattern_is
+    ∙ (ap (λ n. kinds_of (length first.columns) pattern n given) limit_is
+    ∙ ap (λ t. kinds_of (length first.columns) pattern limit (map (texts_under first) (map found_in t))) (take_all i items all ∙ same))))

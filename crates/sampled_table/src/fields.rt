@@ -1,11 +1,12 @@
 // The fields of a record under the columns of a run's first log.
-ghost use Rattle.std.specs.Prelude.{◌≡◌, IfOk, option_map};
+ghost use Rattle.std.specs.Prelude.{◌≡◌, IfOk, option_copied, option_map};
 ghost use Rattle.std.specs.List.{position};
-ghost use Rattle.line_input.specs.Taken.{slots_of};
+ghost use Rattle.line_input.specs.Taken.{slot_bytes, slots_of};
+ghost use Rattle.plan_rows.specs.Picks.{held};
 ghost use Rattle.slot_reading.specs.Names.{is_same_name};
 ghost use Rattle.sampled_table.specs.Fields.{field_in, is_first, own_place, place_for, text_of};
 
-use line_input::{Columns, Fields};
+use line_input::{Columns, Fields, Slot};
 use lp_outside::Name;
 use lp_values::Text;
 use slot_reading::is_same_name;
@@ -46,6 +47,16 @@ pub(crate) fn place_for(
     if first { Some(at) } else { own_place(own, name) }
 }
 
+// The bytes of a field that is there.
+fn held<'a>(line: &'a [u8], slot: Option<&'a Slot>) -> Option<&'a [u8]>
+    ensures { option_map (λ s. s.now) result ≡ held (option_map (slot_bytes line.now) (option_copied slot.entry)) }
+{
+    match slot {
+        None => None,
+        Some(slot) => slot.bytes(line),
+    }
+}
+
 /// The bytes of the field at a place.
 pub(crate) fn field_in<'a>(
     line: &'a [u8],
@@ -56,10 +67,7 @@ pub(crate) fn field_in<'a>(
 {
     match place {
         None => None,
-        Some(place) => match fields.get(place) {
-            None => None,
-            Some(slot) => slot.bytes(line),
-        },
+        Some(place) => held(line, fields.get(place)),
     }
 }
 

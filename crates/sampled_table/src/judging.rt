@@ -1,5 +1,6 @@
 // The table of a run.
-ghost use Rattle.std.specs.Prelude.{◌≡◌, ◌∷◌, ◌++◌, [], length, map, IfOk, OnOk, Some};
+ghost use Rattle.std.specs.Prelude.{◌≡◌, ◌∷◌, ◌++◌, [], length, map, slice_index_or, IfOk, OnOk, Some};
+ghost use Rattle.lp_values.specs.declared.kind.Kind.TheVariants.{Any};
 ghost use Rattle.sampled_table.specs.Fields.{field_in, place_for, text_of, texts_under};
 ghost use Rattle.sampled_table.specs.Judged.{judged, kinds_under, named_kinds, table_of};
 ghost use Rattle.sampled_table.specs.Kept.{found_in};
@@ -23,14 +24,14 @@ pub struct Judged {
 // The text of a record in a column.
 fn text_in(
     alloc: Global,
-    is_first: bool,
+    is_of_first: bool,
     row: &KeptRow,
     at: usize,
-    name: &str,
+    name: &Text,
 ) -> Result<Text, AllocError>
-    ensures { IfOk result (λ text. text ≡ text_of (field_in (found_in row.now).row.slots (place_for is_first row.now.columns at name.now))) }
+    ensures { IfOk result (λ text. text ≡ text_of (field_in (found_in row.now).row.slots (place_for is_of_first row.now.columns at name.now))) }
 {
-    let place = place_for(is_first, &row.columns, at, name);
+    let place = place_for(is_of_first, &row.columns, at, name.as_str());
     text_of(alloc, field_in(row.line.as_slice(), &row.fields, place))
 }
 
@@ -38,11 +39,12 @@ fn text_in(
 fn texts_under(alloc: Global, first: &FirstLog, row: &KeptRow) -> Result<TextList, AllocError>
     ensures { IfOk result (λ texts. texts ≡ texts_under first.now (found_in row.now)) }
 {
-    let is_first = first.identity.is(&row.identity);
+    let is_of_first = first.identity.is(&row.identity);
     let mut texts = TextList::new(alloc);
     let mut at = 0;
     for name in first.columns.as_slice() {
-        texts.push(text_in(alloc, is_first, row, at, name.as_str())?)?;
+        let text = text_in(alloc, is_of_first, row, at, name)?;
+        texts.push(text)?;
         at += 1;
     }
     Ok(texts)
@@ -66,6 +68,13 @@ fn kinds_under(
     sampler.kinds(alloc)
 }
 
+// The kind at a place.
+fn kind_at(kinds: &KindList, at: usize) -> Kind
+    ensures { result ≡ slice_index_or kinds.now at Any }
+{
+    kinds.get(at).copied().unwrap_or(Kind::Any)
+}
+
 // The columns of these names and kinds.
 fn named_kinds(
     alloc: Global,
@@ -78,7 +87,7 @@ fn named_kinds(
     let mut at = 0;
     for name in names.as_slice() {
         let name = name.copy(alloc)?;
-        let kind = kinds.get(at).copied().unwrap_or(Kind::Any);
+        let kind = kind_at(kinds, at);
         columns.push(NamedKind { name, kind })?;
         at += 1;
     }

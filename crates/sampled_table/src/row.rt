@@ -1,12 +1,10 @@
 // The row of a record, as far as a plan uses it.
 ghost use Rattle.std.specs.Prelude.{◌≡◌, ◌<◌, ◌^◌, ◌∷◌, ◌++◌, [], pos, OnOk, IfOk};
 ghost use Rattle.line_input.specs.Taken.{slots_of};
-ghost use Rattle.log_reading.specs.Found.{Found};
-ghost use Rattle.delimited_input.specs.Values.{field_value};
 ghost use Rattle.lp_values.specs.declared.value.Value.TheVariants as V;
 ghost use Rattle.plan_rows.specs.Picks.{if_used, masked};
-ghost use Rattle.sampled_table.specs.Fields.{field_in, indexed, place_for};
-ghost use Rattle.sampled_table.specs.Picks.{row_of, value_for};
+ghost use Rattle.sampled_table.specs.Fields.{indexed, is_first};
+ghost use Rattle.sampled_table.specs.Picks.{row_of, value_in_column};
 
 use crate::Judged;
 use crate::fields::{field_in, is_first, place_for};
@@ -23,19 +21,19 @@ fn column_value(
     alloc: Global,
     used: bool,
     pattern: &Pattern,
-    is_first: bool,
+    is_of_first: bool,
     own: &Option<Columns>,
     line: &[u8],
     fields: &Fields,
     at: usize,
     column: &NamedKind,
 ) -> Result<Value, AllocError>
-    ensures { IfOk result (λ value. value ≡ if_used used (field_value column.now.kind pattern.now (field_in (slots_of line.now fields.now) (place_for is_first own.now at column.now.name)))) }
+    ensures { IfOk result (λ value. value ≡ if_used used (value_in_column pattern.now is_of_first own.now (slots_of line.now fields.now) at column.now)) }
 {
     if !used {
         return Ok(Value::Null);
     }
-    let place = place_for(is_first, own, at, column.name.as_str());
+    let place = place_for(is_of_first, own, at, column.name.as_str());
     read_field(alloc, column.kind, pattern, field_in(line, fields, place))
 }
 
@@ -74,15 +72,14 @@ fn add_values(
     fields: &Fields,
     values: &mut ValueList,
 ) -> Result<(), AllocError>
-    ensures { OnOk result ((found : Found) → found.identity ≡ identity.now → found.row.columns ≡ own.now → found.row.slots ≡ slots_of line.now fields.now
-        → values.new ≡ values.old ++ masked plan.now.used (indexed (value_for pattern.now told.now.log found) 0 told.now.columns) 2) }
+    ensures { OnOk result (values.new ≡ values.old ++ masked plan.now.used (indexed (value_in_column pattern.now (is_first told.now.log identity.now) own.now (slots_of line.now fields.now)) 0 told.now.columns) 2) }
 {
-    let is_first = is_first(&told.log, identity);
+    let is_of_first = is_first(&told.log, identity);
     let mut at = 0;
     for column in told.columns.as_slice() {
         let used = plan.uses(at + 2);
         let value = column_value(
-            alloc, used, pattern, is_first, own, line, fields, at, column,
+            alloc, used, pattern, is_of_first, own, line, fields, at, column,
         )?;
         values.push(value)?;
         at += 1;
@@ -104,8 +101,7 @@ pub(crate) fn read_row(
     values: &mut ValueList,
 ) -> Result<(), AllocError>
     requires { number < 2 ^ 63 }
-    ensures { OnOk result ((found : Found) → found.identity ≡ identity.now → found.row.number ≡ number → found.row.columns ≡ own.now → found.row.slots ≡ slots_of line.now fields.now
-        → values.new ≡ masked plan.now.used (row_of pattern.now told.now found) 0) }
+    ensures { OnOk result (values.new ≡ masked plan.now.used (row_of pattern.now told.now (record { identity = identity.now; row = record { number = number; slots = slots_of line.now fields.now; columns = own.now } })) 0) }
 {
     values.clear();
     values.push(name_value(alloc, plan.uses(0), identity)?)?;
