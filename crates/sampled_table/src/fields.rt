@@ -22,16 +22,23 @@ pub(crate) fn is_first(log: &Option<Name>, identity: &Name) -> bool
     }
 }
 
+// The first column that has a name.
+fn place_of(columns: &Columns, name: &str) -> Option<usize>
+    ensures { result ≡ position (λ column. is_same_name column name.now) columns.now }
+{
+    columns
+        .as_slice()
+        .iter()
+        .position(|column| is_same_name(column.as_str(), name))
+}
+
 // The first of a record's own columns that has a name.
 fn own_place(own: &Option<Columns>, name: &str) -> Option<usize>
     ensures { result ≡ own_place own.now name.now }
 {
     match own {
         None => None,
-        Some(columns) => columns
-            .as_slice()
-            .iter()
-            .position(|column| is_same_name(column.as_str(), name)),
+        Some(columns) => place_of(columns, name),
     }
 }
 

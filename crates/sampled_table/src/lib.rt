@@ -5,6 +5,7 @@
 
 mod fields;
 mod judging;
+mod keeping;
 mod kept;
 mod picking;
 mod row;
