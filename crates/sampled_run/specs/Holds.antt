@@ -52,10 +52,10 @@ PhaseHolds text has_text rules start past (P.Refused fault) now = ⊥
 PhaseHolds text has_text rules start past P.Lost now = ⊥
 
 -- a run is asked by these rules
-pub record Asks (limit : ℕ) (pattern : List Piece) (query : Query) (rules : Rules) : Type 0 where
-  pub limit : limit ≡ rules.limit
-  pub pattern : pattern ≡ rules.pattern
-  pub query : query ≡ rules.query
+pub record Asks (most : ℕ) (times : List Piece) (asked : Query) (rules : Rules) : Type 0 where
+  pub limit : most ≡ rules.limit
+  pub pattern : times ≡ rules.pattern
+  pub query : asked ≡ rules.query
 
 -- a run goes by these rules, and its phase stands for these records
 pub record Holds {F : Type 0} (text : TextOf F) (has_text : HasTextOf F) (rules : Rules) (start : Option (List ℕ)) (past : Past) (sampling : Sampling F) (now : Option (List ℕ)) : Type 0 where
@@ -63,8 +63,8 @@ pub record Holds {F : Type 0} (text : TextOf F) (has_text : HasTextOf F) (rules 
   pub phase : PhaseHolds text has_text rules start past sampling.phase now
 
 -- the query has no plan, by this fault, and nothing is written
-pub record IsRefused (rules : Rules) (start : Option (List ℕ)) (past : Past) (fault : TypeFault) (now : Option (List ℕ)) : Type 0 where
-  pub fault : plan_at rules past ≡ Err fault
+pub record IsRefused (rules : Rules) (start : Option (List ℕ)) (past : Past) (why : TypeFault) (now : Option (List ℕ)) : Type 0 where
+  pub fault : plan_at rules past ≡ Err why
   pub nothing : now ≡ start
 
 -- the front of the text is written
@@ -85,8 +85,8 @@ PhaseStopped rules start past (P.Refused fault) now = IsRefused rules start past
 PhaseStopped rules start past P.Lost now = IsFront rules start past now
 
 -- the whole text is written
-pub record IsWritten (rules : Rules) (start : Option (List ℕ)) (past : Past) (output : ℕ) (now : Option (List ℕ)) : Type 0 where
+pub record IsWritten (rules : Rules) (start : Option (List ℕ)) (past : Past) (many : ℕ) (now : Option (List ℕ)) : Type 0 where
   pub plan : Planned
   pub planned : plan_at rules past ≡ Ok plan
   pub text : Gains start now (text_at rules past plan)
-  pub output : output ≡ length (rows_at rules past plan)
+  pub output : many ≡ length (rows_at rules past plan)

@@ -69,12 +69,12 @@ fn begin_with<'a, F: Shape + Drop, G: Stage>(
     gathering: Gathering<F>,
     stage: &mut G,
 ) -> Result<Writer<F, SampledPicker<'a>>, TakeFault>
-    ensures under_way { IfOk result (λ writer. IsUnderWay (F.has_text writer.shape true picker.plan.names (picked (sampled_picks picker.pattern.now picker.told picker.plan.items (option_map filter_of picker.plan.condition)) (map found_in gathering.rows))) (G.state stage.old).written (G.state stage.new).written writer.buffers.held) }
+    ensures under_way { IfOk result (λ writer. IsUnderWay (F.has_text writer.shape true picker.entry.plan.names (picked (sampled_picks picker.entry.pattern.now picker.entry.told picker.entry.plan.items (option_map filter_of picker.entry.plan.condition)) (map found_in gathering.rows))) (G.state stage.old).written (G.state stage.new).written writer.buffers.held) }
     ensures format { IfOk result (λ writer. F.text writer.shape ≡ F.text gathering.shape) }
-    ensures picker { IfOk result (λ writer. writer.picker ≡ picker) }
-    ensures output { IfOk result (λ writer. writer.output ≡ length (picked (sampled_picks picker.pattern.now picker.told picker.plan.items (option_map filter_of picker.plan.condition)) (map found_in gathering.rows))) }
+    ensures picker { IfOk result (λ writer. writer.picker ≡ picker.entry) }
+    ensures output { IfOk result (λ writer. writer.output ≡ length (picked (sampled_picks picker.entry.pattern.now picker.entry.told picker.entry.plan.items (option_map filter_of picker.entry.plan.condition)) (map found_in gathering.rows))) }
     ensures taken { IfOk result (λ writer. writer.taken ≡ length gathering.rows) }
-    ensures front { OnErr result ((more : List Found) → GainsSome (G.state stage.old).written (G.state stage.new).written (F.text gathering.shape true picker.plan.names (picked (sampled_picks picker.pattern.now picker.told picker.plan.items (option_map filter_of picker.plan.condition)) (map found_in gathering.rows ++ more)))) }
+    ensures front { OnErr result ((more : List Found) → GainsSome (G.state stage.old).written (G.state stage.new).written (F.text gathering.shape true picker.entry.plan.names (picked (sampled_picks picker.entry.pattern.now picker.entry.told picker.entry.plan.items (option_map filter_of picker.entry.plan.condition)) (map found_in gathering.rows ++ more)))) }
     ensures later { G.faults stage.old ≤ G.faults stage.new }
     ensures failed { IsErrOf result TakeFault.Failed → Rose (G.faults stage.old) (G.faults stage.new) }
 {

@@ -18,8 +18,8 @@ fn end_text<'a, F: Shape + Drop, G: Stage>(
     mut writer: Writer<F, SampledPicker<'a>>,
     stage: &mut G,
 ) -> Result<u64, Stop>
-    ensures written { IfOk result (λ output. (rules : Rules) (start : Option (List ℕ)) (past : Past) → Begun F.text F.has_text rules start past writer (G.state stage.old).written → IsWritten rules start past output (G.state stage.new).written) }
-    ensures stopped { IfErr result (λ stop. (rules : Rules) (start : Option (List ℕ)) (past : Past) → Begun F.text F.has_text rules start past writer (G.state stage.old).written → IsStop rules start past stop (G.state stage.new).written) }
+    ensures written { IfOk result (λ output. (rules : Rules) (start : Option (List ℕ)) (past : Past) → Begun F.text F.has_text rules start past writer.entry (G.state stage.old).written → IsWritten rules start past output (G.state stage.new).written) }
+    ensures stopped { IfErr result (λ stop. (rules : Rules) (start : Option (List ℕ)) (past : Past) → Begun F.text F.has_text rules start past writer.entry (G.state stage.old).written → IsStop rules start past stop (G.state stage.new).written) }
     ensures later { G.faults stage.old ≤ G.faults stage.new }
     ensures failed { IsErrOf result Stop.Output → Rose (G.faults stage.old) (G.faults stage.new) }
 {
@@ -35,8 +35,8 @@ pub fn finish_run<'a, F: Shape + Drop, G: Stage>(
     sampling: Sampling<'a, F>,
     stage: &mut G,
 ) -> Result<u64, Stop>
-    ensures written { IfOk result (λ output. (rules : Rules) (start : Option (List ℕ)) (past : Past) → Holds F.text F.has_text rules start past sampling (G.state stage.old).written → IsWritten rules start past output (G.state stage.new).written) }
-    ensures stopped { IfErr result (λ stop. (rules : Rules) (start : Option (List ℕ)) (past : Past) → Holds F.text F.has_text rules start past sampling (G.state stage.old).written → IsStop rules start past stop (G.state stage.new).written) }
+    ensures written { IfOk result (λ output. (rules : Rules) (start : Option (List ℕ)) (past : Past) → Holds F.text F.has_text rules start past sampling.entry (G.state stage.old).written → IsWritten rules start past output (G.state stage.new).written) }
+    ensures stopped { IfErr result (λ stop. (rules : Rules) (start : Option (List ℕ)) (past : Past) → Holds F.text F.has_text rules start past sampling.entry (G.state stage.old).written → IsStop rules start past stop (G.state stage.new).written) }
     ensures later { G.faults stage.old ≤ G.faults stage.new }
     ensures failed { IsErrOf result Stop.Output → Rose (G.faults stage.old) (G.faults stage.new) }
 {

@@ -23,12 +23,13 @@ pub(crate) fn give_kept<T: Taker<O>, O>(
     ensures stopped { IsErrOf result TakeFault.Stopped → T.stopped taker.new }
 {
     for row in rows.as_slice() {
+        let line = row.line.as_slice();
         taker.take(
             alloc,
             &row.identity,
             row.number,
             &row.columns,
-            row.line.as_slice(),
+            line,
             &row.fields,
             out,
         )?;

@@ -20,5 +20,3 @@ pub use ending::finish_run;
 pub use fault::{SampleFault, Stop};
 pub use formats::run_sampled;
 pub use phase::{Gathering, Phase, Sampling};
-#[cfg(test)]
-mod tests;

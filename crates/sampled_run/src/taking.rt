@@ -62,7 +62,7 @@ fn keep<F>(
     gathering: &mut Gathering<F>,
 ) -> Result<(), AllocError>
     requires { number < 2 ^ 63 }
-    ensures kept { OnOk result (let found = record { identity = identity.now; row = record { number = number; slots = slots_of line.now fields.now; columns = columns.now } } in
+    ensures kept { OnOk result (let found : Found = record { identity = identity.now; row = record { number = number; slots = slots_of line.now fields.now; columns = columns.now } } in
         (gathering.new.first ≡ first_seen gathering.old.first (found ∷ [])) × (map found_in gathering.new.rows ≡ map found_in gathering.old.rows ++ found ∷ [])) }
     ensures count { OnOk result (length gathering.new.rows ≡ length gathering.old.rows + 1) }
     ensures shape { gathering.new.shape ≡ gathering.old.shape }
@@ -85,7 +85,7 @@ fn gather<F>(
     gathering: &mut Gathering<F>,
 ) -> Result<bool, AllocError>
     requires { number < 2 ^ 63 }
-    ensures kept { OnOk result (let found = record { identity = identity.now; row = record { number = number; slots = slots_of line.now fields.now; columns = columns.now } } in
+    ensures kept { OnOk result (let found : Found = record { identity = identity.now; row = record { number = number; slots = slots_of line.now fields.now; columns = columns.now } } in
         (gathering.new.first ≡ first_seen gathering.old.first (found ∷ [])) × (map found_in gathering.new.rows ≡ map found_in gathering.old.rows ++ found ∷ [])) }
     ensures count { OnOk result (length gathering.new.rows ≡ length gathering.old.rows + 1) }
     ensures enough { IfOk result (λ enough. IsTrue enough → limit ≤ length gathering.new.rows) }
