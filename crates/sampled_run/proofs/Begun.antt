@@ -70,13 +70,13 @@ rows_same rules now picker xs ys pattern told_is founds =
     ∙ ap (rows_with rules.pattern now (planned_in picker.plan)) founds)
 
 -- the picker of a plan over what was judged
-pub record IsPickerOf (limit : ℕ) (pattern : List Piece) (query : Query) (told : Judged) (picker : SampledPicker) : Type 0 where
-  pub planned : plan_of (table_of told) query ≡ Ok (planned_in picker.plan)
-  pub told : picker.told ≡ told
-  pub pattern : picker.pattern.now ≡ pattern
+pub record IsPickerOf (times : List Piece) (asked : Query) (what : Judged) (picker : SampledPicker) : Type 0 where
+  pub planned : plan_of (table_of what) asked ≡ Ok (planned_in picker.plan)
+  pub told : picker.told ≡ what
+  pub pattern : picker.pattern.now ≡ times
 
 pub begun_is : {F : Type 0} (text : TextOf F) (has_text : HasTextOf F) (limit : ℕ) (pattern : List Piece) (query : Query) (gathering : Gathering F) (picker : SampledPicker) (writer : Writer F SampledPicker) (u v : Option (List ℕ))
-    → IsPickerOf limit pattern query (judged limit pattern gathering.first (map found_in gathering.rows)) picker → writer.picker ≡ picker
+    → IsPickerOf pattern query (judged limit pattern gathering.first (map found_in gathering.rows)) picker → writer.picker ≡ picker
     → IsUnderWay (has_text writer.shape true picker.plan.names (picked (sampled_picks picker.pattern.now picker.told picker.plan.items (option_map filter_of picker.plan.condition)) (map found_in gathering.rows))) u v writer.buffers.held
     → text writer.shape ≡ text gathering.shape
     → writer.output ≡ length (picked (sampled_picks picker.pattern.now picker.told picker.plan.items (option_map filter_of picker.plan.condition)) (map found_in gathering.rows))
@@ -97,7 +97,7 @@ begun_is text has_text limit pattern query gathering picker writer u v is same u
     }
 
 pub begun_within : {F : Type 0} (text : TextOf F) (limit : ℕ) (pattern : List Piece) (query : Query) (gathering : Gathering F) (picker : SampledPicker) (u v : Option (List ℕ))
-    → IsPickerOf limit pattern query (judged limit pattern gathering.first (map found_in gathering.rows)) picker
+    → IsPickerOf pattern query (judged limit pattern gathering.first (map found_in gathering.rows)) picker
     → ((more : List Found) → GainsSome u v (text gathering.shape true picker.plan.names (picked (sampled_picks picker.pattern.now picker.told picker.plan.items (option_map filter_of picker.plan.condition)) (map found_in gathering.rows ++ more))))
     → (rules : Rules) (start : Option (List ℕ)) (past later : Past) → Asks limit pattern query rules → Gathers text rules start past gathering u → Later past later → told_at rules later ≡ told_at rules past → IsWithin rules start later v
 begun_within text limit pattern query gathering picker u v is front rules start past later asks gathers follows stays =

@@ -1,5 +1,5 @@
 // The text of a run, from its names to the rows of the records that were kept.
-ghost use Rattle.std.specs.Prelude.{◌≡◌, ◌≤◌, ◌++◌, true, List, ℕ, Option, map, option_map, length, OnErr, IfOk, IfErr, IsErrOf};
+ghost use Rattle.std.specs.Prelude.{◌≡◌, ◌≤◌, ◌<◌, ◌^◌, ◌++◌, true, List, ℕ, Option, map, option_map, length, OnErr, IfOk, IfErr, IsErrOf, IsTrue};
 ghost use Rattle.lp_model.specs.Outside.{GainsSome, Rose};
 ghost use Rattle.log_reading.specs.Found.{Found};
 ghost use Rattle.query_tree.specs.Views.{query_of};
@@ -26,6 +26,9 @@ use query_tree::Query;
 use sampled_table::{KeptRows, SampledPicker};
 use std::alloc::Global;
 
+// More rows than fit into memory.
+const MOST: usize = 1 << 63;
+
 /// Why a run stops, where a writer failed.
 pub(crate) fn stop_of(fault: TakeFault) -> Stop
     ensures { result ≡ stop_of fault }
@@ -34,6 +37,13 @@ pub(crate) fn stop_of(fault: TakeFault) -> Stop
         TakeFault::Memory | TakeFault::Stopped => Stop::Memory,
         TakeFault::Failed => Stop::Output,
     }
+}
+
+// Whether rows can be counted; more don't fit into memory.
+fn is_countable(rows: &KeptRows) -> bool
+    ensures { IsTrue result → length rows.now < 2 ^ 63 }
+{
+    rows.len() < MOST
 }
 
 // A writer, behind the rows of records that were kept.
@@ -55,6 +65,9 @@ fn write_kept<F: Shape + Drop, P: Picker + Drop, G: Stage>(
     ensures later { G.faults stage.old ≤ G.faults stage.new }
     ensures failed { IsErrOf result TakeFault.Failed → Rose (G.faults stage.old) (G.faults stage.new) }
 {
+    if !is_countable(rows) {
+        return Err(TakeFault::Memory);
+    }
     let Ok(mut writer) = first_writer(alloc, shape, picker, names, true, target) else {
         return Err(TakeFault::Memory);
     };

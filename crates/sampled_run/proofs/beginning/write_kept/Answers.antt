@@ -36,3 +36,12 @@ returns-clause-output g c =
     let before = c.in-Ok.ensures.output in
     let same = ap (λ p. length (picked (g.P.Picker.picks p) (map found_in c.args.rows.now))) c.in-Ok.ensures.picker in
     omega arith
+
+pub returns-then-not-is_countable-clause-front : goal.returns-then-not-is_countable-clause-front
+returns-then-not-is_countable-clause-front g c = λ more. gains_none _ (g.F.Shape.text c.args.shape true c.args.names.now (picked (g.P.Picker.picks c.args.picker) (map found_in c.args.rows.now ++ more)))
+
+pub give_kept-requires : goal.give_kept-requires
+give_kept-requires g c =
+    let few = c.is_countable.ensures c.if-not-is_countable.false in
+    let none = c.in-Ok.ensures.taken in
+    omega arith
