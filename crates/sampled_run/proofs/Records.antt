@@ -142,8 +142,8 @@ pub samples_writing : {F : Type 0} (text : TextOf F) (has_text : HasTextOf F) (o
     → old.phase ≡ P.Writing first → Writes text has_text picks_of first u founds last v → Samples text has_text old u founds (at_phase old (P.Writing last)) v
 samples_writing text has_text old first last u v founds is writes = record {
   along = λ rules start past holds. record {
-      asks = holds.asks;
-      phase = writes_more text has_text rules start u v past first last founds writes (phase_is text has_text rules start u past old (P.Writing first) is holds);
+    asks = holds.asks;
+    phase = writes_more text has_text rules start u v past first last founds writes (phase_is text has_text rules start u past old (P.Writing first) is holds);
   };
 }
 
@@ -159,8 +159,8 @@ pub samples_gathering : {F : Type 0} (text : TextOf F) (has_text : HasTextOf F) 
     → Samples text has_text old u (found ∷ []) (at_phase old (P.Gathering last)) u
 samples_gathering text has_text old first last u found is log rows shape = record {
   along = λ rules start past holds. record {
-      asks = holds.asks;
-      phase = gathers_more text rules start u past first last found log rows shape (phase_is text has_text rules start u past old (P.Gathering first) is holds);
+    asks = holds.asks;
+    phase = gathers_more text rules start u past first last found log rows shape (phase_is text has_text rules start u past old (P.Gathering first) is holds);
   };
 }
 

@@ -14,6 +14,8 @@ mod planning;
 mod running;
 mod spans;
 mod taking;
+#[cfg(test)]
+mod tests;
 mod turning;
 
 pub use ending::finish_run;

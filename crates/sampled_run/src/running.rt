@@ -13,7 +13,7 @@ ghost use Rattle.sampled_run.specs.Ran.{IsSampled, IsStoppedBy, OnBadOne, fault_
 
 use crate::ending::finish_run;
 use crate::spans::take_all;
-use crate::{Gathering, Phase, Sampling, SampleFault, Stop};
+use crate::{Gathering, Phase, SampleFault, Sampling, Stop};
 use line_input::{LineReader, Splitter, Standing};
 use log_reading::{Page, RunFault, Span, TookList};
 use lp_outside::{Logs, Stage};

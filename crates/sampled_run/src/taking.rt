@@ -18,11 +18,7 @@ use sampled_table::{FirstLog, KeptRow};
 use std::alloc::{AllocError, Global};
 
 // The log of a record.
-fn log_of(
-    alloc: Global,
-    identity: &Name,
-    columns: &Option<Columns>,
-) -> Result<FirstLog, AllocError>
+fn log_of(alloc: Global, identity: &Name, columns: &Option<Columns>) -> Result<FirstLog, AllocError>
     ensures { IfOk result (λ log. log ≡ record { identity = identity.now; columns = columns_or columns.now }) }
 {
     match columns {

@@ -43,15 +43,14 @@ fn own_place(own: &Option<Columns>, name: &str) -> Option<usize>
 }
 
 /// Where a record has the field of a column.
-pub(crate) fn place_for(
-    first: bool,
-    own: &Option<Columns>,
-    at: usize,
-    name: &str,
-) -> Option<usize>
+pub(crate) fn place_for(first: bool, own: &Option<Columns>, at: usize, name: &str) -> Option<usize>
     ensures { result ≡ place_for first own.now at name.now }
 {
-    if first { Some(at) } else { own_place(own, name) }
+    if first {
+        Some(at)
+    } else {
+        own_place(own, name)
+    }
 }
 
 // The bytes of a field that is there.

@@ -76,11 +76,7 @@ fn kind_at(kinds: &KindList, at: usize) -> Kind
 }
 
 // The columns of these names and kinds.
-fn named_kinds(
-    alloc: Global,
-    kinds: &KindList,
-    names: &TextList,
-) -> Result<NamedKinds, AllocError>
+fn named_kinds(alloc: Global, kinds: &KindList, names: &TextList) -> Result<NamedKinds, AllocError>
     ensures { IfOk result (λ columns. columns ≡ named_kinds kinds.now names.now) }
 {
     let mut columns = NamedKinds::new(alloc);
@@ -135,11 +131,7 @@ fn add_column(
 }
 
 // Adds copies of columns.
-fn add_columns(
-    alloc: Global,
-    columns: &mut NamedKinds,
-    more: &NamedKinds,
-) -> Result<(), AllocError>
+fn add_columns(alloc: Global, columns: &mut NamedKinds, more: &NamedKinds) -> Result<(), AllocError>
     ensures { OnOk result (columns.new ≡ columns.old ++ more.now) }
 {
     for column in more.as_slice() {

@@ -79,7 +79,15 @@ fn add_values(
     for column in told.columns.as_slice() {
         let used = plan.uses(at + 2);
         let value = column_value(
-            alloc, used, pattern, is_of_first, own, line, fields, at, column,
+            alloc,
+            used,
+            pattern,
+            is_of_first,
+            own,
+            line,
+            fields,
+            at,
+            column,
         )?;
         values.push(value)?;
         at += 1;
