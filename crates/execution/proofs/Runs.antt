@@ -61,6 +61,7 @@ pub parse_error : (told : Option Folder) (before now : Option (List ℕ)) (spec 
     → Told told (λ folder. Kept format slice folder → IsTooMany most 0 (spans_bad_lines (lines_of format) false folder slice) line)
     → Told told (λ folder. Kept format slice folder → GainsSome before now (csv_of spec.headers true plan.names (rows_in format plan folder slice)))
     → IsParseError told before now spec q spans line
+unfolding front
 parse_error told before now spec q format plan slice spans most line same listed planned limit exceeds text =
     let stopped = front told before now spec q format plan slice spans same listed planned text in
     let Of : InputFormat → List Span → Option ℕ → Type 0 = λ f s m. Told told (λ folder. Kept f s folder → IsTooMany m 0 (spans_bad_lines (lines_of f) false folder s) line) in

@@ -12,6 +12,8 @@ pub record StageState : Type 1 where
   pub tells : Type 0
   -- the output of this index, name and base has this text up to a mark
   pub is_text : ℕ → List ℕ → ℕ → Mark → List ℕ → Type 0
+  -- the file of an output of this name has so many bytes
+  pub is_length : List ℕ → ℕ → Type 0
   -- what it wrote to an output stream at once, where it tells that
   pub written : Option (List ℕ)
   -- how many bytes it has taken, where it tells that

@@ -47,6 +47,7 @@ pub trait Stage {
         ensures texts { (state self.old).tells → KeepsAll (state self.old) (state self.new) }
         ensures written { (state self.new).written ≡ (state self.old).written }
         ensures taken { (state self.new).taken ≡ (state self.old).taken }
+        ensures length { IfOk result (λ bytes. (state self.old).is_length name.now bytes) }
         ensures bound { IfOk result (λ bytes. bytes ≤ 2 ^ 62) }
         ensures cause { HasCause (faults self.old) (faults self.new) result };
 

@@ -34,7 +34,7 @@ pub fn write_all<S: Sink>(out: &mut S, piece: &[u8]) -> Result<(), SinkFailed>
 
 /// An output is a stage that holds nothing back: a piece goes on at once.
 impl<S: Sink> Stage for S {
-    ghost state = { λ s. record { tells = ⊥; is_text = λ output name base mark text. ⊥; written = S.written s; taken = None } };
+    ghost state = { λ s. record { tells = ⊥; is_text = λ output name base mark text. ⊥; is_length = λ name bytes. bytes ≡ 0; written = S.written s; taken = None } };
 
     ghost faults = { S.faults };
 

@@ -14,7 +14,7 @@ use Rattle.query_types.specs.Planned.{Covers}
 use Rattle.lp_model.specs.Reading.{Slots}
 use Rattle.log_reading.specs.Found.{Found}
 use Rattle.slot_reading.specs.declared.reading.Reading.{Reading}
-use Rattle.plan_rows.specs.Picks.{fields_read, if_kept, if_used, masked, plan_picks, table_row}
+use Rattle.plan_rows.specs.Picks.{Tests, fields_read, if_kept, if_used, masked, plan_picks, table_row}
 
 or_left : (a b : Bool) → a ≡ true → (a || b) ≡ true
 or_left a b is = rw is refl
@@ -77,10 +77,10 @@ truth_masked used row (within value items negated) is =
     let two = among_masked used row (value_in row value) items (λ k w h. is k w (or_right _ _ h)) in
     rw (one, two) refl
 
-pub keeps_masked : (used : List Bool) (row : List Value) (items : List Meaning) (condition : Option Filter) → length row ≤ length used → Covers used items condition
+pub keeps_masked : (used : List Bool) (row : List Value) (condition : Option Filter) → length row ≤ length used → ((k : ℕ) → k < length used → is_mentioned k condition ≡ true → get_or used k false ≡ true)
     → keeps condition (masked used row 0) ≡ keeps condition row
-keeps_masked used row items None fits c = refl
-keeps_masked used row items (Some f) fits c = ap is_yes (truth_masked used row f (λ k w h. c.mentioned k (omega arith) h))
+keeps_masked used row None fits mentioned = refl
+keeps_masked used row (Some f) fits mentioned = ap is_yes (truth_masked used row f (λ k w h. mentioned k (omega arith) h))
 
 pub items_masked : (used : List Bool) (row : List Value) (items : List Meaning) (condition : Option Filter) → length row ≤ length used → Covers used items condition
     → selected_in (masked used row 0) items ≡ selected_in row items
@@ -95,13 +95,20 @@ row_fits readings found used fits = let size = fields_length readings found.row.
 
 -- a record whose row isn't kept
 pub picks_none : (used : List Bool) (readings : List Reading) (items : List Meaning) (condition : Option Filter) (found : Found) (values : List Value)
-    → length readings + 2 ≤ length used → Covers used items condition → values ≡ masked used (table_row readings found) 0 → keeps condition values ≡ false
-    → None ≡ plan_picks readings items condition found
-picks_none used readings items condition found values fits covers values_is kept =
+    → length readings + 2 ≤ length used → ((k : ℕ) → k < length used → is_mentioned k condition ≡ true → get_or used k false ≡ true)
+    → values ≡ masked used (table_row readings found) 0 → keeps condition values ≡ false → None ≡ plan_picks readings items condition found
+picks_none used readings items condition found values fits mentioned values_is kept =
     let row = table_row readings found in
-    let same = keeps_masked used row items condition (row_fits readings found used fits) covers in
+    let same = keeps_masked used row condition (row_fits readings found used fits) mentioned in
     let is : keeps condition row ≡ false = sym same ∙ ap (keeps condition) (sym values_is) ∙ kept in
     sym (ap (λ (b : Bool). if_kept b (selected_in row items)) is)
+
+-- a record whose row, read as far as the condition asks, isn't kept
+pub picks_none-first : (many : ℕ) (first : List Bool) (readings : List Reading) (items : List Meaning) (condition : Option Filter) (found : Found) (values : List Value)
+    → length readings + 2 ≤ many → Tests many first condition → values ≡ masked first (table_row readings found) 0 → keeps condition values ≡ false → None ≡ plan_picks readings items condition found
+picks_none-first many first readings items condition found values fits tests values_is kept =
+    let size = tests.size in
+    picks_none first readings items condition found values (omega arith) (λ k within h. tests.mentioned k (omega arith) h) values_is kept
 
 -- a record whose row is kept
 pub picks_some : (used : List Bool) (readings : List Reading) (items : List Meaning) (condition : Option Filter) (found : Found) (values out : List Value)
@@ -110,6 +117,6 @@ pub picks_some : (used : List Bool) (readings : List Reading) (items : List Mean
 picks_some used readings items condition found values out fits covers values_is kept out_is =
     let row = table_row readings found in
     let size = row_fits readings found used fits in
-    let is : keeps condition row ≡ true = sym (keeps_masked used row items condition size covers) ∙ ap (keeps condition) (sym values_is) ∙ kept in
+    let is : keeps condition row ≡ true = sym (keeps_masked used row condition size covers.mentioned) ∙ ap (keeps condition) (sym values_is) ∙ kept in
     let same : out ≡ selected_in row items = out_is ∙ ap (λ v. selected_in v items) values_is ∙ items_masked used row items condition size covers in
     ap Some same ∙ sym (ap (λ (b : Bool). if_kept b (selected_in row items)) is)

@@ -1,5 +1,5 @@
 -- What a plan makes of a record.
-use Rattle.std.specs.Prelude.{ℕ, ◌+◌, Bool, true, false, pos, List, [], ◌∷◌, get_or, Option, Some, None}
+use Rattle.std.specs.Prelude.{◌≡◌, ◌<◌, ℕ, ◌+◌, Bool, true, false, pos, List, [], ◌∷◌, length, get_or, Option, Some, None}
 use Rattle.std.specs.List.{slice_get}
 use Rattle.lp_model.specs.Reading.{Slots}
 use Rattle.lp_values.specs.declared.value.Value.{Value}
@@ -9,6 +9,7 @@ use Rattle.slot_reading.specs.declared.reading.Reading.{Reading}
 use Rattle.slot_reading.specs.Slots.{value_of}
 use Rattle.query_types.specs.declared.meaning.Meaning.{Meaning}
 use Rattle.query_types.specs.Conditions.{Filter}
+use Rattle.query_types.specs.Planned.{is_mentioned}
 use Rattle.row_engine.specs.Rows.{keeps, selected_in}
 
 abbrev pub held : Option (Option (List ℕ)) → Option (List ℕ)
@@ -45,3 +46,8 @@ if_used false value = Null
 abbrev pub masked : List Bool → List Value → ℕ → List Value
 masked used [] at = []
 masked used (value ∷ values) at = if_used (get_or used at false) value ∷ masked used values (at + 1)
+
+-- a mask over so many columns has each that the condition asks
+pub record Tests (many : ℕ) (mask : List Bool) (condition : Option Filter) : Type 0 where
+  pub size : length mask ≡ many
+  pub mentioned : (k : ℕ) → k < many → is_mentioned k condition ≡ true → get_or mask k false ≡ true

@@ -7,5 +7,6 @@
 
 mod picking;
 mod row;
+mod waiting;
 
 pub use picking::{PlanPicker, ReadingList};

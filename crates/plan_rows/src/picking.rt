@@ -1,10 +1,11 @@
 // A plan as a picker.
-ghost use Rattle.std.specs.Prelude.{◌≡◌, ◌+◌, ◌≤◌, length, option_map};
+ghost use Rattle.std.specs.Prelude.{◌≡◌, ◌+◌, ◌≤◌, length, option_map, IfOk};
 ghost use Rattle.query_types.specs.Conditions.{filter_of};
 ghost use Rattle.query_types.specs.Planned.{Covers};
-ghost use Rattle.plan_rows.specs.Picks.{plan_picks};
+ghost use Rattle.plan_rows.specs.Picks.{Tests, plan_picks};
 
 use crate::row::read_row;
+use crate::waiting::{First, first_columns};
 use line_input::{Columns, Fields};
 use lp_outside::Name;
 use lp_values::{ListOf, ValueList};
@@ -22,8 +23,27 @@ pub type ReadingList = ListOf<Reading>;
 pub struct PlanPicker {
     pub plan: Plan,
     pub readings: ReadingList,
+    first: First,
+    ghost tests: { Tests (length plan.used) first.columns (option_map filter_of plan.condition) },
     ghost covers: { Covers plan.used plan.items (option_map filter_of plan.condition) },
     ghost fits: { length readings + 2 ≤ length plan.used },
+}
+
+impl PlanPicker {
+    /// The picker of a plan, for records whose fields are read so.
+    pub fn new(alloc: Global, plan: Plan, readings: ReadingList) -> Result<PlanPicker, AllocError>
+        requires covers { Covers plan.used plan.items (option_map filter_of plan.condition) }
+        requires fits { length readings + 2 ≤ length plan.used }
+        ensures plan { IfOk result (λ picker. picker.plan ≡ plan) }
+        ensures readings { IfOk result (λ picker. picker.readings ≡ readings) }
+    {
+        let first = first_columns(alloc, &plan, &readings)?;
+        Ok(PlanPicker {
+            plan,
+            readings,
+            first,
+        })
+    }
 }
 
 impl Picker for PlanPicker {
@@ -40,9 +60,24 @@ impl Picker for PlanPicker {
         values: &mut ValueList,
         row: &mut ValueList,
     ) -> Result<bool, AllocError> {
+        if self.first.others {
+            read_row(
+                alloc,
+                &self.first.columns,
+                &self.readings,
+                identity,
+                number,
+                line,
+                fields,
+                values,
+            )?;
+            if !passes(&self.plan, values) {
+                return Ok(false);
+            }
+        }
         read_row(
             alloc,
-            &self.plan,
+            &self.plan.used,
             &self.readings,
             identity,
             number,

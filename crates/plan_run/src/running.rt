@@ -64,7 +64,9 @@ pub fn run_reader<R: LineReader, L: Logs, F: Shape + Drop, G: Stage>(
         Ok(names) => names,
         Err(_) => return Err(RunFault::Memory),
     };
-    let picker = PlanPicker { plan, readings };
+    let Ok(picker) = PlanPicker::new(alloc, plan, readings) else {
+        return Err(RunFault::Memory);
+    };
     let mut took = TookList::new(alloc);
     write_spans(
         alloc, reader, false, logs, spans, &names, true, shape, picker, target, most_bad,

@@ -6,7 +6,7 @@ use Rattle.std.specs.Char.{to_ascii_lowercase}
 use Rattle.std.specs.Cmp.Lexicographic.{pointwise}
 use Rattle.std.specs.Prelude.{◌≢◌, IfSome}
 use Rattle.slot_reading.specs.Names.{is_same_name}
-use Rattle.slot_reading.proofs.NameLemmas.{same_spelling, other_length}
+use Rattle.slot_reading.proofs.NameLemmas.{same_spelling, is_same_name-spelled, other_length}
 use Rattle.lp_time.specs.Patterns.{pieces_from}
 use Rattle.slot_reading.specs.declared.reading.Reading.{Reading}
 use Rattle.slot_reading.specs.declared.reading.Reading.TheVariants as R
@@ -101,6 +101,12 @@ place_of-named name k within same =
     let zero_sum : 0 + k ≡ k = omega arith in
     place_of-spelled name (get_or logged_names k []) (same_spelling name (get_or logged_names k []) same)
     ∙ is_at-some k (place_of (get_or logged_names k [])) (subst (λ (n : ℕ). is_at n (place_of (get_or logged_names k [])) ≡ true) zero_sum (numbered_at 0 logged_names all_numbered k within))
+
+-- a name that is spelled as the one at a place
+pub place_of-at : (name : List ℕ) (place k : ℕ) → place ≡ k → k < 22 → name ≡ get_or logged_names k [] → place_of name ≡ Some place
+unfolding logged_names
+place_of-at name place k is within spelled =
+    subst (λ (n : ℕ). place_of name ≡ Some n) (sym is) (place_of-named name k within (is_same_name-spelled name (get_or logged_names k []) (ap (map to_ascii_lowercase) spelled)))
 
 -- what a name that is found is
 pub place_of-some : (name : List ℕ) (place : ℕ) → place_of name ≡ Some place → (place < length logged_names) × (is_same_name name (get_or logged_names place []) ≡ true)

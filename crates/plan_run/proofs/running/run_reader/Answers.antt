@@ -2,6 +2,8 @@ use Rattle.lp_model.proofs.Growing.{OnlyGrow-refl}
 use Rattle.log_reading.specs.Page.{IsTooMany}
 use Rattle.log_reading.specs.Spans.{AreKept, OnBadLine, spans_bad_lines}
 use Rattle.query_types.specs.Planned.{planned_in}
+use Rattle.query_types.specs.declared.plans.Plan.{Plan}
+use Rattle.slot_reading.specs.declared.reading.Reading.{Reading}
 use Rattle.input_tables.specs.Tables.{lines_of}
 use Rattle.plan_run.specs.Rows.{plan_rows}
 use Rattle.plan_run.proofs.Sizes.{has_room, told_none}
@@ -22,11 +24,22 @@ returns-in-Err-clause-front g c =
     told_none (g.L.Logs.folder c.args.logs.now) (g.G.Stage.state c.args.stage.now).written (λ folder. AreKept format false c.args.spans.now folder)
     (λ folder. g.F.Shape.text c.args.shape true c.args.plan.names (plan_rows c.args.readings (planned_in c.args.plan) format folder c.args.spans.now))
 
+pub returns-in_default-clause-front : goal.returns-in_default-clause-front
+returns-in_default-clause-front g c =
+    let format = lines_of c.args.format in
+    told_none (g.L.Logs.folder c.args.logs.now) (g.G.Stage.state c.args.stage.now).written (λ folder. AreKept format false c.args.spans.now folder)
+    (λ folder. g.F.Shape.text c.args.shape true c.args.plan.names (plan_rows c.args.readings (planned_in c.args.plan) format folder c.args.spans.now))
+
 pub returns-clause-text : goal.returns-clause-text
 returns-clause-text g c =
-    let Of : Format → List (List ℕ) → Type 0 = λ format names. OnOk c.write_spans.result (Told (g.L.Logs.folder c.write_spans.new.logs) (λ folder. AreKept format false c.args.spans.now folder
-    → Gains (g.G.Stage.state c.args.stage.now).written (g.G.Stage.state c.write_spans.new.stage).written (g.F.Shape.text c.args.shape true names (plan_rows c.args.readings (planned_in c.args.plan) format folder c.args.spans.now)))) in
-    subst (λ (format : Format). Of format c.args.plan.names) c.requires.reads (subst (λ (names : List (List ℕ)). Of (g.R.LineReader.format c.args.reader.now) names) c.in-Ok.ensures c.write_spans.ensures.text)
+    let Of : Format → List (List ℕ) → List Reading → Plan → Type 0 = λ format names readings plan. OnOk c.write_spans.result (Told (g.L.Logs.folder c.write_spans.new.logs) (λ folder. AreKept format false c.args.spans.now folder
+    → Gains (g.G.Stage.state c.args.stage.now).written (g.G.Stage.state c.write_spans.new.stage).written (g.F.Shape.text c.args.shape true names (plan_rows readings (planned_in plan) format folder c.args.spans.now)))) in
+    let read = g.R.LineReader.format c.args.reader.now in
+    let picker = c.in-Ok-new.picker in
+    let named = subst (λ (names : List (List ℕ)). Of read names picker.readings picker.plan) c.in-Ok.ensures c.write_spans.ensures.text in
+    let by_readings = subst (λ (readings : List Reading). Of read c.args.plan.names readings picker.plan) c.in-Ok-new.ensures.readings named in
+    let by_plan = subst (λ (plan : Plan). Of read c.args.plan.names c.args.readings plan) c.in-Ok-new.ensures.plan by_readings in
+    subst (λ (format : Format). Of format c.args.plan.names c.args.readings c.args.plan) c.requires.reads by_plan
 
 pub returns-clause-too_many : goal.returns-clause-too_many
 returns-clause-too_many g c =

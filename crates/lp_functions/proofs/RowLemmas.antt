@@ -1,0 +1,223 @@
+-- Arguments that a function doesn't take.
+use Rattle.std.proofs.Common.{◌≡◌, List, [], ◌∷◌, map, None, refl}
+use Rattle.lp_values.specs.declared.value.Value.{Value}
+use Rattle.lp_values.specs.declared.value.Value.TheVariants as V
+use Rattle.lp_values.specs.Kinds.{kind_of}
+use Rattle.lp_functions.specs.declared.function.Function.{Function}
+use Rattle.lp_functions.specs.declared.function.Function.TheVariants as f
+use Rattle.lp_functions.specs.Applied.{applied, applied_to_one, applied_to_two, applied_to_three, applied_to_more}
+use Rattle.lp_functions.specs.Table.{kind_of_call}
+use Rattle.lp_functions.proofs.CoalesceLemmas.{coalesce}
+
+one : (function : Function) (a : Value) → kind_of_call function (kind_of a ∷ []) ≡ None → applied_to_one function a ≡ V.Null
+one f.Strlen (V.Text t) e = cc
+one f.Strlen a e = refl
+one f.ToLowercase (V.Text t) e = cc
+one f.ToLowercase a e = refl
+one f.ToUppercase (V.Text t) e = cc
+one f.ToUppercase a e = refl
+one f.Trim (V.Text t) e = cc
+one f.Trim a e = refl
+one f.Ltrim (V.Text t) e = cc
+one f.Ltrim a e = refl
+one f.Rtrim (V.Text t) e = cc
+one f.Rtrim a e = refl
+one f.ExtractFilename (V.Text t) e = cc
+one f.ExtractFilename a e = refl
+one f.ExtractPath (V.Text t) e = cc
+one f.ExtractPath a e = refl
+one f.ExtractExtension (V.Text t) e = cc
+one f.ExtractExtension a e = refl
+one f.Urlescape (V.Text t) e = cc
+one f.Urlescape a e = refl
+one f.Urlunescape (V.Text t) e = cc
+one f.Urlunescape a e = refl
+one f.Ipv4ToInt (V.Text t) e = cc
+one f.Ipv4ToInt a e = refl
+one f.ToString (V.Int m) e = cc
+one f.ToString (V.Real r) e = cc
+one f.ToString (V.Text t) e = cc
+one f.ToString (V.Stamp s) e = cc
+one f.ToString a e = refl
+one f.ToInt (V.Int m) e = cc
+one f.ToInt (V.Real r) e = cc
+one f.ToInt (V.Text t) e = cc
+one f.ToInt a e = refl
+one f.ToReal (V.Int m) e = cc
+one f.ToReal (V.Real r) e = cc
+one f.ToReal (V.Text t) e = cc
+one f.ToReal a e = refl
+one f.ToDate (V.Stamp s) e = cc
+one f.ToDate a e = refl
+one f.ToTime (V.Stamp s) e = cc
+one f.ToTime a e = refl
+one f.IntToIpv4 (V.Int m) e = cc
+one f.IntToIpv4 a e = refl
+one function a e = refl
+
+two : (function : Function) (a b : Value) → kind_of_call function (kind_of a ∷ kind_of b ∷ []) ≡ None → applied_to_two function a b ≡ V.Null
+two f.Add (V.Int m) (V.Int n) e = cc
+two f.Add (V.Int m) (V.Real q) e = cc
+two f.Add (V.Int m) b e = refl
+two f.Add (V.Real r) (V.Int n) e = cc
+two f.Add (V.Real r) (V.Real q) e = cc
+two f.Add (V.Real r) b e = refl
+two f.Add a b e = refl
+two f.Sub (V.Int m) (V.Int n) e = cc
+two f.Sub (V.Int m) (V.Real q) e = cc
+two f.Sub (V.Int m) b e = refl
+two f.Sub (V.Real r) (V.Int n) e = cc
+two f.Sub (V.Real r) (V.Real q) e = cc
+two f.Sub (V.Real r) b e = refl
+two f.Sub a b e = refl
+two f.Mul (V.Int m) (V.Int n) e = cc
+two f.Mul (V.Int m) (V.Real q) e = cc
+two f.Mul (V.Int m) b e = refl
+two f.Mul (V.Real r) (V.Int n) e = cc
+two f.Mul (V.Real r) (V.Real q) e = cc
+two f.Mul (V.Real r) b e = refl
+two f.Mul a b e = refl
+two f.Div (V.Int m) (V.Int n) e = cc
+two f.Div (V.Int m) (V.Real q) e = cc
+two f.Div (V.Int m) b e = refl
+two f.Div (V.Real r) (V.Int n) e = cc
+two f.Div (V.Real r) (V.Real q) e = cc
+two f.Div (V.Real r) b e = refl
+two f.Div a b e = refl
+two f.Mod (V.Int m) (V.Int n) e = cc
+two f.Mod (V.Int m) (V.Real q) e = cc
+two f.Mod (V.Int m) b e = refl
+two f.Mod (V.Real r) (V.Int n) e = cc
+two f.Mod (V.Real r) (V.Real q) e = cc
+two f.Mod (V.Real r) b e = refl
+two f.Mod a b e = refl
+two f.Quantize (V.Int m) (V.Int n) e = cc
+two f.Quantize (V.Int m) (V.Real q) e = cc
+two f.Quantize (V.Int m) b e = refl
+two f.Quantize (V.Real r) (V.Int n) e = cc
+two f.Quantize (V.Real r) (V.Real q) e = cc
+two f.Quantize (V.Real r) b e = refl
+two f.Quantize (V.Stamp s) (V.Int n) e = cc
+two f.Quantize (V.Stamp s) b e = refl
+two f.Quantize a b e = refl
+two f.Strcat (V.Text t) (V.Text u) e = cc
+two f.Strcat (V.Text t) b e = refl
+two f.Strcat a b e = refl
+two f.Strcnt (V.Text t) (V.Text u) e = cc
+two f.Strcnt (V.Text t) b e = refl
+two f.Strcnt a b e = refl
+two f.IndexOf (V.Text t) (V.Text u) e = cc
+two f.IndexOf (V.Text t) b e = refl
+two f.IndexOf a b e = refl
+two f.LastIndexOf (V.Text t) (V.Text u) e = cc
+two f.LastIndexOf (V.Text t) b e = refl
+two f.LastIndexOf a b e = refl
+two f.ExtractValue (V.Text t) (V.Text u) e = cc
+two f.ExtractValue (V.Text t) b e = refl
+two f.ExtractValue a b e = refl
+two f.Substr (V.Text t) (V.Int n) e = cc
+two f.Substr (V.Text t) b e = refl
+two f.Substr a b e = refl
+two f.ExtractToken (V.Text t) (V.Int n) e = cc
+two f.ExtractToken (V.Text t) b e = refl
+two f.ExtractToken a b e = refl
+two f.ToString (V.Stamp s) (V.Text u) e = cc
+two f.ToString (V.Stamp s) b e = refl
+two f.ToString a b e = refl
+two f.ToTimestamp (V.Text t) (V.Text u) e = cc
+two f.ToTimestamp (V.Text t) b e = refl
+two f.ToTimestamp (V.Stamp s) (V.Stamp w) e = cc
+two f.ToTimestamp (V.Stamp s) b e = refl
+two f.ToTimestamp a b e = refl
+two f.ReplaceIfNull V.Null V.Null e = refl
+two f.ReplaceIfNull V.Null (V.Int n) e = cc
+two f.ReplaceIfNull V.Null (V.Real q) e = cc
+two f.ReplaceIfNull V.Null (V.Text u) e = cc
+two f.ReplaceIfNull V.Null (V.Stamp w) e = cc
+two f.ReplaceIfNull (V.Int m) V.Null e = cc
+two f.ReplaceIfNull (V.Int m) (V.Int n) e = cc
+two f.ReplaceIfNull (V.Int m) (V.Real q) e = refl
+two f.ReplaceIfNull (V.Int m) (V.Text u) e = refl
+two f.ReplaceIfNull (V.Int m) (V.Stamp w) e = refl
+two f.ReplaceIfNull (V.Real r) V.Null e = cc
+two f.ReplaceIfNull (V.Real r) (V.Int n) e = refl
+two f.ReplaceIfNull (V.Real r) (V.Real q) e = cc
+two f.ReplaceIfNull (V.Real r) (V.Text u) e = refl
+two f.ReplaceIfNull (V.Real r) (V.Stamp w) e = refl
+two f.ReplaceIfNull (V.Text t) V.Null e = cc
+two f.ReplaceIfNull (V.Text t) (V.Int n) e = refl
+two f.ReplaceIfNull (V.Text t) (V.Real q) e = refl
+two f.ReplaceIfNull (V.Text t) (V.Text u) e = cc
+two f.ReplaceIfNull (V.Text t) (V.Stamp w) e = refl
+two f.ReplaceIfNull (V.Stamp s) V.Null e = cc
+two f.ReplaceIfNull (V.Stamp s) (V.Int n) e = refl
+two f.ReplaceIfNull (V.Stamp s) (V.Real q) e = refl
+two f.ReplaceIfNull (V.Stamp s) (V.Text u) e = refl
+two f.ReplaceIfNull (V.Stamp s) (V.Stamp w) e = cc
+two f.ReplaceIfNotNull V.Null b e = refl
+two f.ReplaceIfNotNull (V.Int m) V.Null e = refl
+two f.ReplaceIfNotNull (V.Int m) (V.Int n) e = cc
+two f.ReplaceIfNotNull (V.Int m) (V.Real q) e = cc
+two f.ReplaceIfNotNull (V.Int m) (V.Text u) e = cc
+two f.ReplaceIfNotNull (V.Int m) (V.Stamp w) e = cc
+two f.ReplaceIfNotNull (V.Real r) V.Null e = refl
+two f.ReplaceIfNotNull (V.Real r) (V.Int n) e = cc
+two f.ReplaceIfNotNull (V.Real r) (V.Real q) e = cc
+two f.ReplaceIfNotNull (V.Real r) (V.Text u) e = cc
+two f.ReplaceIfNotNull (V.Real r) (V.Stamp w) e = cc
+two f.ReplaceIfNotNull (V.Text t) V.Null e = refl
+two f.ReplaceIfNotNull (V.Text t) (V.Int n) e = cc
+two f.ReplaceIfNotNull (V.Text t) (V.Real q) e = cc
+two f.ReplaceIfNotNull (V.Text t) (V.Text u) e = cc
+two f.ReplaceIfNotNull (V.Text t) (V.Stamp w) e = cc
+two f.ReplaceIfNotNull (V.Stamp s) V.Null e = refl
+two f.ReplaceIfNotNull (V.Stamp s) (V.Int n) e = cc
+two f.ReplaceIfNotNull (V.Stamp s) (V.Real q) e = cc
+two f.ReplaceIfNotNull (V.Stamp s) (V.Text u) e = cc
+two f.ReplaceIfNotNull (V.Stamp s) (V.Stamp w) e = cc
+two f.Coalesce a b e = coalesce a b [] e
+two function a b e = refl
+
+three : (function : Function) (a b c : Value) → kind_of_call function (kind_of a ∷ kind_of b ∷ kind_of c ∷ []) ≡ None → applied_to_three function a b c ≡ V.Null
+three f.Substr (V.Text t) (V.Int n) (V.Int k) e = cc
+three f.Substr (V.Text t) (V.Int n) c e = refl
+three f.Substr (V.Text t) b c e = refl
+three f.Substr a b c e = refl
+three f.ReplaceStr (V.Text t) (V.Text u) (V.Text v) e = cc
+three f.ReplaceStr (V.Text t) (V.Text u) c e = refl
+three f.ReplaceStr (V.Text t) b c e = refl
+three f.ReplaceStr a b c e = refl
+three f.ReplaceChr (V.Text t) (V.Text u) (V.Text v) e = cc
+three f.ReplaceChr (V.Text t) (V.Text u) c e = refl
+three f.ReplaceChr (V.Text t) b c e = refl
+three f.ReplaceChr a b c e = refl
+three f.ExtractToken (V.Text t) (V.Int n) (V.Text v) e = cc
+three f.ExtractToken (V.Text t) (V.Int n) c e = refl
+three f.ExtractToken (V.Text t) b c e = refl
+three f.ExtractToken a b c e = refl
+three f.ExtractValue (V.Text t) (V.Text u) (V.Text v) e = cc
+three f.ExtractValue (V.Text t) (V.Text u) c e = refl
+three f.ExtractValue (V.Text t) b c e = refl
+three f.ExtractValue a b c e = refl
+three f.ExtractPrefix (V.Text t) (V.Int n) (V.Text v) e = cc
+three f.ExtractPrefix (V.Text t) (V.Int n) c e = refl
+three f.ExtractPrefix (V.Text t) b c e = refl
+three f.ExtractPrefix a b c e = refl
+three f.ExtractSuffix (V.Text t) (V.Int n) (V.Text v) e = cc
+three f.ExtractSuffix (V.Text t) (V.Int n) c e = refl
+three f.ExtractSuffix (V.Text t) b c e = refl
+three f.ExtractSuffix a b c e = refl
+three f.Coalesce a b c e = coalesce a b (c ∷ []) e
+three function a b c e = refl
+
+further : (function : Function) (a b c d : Value) (values : List Value) → kind_of_call function (map kind_of (a ∷ b ∷ c ∷ d ∷ values)) ≡ None → applied_to_more function (a ∷ b ∷ c ∷ d ∷ values) ≡ V.Null
+further f.Coalesce a b c d values e = coalesce a b (c ∷ d ∷ values) e
+further function a b c d values e = refl
+
+-- arguments that fit no row give NULL
+pub no_row : (function : Function) (values : List Value) → kind_of_call function (map kind_of values) ≡ None → applied function values ≡ V.Null
+no_row function [] e = refl
+no_row function (a ∷ []) e = one function a e
+no_row function (a ∷ b ∷ []) e = two function a b e
+no_row function (a ∷ b ∷ c ∷ []) e = three function a b c e
+no_row function (a ∷ b ∷ c ∷ d ∷ values) e = further function a b c d values e

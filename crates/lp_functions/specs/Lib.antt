@@ -1,0 +1,14 @@
+pub mod Addresses
+pub mod Applied
+pub mod Choices
+pub mod Counting
+pub mod Cutting
+pub mod Fitting
+pub mod Making
+pub mod Moments
+pub mod Names
+pub mod Numbers
+pub mod Table
+pub mod Texts
+pub mod Tokens
+pub mod Urls

@@ -1,0 +1,47 @@
+// Values as dates and times.
+ghost use Rattle.std.specs.Prelude.{◌≡◌};
+ghost use Rattle.lp_functions.specs.Moments.{to_date, to_time, to_timestamp, read_by};
+ghost use Rattle.lp_time.specs.Patterns.{pattern_in};
+
+use lp_time::{Pattern, join_date_time, read_stamp};
+use lp_values::Value;
+
+pub(crate) fn to_date(value: &Value) -> Value
+    ensures { result ≡ to_date value.now }
+{
+    match value {
+        Value::Stamp(stamp) => Value::Stamp(lp_time::to_date(*stamp)),
+        Value::Null | Value::Int(_) | Value::Real(_) | Value::Text(_) => Value::Null,
+    }
+}
+
+pub(crate) fn to_time(value: &Value) -> Value
+    ensures { result ≡ to_time value.now }
+{
+    match value {
+        Value::Stamp(stamp) => Value::Stamp(lp_time::to_time(*stamp)),
+        Value::Null | Value::Int(_) | Value::Real(_) | Value::Text(_) => Value::Null,
+    }
+}
+
+fn read_by(pattern: &str, text: &str) -> Value
+    ensures { result ≡ read_by (pattern_in pattern.now) text.now }
+{
+    match Pattern::read(pattern) {
+        Ok(pattern) => match read_stamp(&pattern, text) {
+            Some(stamp) => Value::Stamp(stamp),
+            None => Value::Null,
+        },
+        Err(_) => Value::Null,
+    }
+}
+
+pub(crate) fn to_timestamp(a: &Value, b: &Value) -> Value
+    ensures { result ≡ to_timestamp a.now b.now }
+{
+    match (a, b) {
+        (Value::Text(text), Value::Text(pattern)) => read_by(pattern.as_str(), text.as_str()),
+        (Value::Stamp(date), Value::Stamp(time)) => Value::Stamp(join_date_time(*date, *time)),
+        _ => Value::Null,
+    }
+}

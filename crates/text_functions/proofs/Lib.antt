@@ -1,0 +1,11 @@
+mod CharacterLemmas
+mod Cutting
+mod EdgeLemmas
+mod LikeLemmas
+mod PartingLemmas
+mod PieceLemmas
+mod PlaceLemmas
+mod PrefixLemmas
+mod ReplaceLemmas
+mod TokenLemmas
+mod ValueLemmas
