@@ -23,7 +23,7 @@ pub picks_none : (used : List Bool) (pattern : List Piece) (told : Judged) (item
     → None ≡ sampled_picks pattern told items condition found
 picks_none used pattern told items condition found values fits covers values_is kept =
     let row = row_of pattern told found in
-    let same = keeps_masked used row items condition (row_fits pattern told found used fits) covers in
+    let same = keeps_masked used row condition (row_fits pattern told found used fits) covers.mentioned in
     let is : keeps condition row ≡ false = sym same ∙ ap (keeps condition) (sym values_is) ∙ kept in
     sym (ap (λ (b : Bool). if_kept b (selected_in row items)) is)
 
@@ -34,6 +34,6 @@ pub picks_some : (used : List Bool) (pattern : List Piece) (told : Judged) (item
 picks_some used pattern told items condition found values out fits covers values_is kept out_is =
     let row = row_of pattern told found in
     let size = row_fits pattern told found used fits in
-    let is : keeps condition row ≡ true = sym (keeps_masked used row items condition size covers) ∙ ap (keeps condition) (sym values_is) ∙ kept in
+    let is : keeps condition row ≡ true = sym (keeps_masked used row condition size covers.mentioned) ∙ ap (keeps condition) (sym values_is) ∙ kept in
     let same : out ≡ selected_in row items = out_is ∙ ap (λ v. selected_in v items) values_is ∙ items_masked used row items condition size covers in
     ap Some same ∙ sym (ap (λ (b : Bool). if_kept b (selected_in row items)) is)
