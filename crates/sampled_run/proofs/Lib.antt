@@ -6,3 +6,5 @@ mod SetsOnce
 mod Delimited
 mod Behind
 mod Ran
+mod Answered
+mod Sizes
