@@ -23,7 +23,7 @@ use Rattle.sampled_table.specs.Picks.{sampled_picks}
 use Rattle.sampled_table.specs.declared.judging.Judged.{Judged}
 use Rattle.sampled_table.specs.declared.picking.SampledPicker.{SampledPicker}
 use Rattle.sampled_run.specs.Past.{Past, Later, Rules, plan_at, rows_at, rows_with, text_at, told_at}
-use Rattle.sampled_run.specs.Holds.{Asks, Begun, Gathers, Holds, IsFront, IsRefused, IsTold, IsWithin, IsWritten, PhaseHolds, PhaseStopped}
+use Rattle.sampled_run.specs.Holds.{Asks, Begun, Gathers, Holds, IsFront, IsRefused, IsTold, IsWithin, IsWritten, PhaseHolds}
 use Rattle.sampled_run.specs.Laws.{told_stays}
 use Rattle.sampled_run.specs.declared.phase.Phase.{Phase}
 use Rattle.sampled_run.specs.declared.phase.Phase.TheVariants as P
@@ -194,30 +194,3 @@ pub at_lost : {F : Type 0} (text : TextOf F) (has_text : HasTextOf F) (sampling 
 at_lost {F = F} text has_text sampling rules start u past is holds =
     let Of : Phase F → Type 0 = λ p. PhaseHolds text has_text rules start past p u in
     subst Of is holds.phase
-
--- ---- the same, by the steps of the code
-
--- the phase of a run that was set
-pub phase_set : {F : Type 0} (rules : Rules) (start v : Option (List ℕ)) (later : Past) (before after : Sampling F) (phase : Phase F) → after ≡ record before { phase = phase } → PhaseStopped rules start later phase v → PhaseStopped rules start later after.phase v
-phase_set {F = F} rules start v later before after phase is stopped =
-    let Of : Sampling F → Type 0 = λ s. PhaseStopped rules start later s.phase v in
-    subst Of (sym is) stopped
-
-pub turned_by : {F : Type 0} (text : TextOf F) (has_text : HasTextOf F) (old mid last : Sampling F) (gathering : Gathering F) (writer : Writer F SampledPicker) (u v : Option (List ℕ))
-    → old.phase ≡ P.Gathering gathering → mid ≡ record old { phase = P.Lost } → last ≡ record mid { phase = P.Writing writer }
-    → ((rules : Rules) (start : Option (List ℕ)) (past : Past) → Asks mid.limit mid.pattern.now (query_of mid.query.now) rules → Gathers text rules start past gathering u → Begun text has_text rules start past writer v)
-    → (rules : Rules) (start : Option (List ℕ)) (past : Past) → Holds text has_text rules start past old u → IsTold rules past → Holds text has_text rules start past last v
-turned_by {F = F} text has_text old mid last gathering writer u v is lost set begun rules start past holds told =
-    let Mid : Sampling F → Type 0 = λ s. (rules : Rules) (start : Option (List ℕ)) (past : Past) → Asks s.limit s.pattern.now (query_of s.query.now) rules → Gathers text rules start past gathering u → Begun text has_text rules start past writer v in
-    let last_is : last ≡ record old { phase = P.Writing writer } = set ∙ ap (λ (s : Sampling F). record s { phase = P.Writing writer }) lost in
-    let Of : Sampling F → Type 0 = λ s. Holds text has_text rules start past s v in
-    subst Of (sym last_is) (turned text has_text old gathering writer u v is (subst Mid lost begun) rules start past holds told)
-
-pub turn_stopped_by : {F : Type 0} (text : TextOf F) (has_text : HasTextOf F) (old mid : Sampling F) (gathering : Gathering F) (given stop : Stop) (u v : Option (List ℕ))
-    → old.phase ≡ P.Gathering gathering → mid ≡ record old { phase = P.Lost } → given ≡ stop
-    → ((rules : Rules) (start : Option (List ℕ)) (past later : Past) → Asks mid.limit mid.pattern.now (query_of mid.query.now) rules → Gathers text rules start past gathering u → Later past later → told_at rules later ≡ told_at rules past → IsStop rules start later given v)
-    → (rules : Rules) (start : Option (List ℕ)) (past later : Past) → Holds text has_text rules start past old u → IsTold rules past → Later past later → IsStop rules start later stop v
-turn_stopped_by {F = F} text has_text old mid gathering given stop u v is lost same stopped rules start past later holds told follows =
-    let Mid : Sampling F → Type 0 = λ s. (rules : Rules) (start : Option (List ℕ)) (past later : Past) → Asks s.limit s.pattern.now (query_of s.query.now) rules → Gathers text rules start past gathering u → Later past later → told_at rules later ≡ told_at rules past → IsStop rules start later given v in
-    let Of : Stop → Type 0 = λ s. IsStop rules start later s v in
-    subst Of same (turn_stopped text has_text old gathering given u v is (subst Mid lost stopped) rules start past later holds told follows)

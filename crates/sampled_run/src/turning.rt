@@ -13,22 +13,22 @@ use output_formats::Shape;
 use std::alloc::Global;
 use std::mem::replace;
 
-// Takes what was kept out of a run.
-fn take_gathering<'a, F: Shape + Drop>(sampling: &mut Sampling<'a, F>) -> Option<Gathering<F>>
-    ensures some { IfSome result (λ gathering. sampling.old.phase ≡ Phase.Gathering gathering) }
-    ensures lost { sampling.new ≡ record sampling.old { phase = Phase.Lost } }
+// Takes what was kept out of a phase.
+fn take_gathering<'a, F: Shape + Drop>(phase: &mut Phase<'a, F>) -> Option<Gathering<F>>
+    ensures some { IfSome result (λ gathering. phase.old ≡ Phase.Gathering gathering) }
+    ensures lost { phase.new ≡ Phase.Lost }
 {
-    match replace(&mut sampling.phase, Phase::Lost) {
+    match replace(phase, Phase::Lost) {
         Phase::Gathering(gathering) => Some(gathering),
         Phase::Writing(_) | Phase::Refused(_) | Phase::Lost => None,
     }
 }
 
-// Sets the phase of a run.
-fn set_phase<'a, F: Shape + Drop>(sampling: &mut Sampling<'a, F>, phase: Phase<'a, F>)
-    ensures { sampling.new ≡ record sampling.old { phase = phase } }
+// Goes on to a phase.
+fn set_phase<'a, F: Shape + Drop>(place: &mut Phase<'a, F>, phase: Phase<'a, F>)
+    ensures { place.new ≡ phase.entry }
 {
-    sampling.phase = phase;
+    *place = phase;
 }
 
 /// Begins to write, once the records tell the columns.
@@ -46,7 +46,7 @@ pub(crate) fn turn<'a, F: Shape + Drop, G: Stage>(
     ensures failed { IsErrOf result TakeFault.Failed → Rose (G.faults stage.old) (G.faults stage.new) }
     ensures refused { IsErrOf result TakeFault.Stopped → IsRefusedIn sampling.new.phase }
 {
-    let Some(gathering) = take_gathering(sampling) else {
+    let Some(gathering) = take_gathering(&mut sampling.phase) else {
         return Err(TakeFault::Memory);
     };
     match begin(
@@ -58,11 +58,11 @@ pub(crate) fn turn<'a, F: Shape + Drop, G: Stage>(
         stage,
     ) {
         Ok(writer) => {
-            set_phase(sampling, Phase::Writing(writer));
+            set_phase(&mut sampling.phase, Phase::Writing(writer));
             Ok(())
         }
         Err(Stop::Plan(fault)) => {
-            set_phase(sampling, Phase::Refused(fault));
+            set_phase(&mut sampling.phase, Phase::Refused(fault));
             Err(TakeFault::Stopped)
         }
         Err(Stop::Output) => Err(TakeFault::Failed),
