@@ -125,7 +125,8 @@ impl<'a, F: Shape + Drop, G: Stage> Taker<G> for Sampling<'a, F> {
                     Err(_) => Err(TakeFault::Memory),
                 }
             }
-            Phase::Refused(_) | Phase::Lost => Err(TakeFault::Memory),
+            Phase::Refused(_) => Err(TakeFault::Memory),
+            Phase::Lost => Err(TakeFault::Memory),
         }
     }
 

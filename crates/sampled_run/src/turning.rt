@@ -1,17 +1,35 @@
 // The turn from keeping records to writing rows.
-ghost use Rattle.std.specs.Prelude.{◌≡◌, ◌≤◌, List, ℕ, Option, OnOk, OnErr, IsErrOf};
+ghost use Rattle.std.specs.Prelude.{◌≡◌, ◌≤◌, List, ℕ, Option, OnOk, OnErr, IfSome, IsErrOf};
 ghost use Rattle.lp_model.specs.Outside.{Rose};
 ghost use Rattle.sampled_run.specs.Counts.{IsRefusedIn, taken_in};
 ghost use Rattle.sampled_run.specs.Past.{Past, Later, Rules};
 ghost use Rattle.sampled_run.specs.Holds.{Holds, IsTold, PhaseStopped};
 
 use crate::beginning::begin;
-use crate::{Phase, Sampling, Stop};
+use crate::{Gathering, Phase, Sampling, Stop};
 use log_reading::TakeFault;
 use lp_outside::Stage;
 use output_formats::Shape;
 use std::alloc::Global;
 use std::mem::replace;
+
+// Takes what was kept out of a phase.
+fn take_gathering<'a, F: Shape + Drop>(phase: &mut Phase<'a, F>) -> Option<Gathering<F>>
+    ensures some { IfSome result (λ gathering. phase.old ≡ Phase.Gathering gathering) }
+    ensures lost { phase.new ≡ Phase.Lost }
+{
+    match replace(phase, Phase::Lost) {
+        Phase::Gathering(gathering) => Some(gathering),
+        Phase::Writing(_) | Phase::Refused(_) | Phase::Lost => None,
+    }
+}
+
+// Goes on to a phase.
+fn set_phase<'a, F: Shape + Drop>(place: &mut Phase<'a, F>, phase: Phase<'a, F>)
+    ensures { place.new ≡ phase.entry }
+{
+    *place = phase;
+}
 
 /// Begins to write, once the records tell the columns.
 pub(crate) fn turn<'a, F: Shape + Drop, G: Stage>(
@@ -28,7 +46,7 @@ pub(crate) fn turn<'a, F: Shape + Drop, G: Stage>(
     ensures failed { IsErrOf result TakeFault.Failed → Rose (G.faults stage.old) (G.faults stage.new) }
     ensures refused { IsErrOf result TakeFault.Stopped → IsRefusedIn sampling.new.phase }
 {
-    let Phase::Gathering(gathering) = replace(&mut sampling.phase, Phase::Lost) else {
+    let Some(gathering) = take_gathering(&mut sampling.phase) else {
         return Err(TakeFault::Memory);
     };
     match begin(
@@ -40,11 +58,11 @@ pub(crate) fn turn<'a, F: Shape + Drop, G: Stage>(
         stage,
     ) {
         Ok(writer) => {
-            sampling.phase = Phase::Writing(writer);
+            set_phase(&mut sampling.phase, Phase::Writing(writer));
             Ok(())
         }
         Err(Stop::Plan(fault)) => {
-            sampling.phase = Phase::Refused(fault);
+            set_phase(&mut sampling.phase, Phase::Refused(fault));
             Err(TakeFault::Stopped)
         }
         Err(Stop::Output) => Err(TakeFault::Failed),
