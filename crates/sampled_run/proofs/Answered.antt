@@ -16,3 +16,11 @@ on_ok P Q (Err fault) so p = tt
 pub on_err_so : {T E : Type 0} (P Q : Type 0) (r : Result T E) → (P → Q) → OnErr r P → OnErr r Q
 on_err_so P Q (Ok value) so p = tt
 on_err_so P Q (Err fault) so p = so p
+
+pub ok_so : {T E : Type 0} {P Q : Type 0} (r : Result T E) → OnOk r P → (P → Q) → OnOk r Q
+ok_so (Ok value) p so = so p
+ok_so (Err fault) p so = tt
+
+pub err_so : {T E : Type 0} {P Q : Type 0} (r : Result T E) → OnErr r P → (P → Q) → OnErr r Q
+err_so (Ok value) p so = tt
+err_so (Err fault) p so = so p

@@ -128,7 +128,7 @@ read_logs R.Output e = absurd cc
 read_logs R.Stopped e = absurd cc
 read_logs (R.Bad log row) e = absurd cc
 
-pub logs_in : {F : Type 0} (phase : Phase F) (fault : RunFault) → fault_in phase fault ≡ F.Logs → fault ≡ R.Logs
+pub logs_in : {T : Type 0} (phase : Phase T) (fault : RunFault) → fault_in phase fault ≡ F.Logs → fault ≡ R.Logs
 logs_in (P.Gathering gathering) fault e = read_logs fault e
 logs_in (P.Writing writer) fault e = read_logs fault e
 logs_in (P.Refused plan) fault e = absurd cc
@@ -141,7 +141,7 @@ read_output R.Output e = refl
 read_output R.Stopped e = absurd cc
 read_output (R.Bad log row) e = absurd cc
 
-pub output_in : {F : Type 0} (phase : Phase F) (fault : RunFault) → fault_in phase fault ≡ F.Output → fault ≡ R.Output
+pub output_in : {T : Type 0} (phase : Phase T) (fault : RunFault) → fault_in phase fault ≡ F.Output → fault ≡ R.Output
 output_in (P.Gathering gathering) fault e = read_output fault e
 output_in (P.Writing writer) fault e = read_output fault e
 output_in (P.Refused plan) fault e = absurd cc

@@ -17,24 +17,25 @@ use Rattle.sampled_run.specs.Spans.{past_behind, past_behind_span}
 use Rattle.sampled_run.specs.Holds.{Holds, PhaseStopped}
 use Rattle.sampled_run.specs.Laws.{BeginsOf, Samples, Halts, later_noted, later_same, later_trans, later_with, stopped_between}
 use Rattle.sampled_run.specs.Taking.{SamplesSpan, SamplesSpans, HaltsIn, span_told, spans_told}
+use Rattle.sampled_run.specs.declared.phase.Phase.{Phase}
 use Rattle.sampled_run.specs.declared.phase.Sampling.{Sampling}
 
 -- ---- one log
 
 -- its records, and then its columns
-pub one_taken : {F : Type 0} (text : TextOf F) (has_text : HasTextOf F) (format : Format) (waits : Bool) (told : Option Folder) (span : Span) (a b c : Page (Sampling F)) (u v : Option (List ℕ)) (columns : Option Columns)
+pub one_taken : {F O : Type 0} (state : O → Option (List ℕ)) (text : TextOf F) (has_text : HasTextOf F) (format : Format) (waits : Bool) (told : Option Folder) (span : Span) (a b c : Page (Sampling F)) (x y : O) (columns : Option Columns)
     → ((rules : Rules) (start now : Option (List ℕ)) (past : Past) → Holds text has_text rules start past b.taker now → Holds text has_text rules start (noted past span.identity columns) c.taker now)
     → c.rows ≡ b.rows → c.bad ≡ b.bad → columns ≡ b.standing.columns
-    → Told told (λ folder. IsKept format waits (cut_of folder span) span → TakesSpan (λ (old : Sampling F) (before : Option (List ℕ)) founds new now. Samples text has_text old before founds new now) format waits folder span a b u v)
+    → Told told (λ folder. IsKept format waits (cut_of folder span) span → TakesSpan (λ (old : Sampling F) (before : O) founds new now. Samples text has_text old (state before) founds new (state now)) format waits folder span a b x y)
     → Told told (λ folder. IsKept format waits (cut_of folder span) span → b.standing ≡ standing_at format (cut_of folder span) waits (length (cut_of folder span)))
-    → Told told (λ folder. IsKept format waits (cut_of folder span) span → SamplesSpan text has_text format waits folder span a c u v)
-one_taken text has_text format waits None span a b c u v columns notes rows bad same taken standing = tt
-one_taken text has_text format waits (Some folder) span a b c u v columns notes rows bad same taken standing = λ kept.
+    → Told told (λ folder. IsKept format waits (cut_of folder span) span → SamplesSpan text has_text format waits folder span a c (state x) (state y))
+one_taken state text has_text format waits None span a b c x y columns notes rows bad same taken standing = tt
+one_taken state text has_text format waits (Some folder) span a b c x y columns notes rows bad same taken standing = λ kept.
     let is : columns ≡ (standing_at format (cut_of folder span) waits (length (cut_of folder span))).columns = same ∙ ap (λ (s : Standing). s.columns) (standing kept) in
     record {
       along = λ rules start past holds.
-          let Of : Option Columns → Type 0 = λ t. Holds text has_text rules start (noted (past_with past (span_found format waits folder span)) span.identity t) c.taker v in
-          subst Of is (notes rules start v (past_with past (span_found format waits folder span)) ((taken kept).done.along rules start past holds));
+          let Of : Option Columns → Type 0 = λ t. Holds text has_text rules start (noted (past_with past (span_found format waits folder span)) span.identity t) c.taker (state y) in
+          subst Of is (notes rules start (state y) (past_with past (span_found format waits folder span)) ((taken kept).done.along rules start past holds));
       rows = rows ∙ (taken kept).rows;
       bad = bad ∙ (taken kept).bad;
     }
@@ -52,17 +53,17 @@ one_halted text has_text format waits (Some folder) span a b u v halted = λ kep
 }
 
 -- it stopped behind its records
-pub one_stopped : {F : Type 0} (text : TextOf F) (has_text : HasTextOf F) (begins : BeginsOf F text has_text) (format : Format) (waits : Bool) (told : Option Folder) (span : Span) (a b : Page (Sampling F)) (last : Sampling F) (u v : Option (List ℕ))
-    → last ≡ b.taker
-    → Told told (λ folder. IsKept format waits (cut_of folder span) span → TakesSpan (λ (old : Sampling F) (before : Option (List ℕ)) founds new now. Samples text has_text old before founds new now) format waits folder span a b u v)
-    → Told told (λ folder. IsKept format waits (cut_of folder span) span → HaltsIn text has_text (span_told format waits folder span) a.taker last u v)
-one_stopped {F = F} text has_text begins format waits None span a b last u v same taken = tt
-one_stopped {F = F} text has_text begins format waits (Some folder) span a b last u v same taken = λ kept. record {
+pub one_stopped : {F O : Type 0} (state : O → Option (List ℕ)) (text : TextOf F) (has_text : HasTextOf F) (begins : BeginsOf F text has_text) (format : Format) (waits : Bool) (told : Option Folder) (span : Span) (a b : Page (Sampling F)) (last : Sampling F) (x y : O)
+    → last.phase ≡ b.taker.phase
+    → Told told (λ folder. IsKept format waits (cut_of folder span) span → TakesSpan (λ (old : Sampling F) (before : O) founds new now. Samples text has_text old (state before) founds new (state now)) format waits folder span a b x y)
+    → Told told (λ folder. IsKept format waits (cut_of folder span) span → HaltsIn text has_text (span_told format waits folder span) a.taker last (state x) (state y))
+one_stopped {F = F} state text has_text begins format waits None span a b last x y same taken = tt
+one_stopped {F = F} state text has_text begins format waits (Some folder) span a b last x y same taken = λ kept. record {
   within = λ rules start past holds later follows.
       let behind = past_with past (span_found format waits folder span) in
-      let Of : Sampling F → Type 0 = λ s. PhaseStopped rules start later s.phase v in
+      let Of : Phase F → Type 0 = λ p. PhaseStopped rules start later p (state y) in
       subst Of (sym same)
-      (stopped_between text has_text begins rules start v behind later b.taker
+      (stopped_between text has_text begins rules start (state y) behind later b.taker
       (later_trans behind (past_behind_span format waits folder past span) later (later_noted behind span.identity (standing_at format (cut_of folder span) waits (length (cut_of folder span))).columns) follows)
       ((taken kept).done.along rules start past holds));
 }

@@ -45,7 +45,7 @@ pub(crate) fn note_first<'a, F: Shape + Drop>(
 ) -> Result<(), AllocError>
     ensures noted { OnOk result ((rules : Rules) (start now : Option (List ℕ)) (past : Past) → Holds F.text F.has_text rules start past sampling.old now
         → Holds F.text F.has_text rules start (noted past identity.now columns.now) sampling.new now) }
-    ensures err { OnErr result (sampling.new ≡ sampling.old) }
+    ensures err { OnErr result (sampling.new.phase ≡ sampling.old.phase) }
     ensures count { taken_in sampling.new.phase ≡ taken_in sampling.old.phase }
 {
     match &mut sampling.phase {
