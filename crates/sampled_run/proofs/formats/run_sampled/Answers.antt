@@ -25,12 +25,12 @@ returns-clause-ran g c =
     let spans = c.args.spans.now in
     let rules : Headers → Rules = λ headers. rules_of c.args.limit c.args.pattern.now (query_of c.args.query.now) (csv_of headers) in
     let Behind : DelimitedOptions → Headers → Counts → Type 0 = λ options headers counts. Told told (λ folder. AreKept (delimited_lines options) false spans folder
-        → IsSampled (rules headers) u (past_behind (delimited_lines options) false folder nothing spans) (delimited_lines options) folder spans counts v) in
+    → IsSampled (rules headers) u (past_behind (delimited_lines options) false folder nothing spans) (delimited_lines options) folder spans counts v) in
     let given = subst (λ (options : DelimitedOptions). IfOk c.sample_reader.result (Behind options c.new-shape.result)) c.in-Ok.ensures.ok c.sample_reader.ensures.ran in
     let named = subst (λ (headers : Headers). IfOk c.sample_reader.result (Behind c.args.options headers)) c.new-shape.ensures given in
     if_ok (Behind c.args.options c.args.headers)
     (λ (counts : Counts). Told told (λ folder. AreKept (delimited_lines c.args.options) false spans folder
-        → IsSampled (rules c.args.headers) u (past_of (delimited_lines c.args.options) false folder spans) (delimited_lines c.args.options) folder spans counts v))
+    → IsSampled (rules c.args.headers) u (past_of (delimited_lines c.args.options) false folder spans) (delimited_lines c.args.options) folder spans counts v))
     c.sample_reader.result
     (λ counts. ran_told (rules c.args.headers) (delimited_lines c.args.options) (delimited_sets_once c.args.options) told spans u v counts)
     named
@@ -43,12 +43,12 @@ returns-clause-stopped g c =
     let spans = c.args.spans.now in
     let rules : Headers → Rules = λ headers. rules_of c.args.limit c.args.pattern.now (query_of c.args.query.now) (csv_of headers) in
     let Behind : DelimitedOptions → Headers → SampleFault → Type 0 = λ options headers fault. Told told (λ folder. AreKept (delimited_lines options) false spans folder
-        → IsStoppedBy (rules headers) u (past_behind (delimited_lines options) false folder nothing spans) fault v) in
+    → IsStoppedBy (rules headers) u (past_behind (delimited_lines options) false folder nothing spans) fault v) in
     let given = subst (λ (options : DelimitedOptions). IfErr c.sample_reader.result (Behind options c.new-shape.result)) c.in-Ok.ensures.ok c.sample_reader.ensures.stopped in
     let named = subst (λ (headers : Headers). IfErr c.sample_reader.result (Behind c.args.options headers)) c.new-shape.ensures given in
     if_err (Behind c.args.options c.args.headers)
     (λ (fault : SampleFault). Told told (λ folder. AreKept (delimited_lines c.args.options) false spans folder
-        → IsStoppedBy (rules c.args.headers) u (past_of (delimited_lines c.args.options) false folder spans) fault v))
+    → IsStoppedBy (rules c.args.headers) u (past_of (delimited_lines c.args.options) false folder spans) fault v))
     c.sample_reader.result
     (λ fault. stopped_told (rules c.args.headers) (delimited_lines c.args.options) (delimited_sets_once c.args.options) told spans u v fault)
     named
@@ -58,5 +58,5 @@ returns-clause-too_many g c =
     let told = g.L.Logs.folder c.sample_reader.new.logs in
     let spans = c.args.spans.now in
     let Of : DelimitedOptions → Type 0 = λ options. IfErr c.sample_reader.result (λ fault. OnBadOne fault (λ line. Told told (λ folder. AreKept (delimited_lines options) false spans folder
-        → IsTooMany c.args.most_bad 0 (spans_bad_lines (delimited_lines options) false folder spans) line))) in
+    → IsTooMany c.args.most_bad 0 (spans_bad_lines (delimited_lines options) false folder spans) line))) in
     subst Of c.in-Ok.ensures.ok c.sample_reader.ensures.too_many

@@ -67,4 +67,3 @@ returns-in-Refused-clause-stops g c =
 pub returns-in-Lost-clause-stops : goal.returns-in-Lost-clause-stops
 returns-in-Lost-clause-stops g c =
     halts_lost g.F.Shape.text g.F.Shape.has_text c.args.self.now _ _ _ _ c.in-Lost.is
-
