@@ -1,16 +1,17 @@
-use Rattle.std.proofs.Common.{◌≡◌, [], ◌∷◌, refl, sym, ◌∙◌, ap, subst, true, false, ℕ, List, Option, None, arith}
+use Rattle.std.proofs.Common.{◌≡◌, [], ◌∷◌, refl, sym, ◌∙◌, ap, subst, Err, true, false, ℕ, List, Option, None, arith}
 use Rattle.lp_model.proofs.Growing.{OnlyGrow-refl}
 use Rattle.lp_model.specs.Outside.{Folder, Told}
 use Rattle.query_tree.specs.Views.{query_of}
 use Rattle.log_reading.proofs.Faults.{bad_line_so}
 use Rattle.log_reading.specs.Page.{IsTooMany, IsWithin}
 use Rattle.log_reading.specs.Spans.{AreKept, BadLine, spans_bad_lines}
+use Rattle.log_reading.specs.declared.span.RunFault.{RunFault}
 use Rattle.sampled_run.specs.declared.fault.SampleFault.{SampleFault}
 use Rattle.sampled_run.specs.Past.{Past, Rules, rules_of}
 use Rattle.sampled_run.specs.Spans.{past_behind}
 use Rattle.sampled_run.specs.Ran.{IsSampled, IsStoppedBy, OnBadOne}
 use Rattle.sampled_run.proofs.Sizes.{has_room, within_none}
-use Rattle.sampled_run.proofs.Ran.{ran, stopped_reading, stopped_ending, stopped_at_once, bad_in, bad_of, logs_in, output_in, logs_of, output_of}
+use Rattle.sampled_run.proofs.Ran.{ran, stopped_reading, stopped_ending, stopped_at_once, bad_in, fault_same, logs_in, output_in}
 use Rattle.sampled_run.proofs.running.sample_reader.Goals as goal
 
 pub take_all-requires-clause-rows : goal.take_all-requires-clause-rows
@@ -68,10 +69,10 @@ returns-in-Err-clause-too_many g c =
     c.in-Err.ensures.too_many))
 
 pub returns-in-Err-clause-logs : goal.returns-in-Err-clause-logs
-returns-in-Err-clause-logs g c = λ is. c.in-Err.ensures.logs (logs_in c.take_all.new.page.taker.phase c.in-Err.fault (sym c.fault_in.ensures ∙ is))
+returns-in-Err-clause-logs g c = λ is. c.in-Err.ensures.logs (ap (λ (f : RunFault). Err f) (logs_in c.take_all.new.page.taker.phase c.in-Err.fault (sym c.fault_in.ensures ∙ fault_same c.fault_in.result _ is)))
 
 pub returns-in-Err-clause-output : goal.returns-in-Err-clause-output
-returns-in-Err-clause-output g c = λ is. c.in-Err.ensures.output (output_in c.take_all.new.page.taker.phase c.in-Err.fault (sym c.fault_in.ensures ∙ is))
+returns-in-Err-clause-output g c = λ is. c.in-Err.ensures.output (ap (λ (f : RunFault). Err f) (output_in c.take_all.new.page.taker.phase c.in-Err.fault (sym c.fault_in.ensures ∙ fault_same c.fault_in.result _ is)))
 
 pub returns-in-Ok-finish_run-clause-ran : goal.returns-in-Ok-finish_run-clause-ran
 returns-in-Ok-finish_run-clause-ran g c =
