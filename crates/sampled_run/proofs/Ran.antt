@@ -1,5 +1,5 @@
 -- A whole run, from the first log to the end of the text.
-use Rattle.std.proofs.Common.{◌≡◌, ℕ, ◌+◌, Bool, false, Result, Ok, List, [], ◌∷◌, ◌++◌, length, Option, Some, None, Err, ap, sym, ◌∙◌, refl, subst, arith, inl, append_assoc}
+use Rattle.std.proofs.Common.{◌≡◌, ℕ, ◌+◌, Bool, false, IsErrOf, List, [], ◌∷◌, ◌++◌, length, Option, Some, None, Err, ap, sym, ◌∙◌, refl, subst, arith, inl, append_assoc}
 use Rattle.std.proofs.lemmas.List.{append-nil}
 use Rattle.lp_model.specs.Outside.{Folder, Told}
 use Rattle.lp_model.specs.Reading.{Format, standing_at}
@@ -122,7 +122,7 @@ bad_of S.Output Q = tt
 bad_of S.Memory Q = tt
 
 -- the fault of an answer
-pub fault_same : {T E : Type 0} (a b : E) → Err {T = T} {E = E} a ≡ Err {T = T} {E = E} b → a ≡ b
+pub fault_same : {T E : Type 0} (a b : E) → IsErrOf {T = T} {E = E} (Err a) b → a ≡ b
 fault_same a b is = cc
 
 read_logs : (fault : RunFault) → read_fault fault ≡ F.Logs → fault ≡ R.Logs
