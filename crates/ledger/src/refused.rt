@@ -24,7 +24,7 @@ pub enum LedgerRefused {
 pub enum TextRefused {
     #[error("a disk failed")]
     DiskFault,
-    /// A field that doesn't fit, by its place in the file in bytes.
+    // A field that doesn't fit, by its place in the file in bytes.
     #[error("damaged at {at}")]
     LedgerFault { part: Part2, at: u64 },
     #[error("out of memory")]
