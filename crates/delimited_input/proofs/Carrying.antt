@@ -14,11 +14,11 @@ mapped_or f None b = refl
 mapped_or f (Some x) b = refl
 
 module _ (options : DelimitedOptions) where
-  abbrev set_by : List ℕ → Columns
+  abbrev pub set_by : List ℕ → Columns
   set_by text = columns_of options (fields_in options text)
 
   -- the columns behind one line more
-  after_more : (before : List (List ℕ)) (line : List ℕ) → columns_after options (before ++ line ∷ []) ≡ option_or (columns_after options before) (columns_after options (line ∷ []))
+  pub after_more : (before : List (List ℕ)) (line : List ℕ) → columns_after options (before ++ line ∷ []) ≡ option_or (columns_after options before) (columns_after options (line ∷ []))
   after_more before line =
       ap (option_map set_by) (find-append (may_set options) before (line ∷ []))
       ∙ mapped_or set_by (find (may_set options) before) (find (may_set options) (line ∷ []))

@@ -14,21 +14,21 @@ pub type KindList = ListOf<Kind>;
 
 /// Judges the kinds of columns from the first rows.
 #[derive(Drop)]
-pub struct KindSampler {
+pub struct KindSampler<'a> {
     limit: u32,
-    pattern: Pattern,
+    pattern: &'a Pattern,
     met: bool,
     left: u32,
     tallies: Vec<Tally>,
 }
 
-impl Model for KindSampler {
+impl<'a> Model for KindSampler<'a> {
     ghost use Rattle.std.specs.Prelude.{length};
     ghost use Rattle.delimited_input.specs.Sampled.{Sampled};
 
     ghost Value = { Sampled };
 
-    ghost view = { λ s. record { columns = length s.tallies.items; limit = s.limit; pattern = s.pattern; met = s.met; left = s.left; tallies = s.tallies.items } };
+    ghost view = { λ s. record { columns = length s.tallies.items; limit = s.limit; pattern = s.pattern.now; met = s.met; left = s.left; tallies = s.tallies.items } };
 }
 
 // What no text tells of so many columns.
@@ -68,17 +68,17 @@ fn kind_of(met: bool, tally: Tally) -> Kind
     if met { tally.kind() } else { Kind::Any }
 }
 
-impl KindSampler {
+impl<'a> KindSampler<'a> {
     /// Judges from at most `limit` rows; times are read by the pattern.
     pub fn new(
         alloc: Global,
         columns: usize,
         limit: u32,
-        pattern: Pattern,
-    ) -> Result<KindSampler, AllocError>
+        pattern: &'a Pattern,
+    ) -> Result<KindSampler<'a>, AllocError>
         ensures columns { IfOk result (λ sampler. sampler.columns ≡ columns) }
         ensures limit { IfOk result (λ sampler. sampler.limit ≡ limit) }
-        ensures pattern { IfOk result (λ sampler. sampler.pattern ≡ pattern) }
+        ensures pattern { IfOk result (λ sampler. sampler.pattern ≡ pattern.now) }
         ensures stands { IfOk result (λ sampler. StandsFor sampler []) }
     {
         let tallies = new_tallies(alloc, columns)?;
@@ -103,7 +103,7 @@ impl KindSampler {
             return Ok(());
         }
         self.left -= 1;
-        take_row(self.tallies.as_mut_slice(), &self.pattern, row);
+        take_row(self.tallies.as_mut_slice(), self.pattern, row);
         Ok(())
     }
 

@@ -212,7 +212,7 @@ fn judged(alloc: Global, limit: u32, texts: &[&str]) -> Result<Option<Kind>, All
     let Ok(pattern) = Pattern::read("yyyy-MM-dd hh:mm:ss") else {
         return Ok(None);
     };
-    let mut sampler = KindSampler::new(alloc, 1, limit, pattern)?;
+    let mut sampler = KindSampler::new(alloc, 1, limit, &pattern)?;
     for text in texts {
         let mut row = TextList::new(alloc);
         row.push(Text::from_str(alloc, text)?)?;
@@ -250,7 +250,7 @@ fn kinds_are_judged_from_the_first_rows(rt: HostRuntime) -> Result<(), Fail> {
 #[test]
 fn each_column_has_its_kind(rt: HostRuntime) -> Result<(), Fail> {
     let pattern = Pattern::read("yyyy").map_err(|_| "no pattern")?;
-    let mut sampler = KindSampler::new(rt.alloc(), 3, 10, pattern)?;
+    let mut sampler = KindSampler::new(rt.alloc(), 3, 10, &pattern)?;
     let mut row = TextList::new(rt.alloc());
     row.push(Text::from_str(rt.alloc(), "x")?)?;
     row.push(Text::from_str(rt.alloc(), "2001")?)?;

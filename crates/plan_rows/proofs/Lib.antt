@@ -1,2 +1,2 @@
-mod Masking
-mod Fields
+pub mod Masking
+pub mod Fields

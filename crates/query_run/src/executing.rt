@@ -31,8 +31,8 @@ fn zeros(alloc: Global, size: usize) -> Result<Vec<u8>, AllocError>
     vec![in alloc; 0u8; size]
 }
 
-// The writer before the first row.
-fn first_writer<F: Shape + Drop, P: Picker + Drop>(
+/// The writer before the first row.
+pub fn first_writer<F: Shape + Drop, P: Picker + Drop>(
     alloc: Global,
     mut shape: F,
     picker: P,
@@ -63,8 +63,8 @@ fn first_writer<F: Shape + Drop, P: Picker + Drop>(
     })
 }
 
-// Writes what stands behind the rows, and all that isn't written yet.
-fn finish<F: Shape + Drop, P: Picker + Drop, G: Stage>(
+/// Writes what stands behind the rows, and all that isn't written yet.
+pub fn finish<F: Shape + Drop, P: Picker + Drop, G: Stage>(
     writer: &mut Writer<F, P>,
     stage: &mut G,
 ) -> Result<(), TakeFault>

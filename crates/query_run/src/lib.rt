@@ -9,7 +9,7 @@ mod target;
 mod writer;
 mod writing;
 
-pub use executing::{Counts, write_spans};
+pub use executing::{Counts, finish, first_writer, write_spans};
 pub use picker::{EveryRow, Picker};
 pub use target::Target;
 pub use writer::{Buffers, Writer};

@@ -6,5 +6,5 @@ use Rattle.delimited_input.proofs.sampler.KindSampler.new.Goals as goal
 
 pub returns-clause-stands : goal.returns-clause-stands
 returns-clause-stands c =
-    stands_new c.args.limit _ c.args.pattern c.in_ok-tallies.tallies.items refl
+    stands_new c.args.limit _ c.args.pattern.now c.in_ok-tallies.tallies.items refl
     (c.in_ok-tallies.ensures ∙ ap (λ n. replicate n new_tally) (sym (ap length c.in_ok-tallies.ensures ∙ length-replicate c.args.columns new_tally)))

@@ -1,0 +1,196 @@
+-- What a writer writes of the records that were kept, and what stands before them.
+use Rattle.std.proofs.Common.{◌≡◌, ℕ, Bool, true, List, [], ◌∷◌, ◌++◌, length, map, Option, Some, Ok, ap, ap₂, sym, ◌∙◌, refl, subst, inl, inr, append_assoc, option_map}
+use Rattle.std.proofs.lemmas.List.{append-nil}
+use Rattle.grammar.specs.Trees.{Query}
+use Rattle.lp_model.specs.Outside.{Gains, GainsSome}
+use Rattle.lp_time.specs.declared.piece.Piece.{Piece}
+use Rattle.lp_values.specs.declared.value.Value.{Value}
+use Rattle.log_reading.specs.Found.{Found}
+use Rattle.log_reading.specs.declared.taker.TakeFault.{TakeFault}
+use Rattle.log_reading.specs.declared.taker.TakeFault.TheVariants as F
+use Rattle.query_run.specs.Output.{IsUnderWay}
+use Rattle.query_run.specs.Rows.{picked}
+use Rattle.query_run.specs.Writer.{Writes, Halts}
+use Rattle.query_run.specs.Writing.{TextOf, HasTextOf, PicksOf, picked-append}
+use Rattle.query_run.specs.declared.writer.Writer.{Writer}
+use Rattle.query_tree.specs.Views.{query_of}
+use Rattle.query_types.specs.declared.fault.TypeFault.{TypeFault}
+use Rattle.query_types.specs.Conditions.{filter_of}
+use Rattle.query_types.specs.Planned.{plan_of, planned_in}
+use Rattle.sampled_table.specs.Judged.{judged, table_of}
+use Rattle.sampled_table.specs.Kept.{found_in}
+use Rattle.sampled_table.specs.Picks.{sampled_picks}
+use Rattle.sampled_table.specs.declared.judging.Judged.{Judged}
+use Rattle.sampled_table.specs.declared.picking.SampledPicker.{SampledPicker}
+use Rattle.sampled_run.specs.Past.{Past, Later, Rules, plan_at, rows_at, rows_with, text_at, told_at}
+use Rattle.sampled_run.specs.Holds.{Asks, Begun, Gathers, Holds, IsFront, IsRefused, IsTold, IsWithin, IsWritten, PhaseHolds}
+use Rattle.sampled_run.specs.Laws.{told_stays}
+use Rattle.sampled_run.specs.declared.phase.Phase.{Phase}
+use Rattle.sampled_run.specs.declared.phase.Phase.TheVariants as P
+use Rattle.sampled_run.specs.declared.phase.Sampling.{Sampling}
+use Rattle.sampled_run.specs.Stops.{IsFaultOf, IsStop, stop_of}
+use Rattle.sampled_run.specs.declared.fault.Stop.{Stop}
+use Rattle.sampled_run.specs.declared.fault.Stop.TheVariants as S
+use Rattle.sampled_run.specs.declared.phase.Gathering.{Gathering}
+
+-- ---- a writer, of any picker
+
+pub written_under_way : {F P : Type 0} (text : TextOf F) (has_text : HasTextOf F) (picks : PicksOf P) (first last : Writer F P) (picker : P) (names : List (List ℕ)) (founds : List Found) (u v : Option (List ℕ))
+    → first.picker ≡ picker → IsUnderWay (has_text first.shape true names []) u u first.buffers.held → Writes text has_text picks first u founds last v
+    → IsUnderWay (has_text last.shape true names (picked (picks picker) founds)) u v last.buffers.held
+written_under_way text has_text picks first last picker names founds u v same under_way writes =
+    let Of : _ → Type 0 = λ p. IsUnderWay (has_text last.shape true names (picked (picks p) founds)) u v last.buffers.held in
+    subst Of same (writes.written true names [] u under_way)
+
+pub front_written : {F P : Type 0} (text : TextOf F) (has_text : HasTextOf F) (picks : PicksOf P) (first : Writer F P) (shape : F) (picker : P) (names : List (List ℕ)) (founds more : List Found) (u w : Option (List ℕ))
+    → first.picker ≡ picker → text first.shape ≡ text shape → IsUnderWay (has_text first.shape true names []) u u first.buffers.held → Halts text has_text picks first u founds w
+    → GainsSome u w (text shape true names (picked (picks picker) (founds ++ more)))
+front_written text has_text picks first shape picker names founds more u w same format under_way halts =
+    let rows : picked (picks first.picker) founds ++ picked (picks first.picker) more ≡ picked (picks picker) (founds ++ more) =
+    sym (picked-append (picks first.picker) founds more) ∙ ap (λ p. picked (picks p) (founds ++ more)) same in
+    let whole : text first.shape true names (picked (picks first.picker) founds ++ picked (picks first.picker) more) ≡ text shape true names (picked (picks picker) (founds ++ more)) =
+    ap₂ (λ t rows. t true names rows) format rows in
+    let Of : List ℕ → Type 0 = λ t. GainsSome u w t in
+    subst Of whole (halts.front true names [] (picked (picks first.picker) more) u under_way)
+
+-- ---- the rules of a run
+
+told_same : {F : Type 0} (text : TextOf F) (limit : ℕ) (pattern : List Piece) (query : Query) (rules : Rules) (start now : Option (List ℕ)) (past : Past) (gathering : Gathering F)
+    → Asks limit pattern query rules → Gathers text rules start past gathering now → judged limit pattern gathering.first (map found_in gathering.rows) ≡ told_at rules past
+told_same text limit pattern query rules start now past gathering asks gathers =
+    ap (λ n. judged n pattern gathering.first (map found_in gathering.rows)) asks.limit
+    ∙ (ap (λ p. judged rules.limit p gathering.first (map found_in gathering.rows)) asks.pattern
+    ∙ ap₂ (judged rules.limit rules.pattern) gathers.first gathers.rows)
+
+rows_same : (rules : Rules) (now : Judged) (picker : SampledPicker) (xs ys : List Found) → picker.pattern.now ≡ rules.pattern → picker.told ≡ now → xs ≡ ys
+    → picked (sampled_picks picker.pattern.now picker.told picker.plan.items (option_map filter_of picker.plan.condition)) xs ≡ rows_with rules.pattern now (planned_in picker.plan) ys
+rows_same rules now picker xs ys pattern told_is founds =
+    ap (λ p. rows_with p picker.told (planned_in picker.plan) xs) pattern
+    ∙ (ap (λ t. rows_with rules.pattern t (planned_in picker.plan) xs) told_is
+    ∙ ap (rows_with rules.pattern now (planned_in picker.plan)) founds)
+
+-- the picker of a plan over what was judged
+pub record IsPickerOf (times : List Piece) (asked : Query) (what : Judged) (picker : SampledPicker) : Type 0 where
+  pub planned : plan_of (table_of what) asked ≡ Ok (planned_in picker.plan)
+  pub told : picker.told ≡ what
+  pub pattern : picker.pattern.now ≡ times
+
+pub begun_is : {F : Type 0} (text : TextOf F) (has_text : HasTextOf F) (limit : ℕ) (pattern : List Piece) (query : Query) (gathering : Gathering F) (picker : SampledPicker) (writer : Writer F SampledPicker) (u v : Option (List ℕ))
+    → IsPickerOf pattern query (judged limit pattern gathering.first (map found_in gathering.rows)) picker → writer.picker ≡ picker
+    → IsUnderWay (has_text writer.shape true picker.plan.names (picked (sampled_picks picker.pattern.now picker.told picker.plan.items (option_map filter_of picker.plan.condition)) (map found_in gathering.rows))) u v writer.buffers.held
+    → text writer.shape ≡ text gathering.shape
+    → writer.output ≡ length (picked (sampled_picks picker.pattern.now picker.told picker.plan.items (option_map filter_of picker.plan.condition)) (map found_in gathering.rows))
+    → (rules : Rules) (start : Option (List ℕ)) (past : Past) → Asks limit pattern query rules → Gathers text rules start past gathering u → Begun text has_text rules start past writer v
+begun_is text has_text limit pattern query gathering picker writer u v is same under_way format output rules start past asks gathers =
+    let told = told_same text limit pattern query rules start u past gathering asks gathers in
+    let rows = rows_same rules (told_at rules past) picker (map found_in gathering.rows) past.founds (is.pattern ∙ asks.pattern) (is.told ∙ told) gathers.rows in
+    let Way : SampledPicker → Type 0 = λ p. IsUnderWay (has_text writer.shape true p.plan.names (rows_at rules past (planned_in p.plan))) start v writer.buffers.held in
+    let Rows : List (List Value) → Type 0 = λ t. IsUnderWay (has_text writer.shape true picker.plan.names t) start v writer.buffers.held in
+    let Start : Option (List ℕ) → Type 0 = λ t. IsUnderWay (has_text writer.shape true picker.plan.names (picked (sampled_picks picker.pattern.now picker.told picker.plan.items (option_map filter_of picker.plan.condition)) (map found_in gathering.rows))) t v writer.buffers.held in
+    record {
+      planned = sym (ap₂ (λ t q. plan_of (table_of t) q) told asks.query) ∙ (is.planned ∙ ap (λ (p : SampledPicker). Ok (planned_in p.plan)) (sym same));
+      told = ap (λ (p : SampledPicker). p.told) same ∙ (is.told ∙ told);
+      pattern = ap (λ (p : SampledPicker). p.pattern.now) same ∙ (is.pattern ∙ asks.pattern);
+      under_way = subst Way (sym same) (subst Rows rows (subst Start gathers.nothing under_way));
+      format = format ∙ gathers.format;
+      output = output ∙ (ap length rows ∙ ap (λ (p : SampledPicker). length (rows_at rules past (planned_in p.plan))) (sym same));
+    }
+
+pub begun_within : {F : Type 0} (text : TextOf F) (limit : ℕ) (pattern : List Piece) (query : Query) (gathering : Gathering F) (picker : SampledPicker) (u v : Option (List ℕ))
+    → IsPickerOf pattern query (judged limit pattern gathering.first (map found_in gathering.rows)) picker
+    → ((more : List Found) → GainsSome u v (text gathering.shape true picker.plan.names (picked (sampled_picks picker.pattern.now picker.told picker.plan.items (option_map filter_of picker.plan.condition)) (map found_in gathering.rows ++ more))))
+    → (rules : Rules) (start : Option (List ℕ)) (past later : Past) → Asks limit pattern query rules → Gathers text rules start past gathering u → Later past later → told_at rules later ≡ told_at rules past → IsWithin rules start later v
+begun_within text limit pattern query gathering picker u v is front rules start past later asks gathers follows stays =
+    let told = told_same text limit pattern query rules start u past gathering asks gathers ∙ sym stays in
+    let founds : map found_in gathering.rows ++ follows.more ≡ later.founds = ap (λ t. t ++ follows.more) gathers.rows ∙ sym follows.founds in
+    let rows = rows_same rules (told_at rules later) picker (map found_in gathering.rows ++ follows.more) later.founds (is.pattern ∙ asks.pattern) (is.told ∙ told) founds in
+    let whole : text gathering.shape true picker.plan.names (picked (sampled_picks picker.pattern.now picker.told picker.plan.items (option_map filter_of picker.plan.condition)) (map found_in gathering.rows ++ follows.more)) ≡ text_at rules later (planned_in picker.plan) =
+    ap₂ (λ t rows. t true picker.plan.names rows) gathers.format rows in
+    let Of : Option (List ℕ) → List ℕ → Type 0 = λ s t. GainsSome s v t in
+    record {
+      plan = planned_in picker.plan;
+      planned = sym (ap₂ (λ t q. plan_of (table_of t) q) told asks.query) ∙ is.planned;
+      front = subst (λ (s : Option (List ℕ)). Of s (text_at rules later (planned_in picker.plan))) gathers.nothing (subst (Of u) whole (front follows.more));
+    }
+
+-- no plan was made, and nothing written
+pub nothing_begun : {F : Type 0} (text : TextOf F) (limit : ℕ) (pattern : List Piece) (query : Query) (gathering : Gathering F) (stop : Stop) (u : Option (List ℕ))
+    → IsFaultOf (plan_of (table_of (judged limit pattern gathering.first (map found_in gathering.rows))) query) stop
+    → (rules : Rules) (start : Option (List ℕ)) (past later : Past) → Asks limit pattern query rules → Gathers text rules start past gathering u → told_at rules later ≡ told_at rules past → IsStop rules start later stop u
+nothing_begun text limit pattern query gathering (S.Plan fault) u is rules start past later asks gathers stays =
+    let told = told_same text limit pattern query rules start u past gathering asks gathers ∙ sym stays in
+    record { fault = sym (ap₂ (λ t q. plan_of (table_of t) q) told asks.query) ∙ is; nothing = gathers.nothing }
+nothing_begun text limit pattern query gathering S.Output u is rules start past later asks gathers stays = absurd is
+nothing_begun text limit pattern query gathering S.Memory u is rules start past later asks gathers stays = inl gathers.nothing
+
+-- a writer failed
+pub failed_begun : (rules : Rules) (start : Option (List ℕ)) (later : Past) (fault : TakeFault) (v : Option (List ℕ)) → IsWithin rules start later v → IsStop rules start later (stop_of fault) v
+failed_begun rules start later F.Memory v within = inr within
+failed_begun rules start later F.Stopped v within = inr within
+failed_begun rules start later F.Failed v within = inr within
+
+-- ---- the turn from keeping records to writing
+
+pub turned : {F : Type 0} (text : TextOf F) (has_text : HasTextOf F) (old : Sampling F) (gathering : Gathering F) (writer : Writer F SampledPicker) (u v : Option (List ℕ)) → old.phase ≡ P.Gathering gathering
+    → ((rules : Rules) (start : Option (List ℕ)) (past : Past) → Asks old.limit old.pattern.now (query_of old.query.now) rules → Gathers text rules start past gathering u → Begun text has_text rules start past writer v)
+    → (rules : Rules) (start : Option (List ℕ)) (past : Past) → Holds text has_text rules start past old u → IsTold rules past → Holds text has_text rules start past (record old { phase = P.Writing writer }) v
+turned {F = F} text has_text old gathering writer u v is begun rules start past holds told =
+    let Of : Phase F → Type 0 = λ p. PhaseHolds text has_text rules start past p u in
+    record { asks = holds.asks; phase = record { told = told; begun = begun rules start past holds.asks (subst Of is holds.phase) } }
+
+-- the same, where it stopped
+pub turn_stopped : {F : Type 0} (text : TextOf F) (has_text : HasTextOf F) (old : Sampling F) (gathering : Gathering F) (stop : Stop) (u v : Option (List ℕ)) → old.phase ≡ P.Gathering gathering
+    → ((rules : Rules) (start : Option (List ℕ)) (past later : Past) → Asks old.limit old.pattern.now (query_of old.query.now) rules → Gathers text rules start past gathering u → Later past later → told_at rules later ≡ told_at rules past → IsStop rules start later stop v)
+    → (rules : Rules) (start : Option (List ℕ)) (past later : Past) → Holds text has_text rules start past old u → IsTold rules past → Later past later → IsStop rules start later stop v
+turn_stopped {F = F} text has_text old gathering stop u v is stopped rules start past later holds told follows =
+    let Of : Phase F → Type 0 = λ p. PhaseHolds text has_text rules start past p u in
+    stopped rules start past later holds.asks (subst Of is holds.phase) follows (told_stays rules past later told follows)
+
+-- ---- the end of a run
+
+pub ended : {F : Type 0} (text : TextOf F) (has_text : HasTextOf F) (rules : Rules) (start u v : Option (List ℕ)) (past : Past) (writer : Writer F SampledPicker) (output : ℕ)
+    → output ≡ writer.output
+    → ((fresh : Bool) (names : List (List ℕ)) (rows : List (List Value)) (start : Option (List ℕ)) → IsUnderWay (has_text writer.shape fresh names rows) start u writer.buffers.held → Gains start v (text writer.shape fresh names rows))
+    → Begun text has_text rules start past writer u → IsWritten rules start past output v
+ended text has_text rules start u v past writer output same whole begun =
+    let plan = planned_in writer.picker.plan in
+    let Of : List ℕ → Type 0 = λ t. Gains start v t in
+    record {
+      plan = plan;
+      planned = begun.planned;
+      text = subst Of (ap (λ t. t true plan.names (rows_at rules past plan)) begun.format) (whole true plan.names (rows_at rules past plan) start begun.under_way);
+      output = same ∙ begun.output;
+    }
+
+pub end_within : {F : Type 0} (text : TextOf F) (has_text : HasTextOf F) (rules : Rules) (start u v : Option (List ℕ)) (past : Past) (writer : Writer F SampledPicker)
+    → ((fresh : Bool) (names : List (List ℕ)) (rows : List (List Value)) (start : Option (List ℕ)) → IsUnderWay (has_text writer.shape fresh names rows) start u writer.buffers.held → GainsSome start v (text writer.shape fresh names rows))
+    → Begun text has_text rules start past writer u → IsWithin rules start past v
+end_within text has_text rules start u v past writer front begun =
+    let plan = planned_in writer.picker.plan in
+    let Of : List ℕ → Type 0 = λ t. GainsSome start v t in
+    record {
+      plan = plan;
+      planned = begun.planned;
+      front = subst Of (ap (λ t. t true plan.names (rows_at rules past plan)) begun.format) (front true plan.names (rows_at rules past plan) start begun.under_way);
+    }
+
+-- what holds of the phase at the end
+pub at_gathering : {F : Type 0} (text : TextOf F) (has_text : HasTextOf F) (sampling : Sampling F) (gathering : Gathering F) (rules : Rules) (start u : Option (List ℕ)) (past : Past) → sampling.phase ≡ P.Gathering gathering → Holds text has_text rules start past sampling u → Gathers text rules start past gathering u
+at_gathering {F = F} text has_text sampling gathering rules start u past is holds =
+    let Of : Phase F → Type 0 = λ p. PhaseHolds text has_text rules start past p u in
+    subst Of is holds.phase
+
+pub at_writing : {F : Type 0} (text : TextOf F) (has_text : HasTextOf F) (sampling : Sampling F) (writer : Writer F SampledPicker) (rules : Rules) (start u : Option (List ℕ)) (past : Past) → sampling.phase ≡ P.Writing writer → Holds text has_text rules start past sampling u → Begun text has_text rules start past writer u
+at_writing {F = F} text has_text sampling writer rules start u past is holds =
+    let Of : Phase F → Type 0 = λ p. PhaseHolds text has_text rules start past p u in
+    (subst Of is holds.phase).begun
+
+pub at_refused : {F : Type 0} (text : TextOf F) (has_text : HasTextOf F) (sampling : Sampling F) (plan : TypeFault) (rules : Rules) (start u : Option (List ℕ)) (past : Past) → sampling.phase ≡ P.Refused plan → Holds text has_text rules start past sampling u → ⊥
+at_refused {F = F} text has_text sampling plan rules start u past is holds =
+    let Of : Phase F → Type 0 = λ p. PhaseHolds text has_text rules start past p u in
+    subst Of is holds.phase
+
+pub at_lost : {F : Type 0} (text : TextOf F) (has_text : HasTextOf F) (sampling : Sampling F) (rules : Rules) (start u : Option (List ℕ)) (past : Past) → sampling.phase ≡ P.Lost → Holds text has_text rules start past sampling u → ⊥
+at_lost {F = F} text has_text sampling rules start u past is holds =
+    let Of : Phase F → Type 0 = λ p. PhaseHolds text has_text rules start past p u in
+    subst Of is holds.phase

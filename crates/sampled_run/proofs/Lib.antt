@@ -1,0 +1,10 @@
+mod Kept
+mod Begun
+mod Records
+mod Taken
+mod SetsOnce
+mod Delimited
+mod Behind
+mod Ran
+mod Answered
+mod Sizes

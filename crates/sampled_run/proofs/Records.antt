@@ -1,0 +1,206 @@
+-- One record more, or some.
+use Rattle.std.proofs.Common.{◌≡◌, ℕ, ◌+◌, ◌<◌, ◌≤◌, Bool, true, List, [], ◌∷◌, ◌++◌, length, map, Option, Some, None, Ok, ap, ap₂, sym, ◌∙◌, refl, subst, inl, inr, arith, append_assoc, option_map, length-append}
+use Rattle.std.proofs.lemmas.List.{length-map}
+use Rattle.lp_model.specs.Outside.{GainsSome}
+use Rattle.lp_time.specs.declared.piece.Piece.{Piece}
+use Rattle.lp_values.specs.declared.value.Value.{Value}
+use Rattle.log_reading.specs.Found.{Found}
+use Rattle.query_run.specs.Output.{IsUnderWay}
+use Rattle.query_run.specs.Rows.{picked}
+use Rattle.query_run.specs.Writer.{Writes}
+use Rattle.query_run.specs.Writer.{Halts as WriterHalts}
+use Rattle.query_run.specs.Writing.{TextOf, HasTextOf}
+use Rattle.query_run.specs.declared.writer.Writer.{Writer}
+use Rattle.query_types.specs.Conditions.{filter_of}
+use Rattle.query_types.specs.Planned.{plan_of, planned_in}
+use Rattle.sampled_table.specs.Judged.{table_of}
+use Rattle.sampled_table.specs.Kept.{found_in}
+use Rattle.sampled_table.specs.Picks.{sampled_picks}
+use Rattle.sampled_table.specs.declared.judging.Judged.{Judged}
+use Rattle.sampled_table.specs.declared.kept.FirstLog.{FirstLog}
+use Rattle.sampled_table.specs.declared.picking.SampledPicker.{SampledPicker}
+use Rattle.sampled_run.specs.Past.{Past, Later, Rules, first_seen, log_of, past_with, plan_at, rows_at, rows_with, text_at, told_at}
+use Rattle.sampled_run.specs.Holds.{Asks, Begun, Gathers, Holds, IsFront, IsTold, IsWithin, PhaseHolds, PhaseStopped, WritesOn}
+use Rattle.query_types.specs.declared.fault.TypeFault.{TypeFault}
+use Rattle.sampled_run.specs.Laws.{Samples, Halts, later_with, rows_more, told_stays}
+use Rattle.sampled_run.specs.declared.phase.Gathering.{Gathering}
+use Rattle.sampled_run.specs.declared.phase.Phase.{Phase}
+use Rattle.sampled_run.specs.declared.phase.Phase.TheVariants as P
+use Rattle.sampled_run.specs.declared.phase.Sampling.{Sampling}
+
+-- what a picker makes of a record
+abbrev pub picks_of : SampledPicker → Found → Option (List Value)
+picks_of picker = sampled_picks picker.pattern.now picker.told picker.plan.items (option_map filter_of picker.plan.condition)
+
+-- ---- a record that is kept
+
+pub gathers_more : {F : Type 0} (text : TextOf F) (rules : Rules) (start now : Option (List ℕ)) (past : Past) (old new : Gathering F) (found : Found)
+    → new.first ≡ first_seen old.first (found ∷ []) → map found_in new.rows ≡ map found_in old.rows ++ found ∷ [] → new.shape ≡ old.shape
+    → Gathers text rules start past old now → Gathers text rules start (past_with past (found ∷ [])) new now
+gathers_more text rules start now past old new found first rows shape gathers = record {
+  format = ap text shape ∙ gathers.format;
+  first = first ∙ ap (λ (f : Option FirstLog). first_seen f (found ∷ [])) gathers.first;
+  rows = rows ∙ ap (λ t. t ++ found ∷ []) gathers.rows;
+  nothing = gathers.nothing;
+}
+
+log_known : (first : Option FirstLog) (found : Found) → (log : FirstLog) × (first_seen first (found ∷ []) ≡ Some log)
+log_known (Some log) found = (log, refl)
+log_known None found = (log_of found, refl)
+
+-- with the last record the columns are told
+pub told_now : {F : Type 0} (text : TextOf F) (rules : Rules) (start now : Option (List ℕ)) (past : Past) (new : Gathering F) (found : Found)
+    → rules.limit ≤ length new.rows → Gathers text rules start (past_with past (found ∷ [])) new now → IsTold rules (past_with past (found ∷ []))
+told_now text rules start now past new found enough gathers =
+    let known = log_known past.first found in
+    let kept : length new.rows ≡ length (past.founds ++ found ∷ []) = sym (length-map new.rows found_in) ∙ ap length gathers.rows in
+    let size = length-append past.founds (found ∷ []) in
+    record { log = known.0; known = known.1; some = omega arith; enough = omega arith }
+
+-- ---- records that are written
+
+told_more : (rules : Rules) (past : Past) (founds : List Found) → IsTold rules past → IsTold rules (past_with past founds)
+told_more rules past founds is =
+    let size = length-append past.founds founds in
+    let some = is.some in
+    let enough = is.enough in
+    record { log = is.log; known = ap (λ (f : Option FirstLog). first_seen f founds) is.known; some = omega arith; enough = omega arith }
+
+picks_same : (rules : Rules) (told : Judged) (picker : SampledPicker) (founds : List Found) → picker.told ≡ told → picker.pattern.now ≡ rules.pattern → picked (picks_of picker) founds ≡ rows_with rules.pattern told (planned_in picker.plan) founds
+picks_same rules told picker founds same pattern =
+    ap (λ p. rows_with p picker.told (planned_in picker.plan) founds) pattern ∙ ap (λ t. rows_with rules.pattern t (planned_in picker.plan) founds) same
+
+-- the rows so far, and those of some records more
+rows_joined : (rules : Rules) (past later : Past) (picker : SampledPicker) (more : List Found) → IsTold rules past → Later past later → later.founds ≡ past.founds ++ more → picker.told ≡ told_at rules past → picker.pattern.now ≡ rules.pattern
+    → rows_at rules past (planned_in picker.plan) ++ picked (picks_of picker) more ≡ rows_at rules later (planned_in picker.plan)
+rows_joined rules past later picker more is follows founds told pattern =
+    let plan = planned_in picker.plan in
+    ap (λ t. rows_at rules past plan ++ t) (picks_same rules (told_at rules past) picker more told pattern)
+    ∙ (sym (rows_more rules.pattern (told_at rules past) plan past.founds more)
+    ∙ ap₂ (λ t founds. rows_with rules.pattern t plan founds) (sym (told_stays rules past later is follows)) (sym founds))
+
+pub writes_more : {F : Type 0} (text : TextOf F) (has_text : HasTextOf F) (rules : Rules) (start u v : Option (List ℕ)) (past : Past) (old new : Writer F SampledPicker) (founds : List Found)
+    → Writes text has_text picks_of old u founds new v → WritesOn text has_text rules start past old u → WritesOn text has_text rules start (past_with past founds) new v
+writes_more text has_text rules start u v past old new founds writes on =
+    let begun = on.begun in
+    let later = past_with past founds in
+    let stays = told_stays rules past later on.told (later_with past founds) in
+    let rows = rows_joined rules past later old.picker founds on.told (later_with past founds) refl begun.told begun.pattern in
+    let same = writes.picker in
+    let Way : SampledPicker → Type 0 = λ p. IsUnderWay (has_text new.shape true p.plan.names (rows_at rules later (planned_in p.plan))) start v new.buffers.held in
+    let Rows : List (List Value) → Type 0 = λ t. IsUnderWay (has_text new.shape true old.picker.plan.names t) start v new.buffers.held in
+    let count : length (rows_at rules later (planned_in old.picker.plan)) ≡ length (rows_at rules past (planned_in old.picker.plan)) + length (picked (picks_of old.picker) founds) =
+    ap length (sym rows) ∙ length-append (rows_at rules past (planned_in old.picker.plan)) (picked (picks_of old.picker) founds) in
+    record {
+      told = told_more rules past founds on.told;
+      begun = record {
+        planned = ap (λ t. plan_of (table_of t) rules.query) stays ∙ (begun.planned ∙ ap (λ (p : SampledPicker). Ok (planned_in p.plan)) (sym same));
+        told = ap (λ (p : SampledPicker). p.told) same ∙ (begun.told ∙ sym stays);
+        pattern = ap (λ (p : SampledPicker). p.pattern.now) same ∙ begun.pattern;
+        under_way = subst Way (sym same) (subst Rows rows (writes.written true old.picker.plan.names (rows_at rules past (planned_in old.picker.plan)) start begun.under_way));
+        format = writes.format ∙ begun.format;
+        output = writes.output ∙ (ap (λ n. n + length (picked (picks_of old.picker) founds)) begun.output ∙ (sym count ∙ ap (λ (p : SampledPicker). length (rows_at rules later (planned_in p.plan))) (sym same)));
+      };
+    }
+
+-- it stopped within them
+pub halts_front : {F : Type 0} (text : TextOf F) (has_text : HasTextOf F) (rules : Rules) (start u v : Option (List ℕ)) (past later : Past) (old : Writer F SampledPicker) (founds : List Found)
+    → WriterHalts text has_text picks_of old u founds v → WritesOn text has_text rules start past old u → Later (past_with past founds) later → IsFront rules start later v
+halts_front text has_text rules start u v past later old founds halts on follows =
+    let begun = on.begun in
+    let picker = old.picker in
+    let plan = planned_in picker.plan in
+    let more = follows.more in
+    let all : later.founds ≡ past.founds ++ (founds ++ more) = follows.founds ∙ append_assoc past.founds founds more in
+    let after : Later past later = record { more = founds ++ more; founds = all; first = λ log known. follows.first log (ap (λ (f : Option FirstLog). first_seen f founds) known) } in
+    let stays = told_stays rules past later on.told after in
+    let rows : rows_at rules past plan ++ (picked (picks_of picker) founds ++ picked (picks_of picker) more) ≡ rows_at rules later plan =
+    ap (λ t. rows_at rules past plan ++ t) (sym (picked_both picker founds more)) ∙ rows_joined rules past later picker (founds ++ more) on.told after all begun.told begun.pattern in
+    let whole : text old.shape true plan.names (rows_at rules past plan ++ (picked (picks_of picker) founds ++ picked (picks_of picker) more)) ≡ text_at rules later plan =
+    ap₂ (λ t rows. t true plan.names rows) begun.format rows in
+    let Of : List ℕ → Type 0 = λ t. GainsSome start v t in
+    inr (record {
+      plan = plan;
+      planned = ap (λ t. plan_of (table_of t) rules.query) stays ∙ begun.planned;
+      front = subst Of whole (halts.front true plan.names (rows_at rules past plan) (picked (picks_of picker) more) start begun.under_way);
+    })
+  where
+    picked_both : (picker : SampledPicker) (xs ys : List Found) → picked (picks_of picker) (xs ++ ys) ≡ picked (picks_of picker) xs ++ picked (picks_of picker) ys
+    picked_both picker xs ys = rows_more picker.pattern.now picker.told (planned_in picker.plan) xs ys
+
+-- ---- the phases of a run
+
+abbrev pub at_phase : {F : Type 0} → Sampling F → Phase F → Sampling F
+at_phase sampling phase = record sampling { phase = phase }
+
+phase_is : {F : Type 0} (text : TextOf F) (has_text : HasTextOf F) (rules : Rules) (start now : Option (List ℕ)) (past : Past) (old : Sampling F) (phase : Phase F) → old.phase ≡ phase → Holds text has_text rules start past old now → PhaseHolds text has_text rules start past phase now
+phase_is {F = F} text has_text rules start now past old phase is holds =
+    let Of : Phase F → Type 0 = λ p. PhaseHolds text has_text rules start past p now in
+    subst Of is holds.phase
+
+pub samples_writing : {F : Type 0} (text : TextOf F) (has_text : HasTextOf F) (old : Sampling F) (first last : Writer F SampledPicker) (u v : Option (List ℕ)) (founds : List Found)
+    → old.phase ≡ P.Writing first → Writes text has_text picks_of first u founds last v → Samples text has_text old u founds (at_phase old (P.Writing last)) v
+samples_writing text has_text old first last u v founds is writes = record {
+  along = λ rules start past holds. record {
+    asks = holds.asks;
+    phase = writes_more text has_text rules start u v past first last founds writes (phase_is text has_text rules start u past old (P.Writing first) is holds);
+  };
+}
+
+pub halts_writing : {F : Type 0} (text : TextOf F) (has_text : HasTextOf F) (old : Sampling F) (first last : Writer F SampledPicker) (u v : Option (List ℕ)) (founds : List Found)
+    → old.phase ≡ P.Writing first → WriterHalts text has_text picks_of first u founds v → Halts text has_text old u founds (at_phase old (P.Writing last)) v
+halts_writing text has_text old first last u v founds is halts = record {
+  within = λ rules start past holds later follows.
+      halts_front text has_text rules start u v past later first founds halts (phase_is text has_text rules start u past old (P.Writing first) is holds) follows;
+}
+
+pub samples_gathering : {F : Type 0} (text : TextOf F) (has_text : HasTextOf F) (old : Sampling F) (first last : Gathering F) (u : Option (List ℕ)) (found : Found)
+    → old.phase ≡ P.Gathering first → last.first ≡ first_seen first.first (found ∷ []) → map found_in last.rows ≡ map found_in first.rows ++ found ∷ [] → last.shape ≡ first.shape
+    → Samples text has_text old u (found ∷ []) (at_phase old (P.Gathering last)) u
+samples_gathering text has_text old first last u found is log rows shape = record {
+  along = λ rules start past holds. record {
+    asks = holds.asks;
+    phase = gathers_more text rules start u past first last found log rows shape (phase_is text has_text rules start u past old (P.Gathering first) is holds);
+  };
+}
+
+-- a record that couldn't be kept
+pub halts_gathering : {F : Type 0} (text : TextOf F) (has_text : HasTextOf F) (old : Sampling F) (first last : Gathering F) (u : Option (List ℕ)) (founds : List Found)
+    → old.phase ≡ P.Gathering first → Halts text has_text old u founds (at_phase old (P.Gathering last)) u
+halts_gathering text has_text old first last u founds is = record {
+  within = λ rules start past holds later follows. inl (phase_is text has_text rules start u past old (P.Gathering first) is holds).nothing;
+}
+
+-- the record with which the columns are told
+pub samples_turning : {F : Type 0} (text : TextOf F) (has_text : HasTextOf F) (old new : Sampling F) (first last : Gathering F) (u v : Option (List ℕ)) (found : Found)
+    → old.phase ≡ P.Gathering first → last.first ≡ first_seen first.first (found ∷ []) → map found_in last.rows ≡ map found_in first.rows ++ found ∷ [] → last.shape ≡ first.shape → old.limit ≤ length last.rows
+    → ((rules : Rules) (start : Option (List ℕ)) (past : Past) → Holds text has_text rules start past (at_phase old (P.Gathering last)) u → IsTold rules past → Holds text has_text rules start past new v)
+    → Samples text has_text old u (found ∷ []) new v
+samples_turning text has_text old new first last u v found is log rows shape enough turned = record {
+  along = λ rules start past holds.
+      let gathers = gathers_more text rules start u past first last found log rows shape (phase_is text has_text rules start u past old (P.Gathering first) is holds) in
+      let limit = holds.asks.limit in
+      turned rules start (past_with past (found ∷ [])) (record { asks = holds.asks; phase = gathers }) (told_now text rules start u past last found (omega arith) gathers);
+}
+
+pub halts_turning : {F : Type 0} (text : TextOf F) (has_text : HasTextOf F) (old new : Sampling F) (first last : Gathering F) (u v : Option (List ℕ)) (found : Found)
+    → old.phase ≡ P.Gathering first → last.first ≡ first_seen first.first (found ∷ []) → map found_in last.rows ≡ map found_in first.rows ++ found ∷ [] → last.shape ≡ first.shape → old.limit ≤ length last.rows
+    → ((rules : Rules) (start : Option (List ℕ)) (past later : Past) → Holds text has_text rules start past (at_phase old (P.Gathering last)) u → IsTold rules past → Later past later → PhaseStopped rules start later new.phase v)
+    → Halts text has_text old u (found ∷ []) new v
+halts_turning text has_text old new first last u v found is log rows shape enough stopped = record {
+  within = λ rules start past holds later follows.
+      let gathers = gathers_more text rules start u past first last found log rows shape (phase_is text has_text rules start u past old (P.Gathering first) is holds) in
+      let limit = holds.asks.limit in
+      stopped rules start (past_with past (found ∷ [])) later (record { asks = holds.asks; phase = gathers }) (told_now text rules start u past last found (omega arith) gathers) follows;
+}
+
+-- nothing is taken behind a refusal
+pub halts_refused : {F : Type 0} (text : TextOf F) (has_text : HasTextOf F) (old new : Sampling F) (u v : Option (List ℕ)) (founds : List Found) (plan : TypeFault) → old.phase ≡ P.Refused plan → Halts text has_text old u founds new v
+halts_refused text has_text old new u v founds plan is = record {
+  within = λ rules start past holds later follows. absurd (phase_is text has_text rules start u past old (P.Refused plan) is holds);
+}
+
+pub halts_lost : {F : Type 0} (text : TextOf F) (has_text : HasTextOf F) (old new : Sampling F) (u v : Option (List ℕ)) (founds : List Found) → old.phase ≡ P.Lost → Halts text has_text old u founds new v
+halts_lost text has_text old new u v founds is = record {
+  within = λ rules start past holds later follows. absurd (phase_is text has_text rules start u past old P.Lost is holds);
+}

@@ -1,0 +1,47 @@
+use Rattle.std.proofs.Common.{map, arith}
+use Rattle.lp_model.proofs.Results.{on_err}
+use Rattle.query_run.specs.Rows.{picked}
+use Rattle.query_run.proofs.WholeRun.{gains_none}
+use Rattle.sampled_table.specs.Kept.{found_in}
+use Rattle.sampled_run.proofs.Begun.{front_written, written_under_way}
+use Rattle.sampled_run.proofs.beginning.write_kept.Goals as goal
+use Rattle.std.proofs.Common.{◌∙◌, ◌++◌, ap, length, true, List, ℕ}
+
+pub returns-in_default-clause-front : goal.returns-in_default-clause-front
+returns-in_default-clause-front g c = λ more. gains_none _ (g.F.Shape.text c.args.shape true c.args.names.now (picked (g.P.Picker.picks c.args.picker) (map found_in c.args.rows.now ++ more)))
+
+pub returns-in_err-give_kept-clause-front : goal.returns-in_err-give_kept-clause-front
+returns-in_err-give_kept-clause-front g c = on_err _ c.from_residual.result (λ more.
+    let u = (g.G.Stage.state c.args.stage.now).written in
+    let made = c.in-Ok.ensures in
+    front_written g.F.Shape.text g.F.Shape.has_text g.P.Picker.picks c.in-Ok.writer c.args.shape c.args.picker c.args.names.now (map found_in c.args.rows.now) more u (g.G.Stage.state c.give_kept.new.out).written
+    made.picker made.format (made.text u) c.in_err-give_kept.ensures.stops)
+
+pub returns-clause-under_way : goal.returns-clause-under_way
+returns-clause-under_way g c =
+    let u = (g.G.Stage.state c.args.stage.now).written in
+    let made = c.in-Ok.ensures in
+    written_under_way g.F.Shape.text g.F.Shape.has_text g.P.Picker.picks c.in-Ok.writer c.give_kept.new.taker c.args.picker c.args.names.now (map found_in c.args.rows.now) u (g.G.Stage.state c.give_kept.new.out).written
+    made.picker (made.text u) c.in_ok-give_kept.ensures.takes
+
+pub returns-clause-format : goal.returns-clause-format
+returns-clause-format g c = (c.in_ok-give_kept.ensures.takes).format ∙ c.in-Ok.ensures.format
+
+pub returns-clause-picker : goal.returns-clause-picker
+returns-clause-picker g c = (c.in_ok-give_kept.ensures.takes).picker ∙ c.in-Ok.ensures.picker
+
+pub returns-clause-output : goal.returns-clause-output
+returns-clause-output g c =
+    let added = (c.in_ok-give_kept.ensures.takes).output in
+    let before = c.in-Ok.ensures.output in
+    let same = ap (λ p. length (picked (g.P.Picker.picks p) (map found_in c.args.rows.now))) c.in-Ok.ensures.picker in
+    omega arith
+
+pub returns-then-not-is_countable-clause-front : goal.returns-then-not-is_countable-clause-front
+returns-then-not-is_countable-clause-front g c = λ more. gains_none _ (g.F.Shape.text c.args.shape true c.args.names.now (picked (g.P.Picker.picks c.args.picker) (map found_in c.args.rows.now ++ more)))
+
+pub give_kept-requires : goal.give_kept-requires
+give_kept-requires g c =
+    let few = c.is_countable.ensures c.if-not-is_countable.false in
+    let none = c.in-Ok.ensures.taken in
+    omega arith

@@ -1,0 +1,62 @@
+use Rattle.std.proofs.Common.{◌≡◌, [], ◌∷◌, refl, sym, ◌∙◌, ap, subst, true, false, ℕ, List, Option, None, IfOk, IfErr}
+use Rattle.lp_model.specs.Outside.{Folder, Told}
+use Rattle.query_tree.specs.Views.{query_of}
+use Rattle.log_reading.specs.Page.{IsTooMany}
+use Rattle.log_reading.specs.Spans.{AreKept, spans_bad_lines}
+use Rattle.delimited_input.specs.declared.options.DelimitedOptions.{DelimitedOptions}
+use Rattle.delimited_input.specs.Lines.{delimited_lines}
+use Rattle.output_formats.specs.Headers.{csv_of}
+use Rattle.output_formats.specs.declared.csv.Headers.{Headers}
+use Rattle.query_run.specs.declared.executing.Counts.{Counts}
+use Rattle.sampled_run.specs.declared.fault.SampleFault.{SampleFault}
+use Rattle.sampled_run.specs.Past.{Past, Rules, rules_of}
+use Rattle.sampled_run.specs.Spans.{past_behind, past_of}
+use Rattle.sampled_run.specs.Ran.{IsSampled, IsStoppedBy, OnBadOne}
+use Rattle.sampled_run.proofs.Answered.{if_ok, if_err}
+use Rattle.sampled_run.proofs.Delimited.{delimited_sets_once}
+use Rattle.sampled_run.proofs.Ran.{nothing, ran_told, stopped_told}
+use Rattle.sampled_run.proofs.formats.run_sampled.Goals as goal
+
+pub returns-clause-ran : goal.returns-clause-ran
+returns-clause-ran g c =
+    let told = g.L.Logs.folder c.sample_reader.new.logs in
+    let u = (g.G.Stage.state c.args.stage.now).written in
+    let v = (g.G.Stage.state c.sample_reader.new.stage).written in
+    let spans = c.args.spans.now in
+    let rules : Headers → Rules = λ headers. rules_of c.args.limit c.args.pattern.now (query_of c.args.query.now) (csv_of headers) in
+    let Behind : DelimitedOptions → Headers → Counts → Type 0 = λ options headers counts. Told told (λ folder. AreKept (delimited_lines options) false spans folder
+    → IsSampled (rules headers) u (past_behind (delimited_lines options) false folder nothing spans) (delimited_lines options) folder spans counts v) in
+    let given = subst (λ (options : DelimitedOptions). IfOk c.sample_reader.result (Behind options c.new-shape.result)) c.in-Ok.ensures.ok c.sample_reader.ensures.ran in
+    let named = subst (λ (headers : Headers). IfOk c.sample_reader.result (Behind c.args.options headers)) c.new-shape.ensures given in
+    if_ok (Behind c.args.options c.args.headers)
+    (λ (counts : Counts). Told told (λ folder. AreKept (delimited_lines c.args.options) false spans folder
+    → IsSampled (rules c.args.headers) u (past_of (delimited_lines c.args.options) false folder spans) (delimited_lines c.args.options) folder spans counts v))
+    c.sample_reader.result
+    (λ counts. ran_told (rules c.args.headers) (delimited_lines c.args.options) (delimited_sets_once c.args.options) told spans u v counts)
+    named
+
+pub returns-clause-stopped : goal.returns-clause-stopped
+returns-clause-stopped g c =
+    let told = g.L.Logs.folder c.sample_reader.new.logs in
+    let u = (g.G.Stage.state c.args.stage.now).written in
+    let v = (g.G.Stage.state c.sample_reader.new.stage).written in
+    let spans = c.args.spans.now in
+    let rules : Headers → Rules = λ headers. rules_of c.args.limit c.args.pattern.now (query_of c.args.query.now) (csv_of headers) in
+    let Behind : DelimitedOptions → Headers → SampleFault → Type 0 = λ options headers fault. Told told (λ folder. AreKept (delimited_lines options) false spans folder
+    → IsStoppedBy (rules headers) u (past_behind (delimited_lines options) false folder nothing spans) fault v) in
+    let given = subst (λ (options : DelimitedOptions). IfErr c.sample_reader.result (Behind options c.new-shape.result)) c.in-Ok.ensures.ok c.sample_reader.ensures.stopped in
+    let named = subst (λ (headers : Headers). IfErr c.sample_reader.result (Behind c.args.options headers)) c.new-shape.ensures given in
+    if_err (Behind c.args.options c.args.headers)
+    (λ (fault : SampleFault). Told told (λ folder. AreKept (delimited_lines c.args.options) false spans folder
+    → IsStoppedBy (rules c.args.headers) u (past_of (delimited_lines c.args.options) false folder spans) fault v))
+    c.sample_reader.result
+    (λ fault. stopped_told (rules c.args.headers) (delimited_lines c.args.options) (delimited_sets_once c.args.options) told spans u v fault)
+    named
+
+pub returns-clause-too_many : goal.returns-clause-too_many
+returns-clause-too_many g c =
+    let told = g.L.Logs.folder c.sample_reader.new.logs in
+    let spans = c.args.spans.now in
+    let Of : DelimitedOptions → Type 0 = λ options. IfErr c.sample_reader.result (λ fault. OnBadOne fault (λ line. Told told (λ folder. AreKept (delimited_lines options) false spans folder
+    → IsTooMany c.args.most_bad 0 (spans_bad_lines (delimited_lines options) false folder spans) line))) in
+    subst Of c.in-Ok.ensures.ok c.sample_reader.ensures.too_many

@@ -1,0 +1,95 @@
+use Rattle.std.proofs.Common.{◌≡◌, [], ◌∷◌, refl, sym, ◌∙◌, ap, subst, Err, true, false, ℕ, List, Option, None, arith}
+use Rattle.lp_model.proofs.Growing.{OnlyGrow-refl}
+use Rattle.lp_model.specs.Outside.{Folder, Told}
+use Rattle.query_tree.specs.Views.{query_of}
+use Rattle.log_reading.proofs.Faults.{bad_line_so}
+use Rattle.log_reading.specs.Page.{IsTooMany, IsWithin}
+use Rattle.log_reading.specs.Spans.{AreKept, BadLine, spans_bad_lines}
+use Rattle.log_reading.specs.declared.span.RunFault.{RunFault}
+use Rattle.sampled_run.specs.declared.fault.SampleFault.{SampleFault}
+use Rattle.sampled_run.specs.Past.{Past, Rules, rules_of}
+use Rattle.sampled_run.specs.Spans.{past_behind}
+use Rattle.sampled_run.specs.Ran.{IsSampled, IsStoppedBy, OnBadOne}
+use Rattle.sampled_run.proofs.Sizes.{has_room, within_none}
+use Rattle.sampled_run.proofs.Ran.{ran, stopped_reading, stopped_ending, stopped_at_once, bad_in, fault_same, logs_in, output_in}
+use Rattle.sampled_run.proofs.running.sample_reader.Goals as goal
+
+pub take_all-requires-clause-rows : goal.take_all-requires-clause-rows
+take_all-requires-clause-rows g c =
+    let room = has_room c.args.spans.now c.requires.spans c.requires.few in
+    let none = c.first_page-page.ensures.rows in
+    omega arith
+
+pub take_all-requires-clause-bad : goal.take_all-requires-clause-bad
+take_all-requires-clause-bad g c =
+    let room = has_room c.args.spans.now c.requires.spans c.requires.few in
+    let none = c.first_page-page.ensures.bad in
+    omega arith
+
+pub take_all-requires-clause-taken : goal.take_all-requires-clause-taken
+take_all-requires-clause-taken g c =
+    let room = has_room c.args.spans.now c.requires.spans c.requires.few in
+    let none = c.first_page-page.ensures.taken in
+    omega arith
+
+pub take_all-requires-clause-within : goal.take_all-requires-clause-within
+take_all-requires-clause-within g c =
+    let Of : Option ℕ → Type 0 = λ most. IsWithin most c.first_page-page.result.bad in
+    subst Of (sym c.first_page-page.ensures.most) (subst (IsWithin c.args.most_bad) (sym c.first_page-page.ensures.bad) (within_none c.args.most_bad))
+
+pub returns-in_default-clause-grows : goal.returns-in_default-clause-grows
+returns-in_default-clause-grows g c = OnlyGrow-refl _
+
+pub returns-in_default-clause-stopped : goal.returns-in_default-clause-stopped
+returns-in_default-clause-stopped g c =
+    stopped_at_once (rules_of c.args.limit c.args.pattern.now (query_of c.args.query.now) (g.F.Shape.text c.args.shape)) (g.R.LineReader.format c.args.reader.now) (g.L.Logs.folder c.args.logs.now) c.args.spans.now (g.G.Stage.state c.args.stage.now).written
+
+pub returns-in-Err-clause-stopped : goal.returns-in-Err-clause-stopped
+returns-in-Err-clause-stopped g c =
+    let rules = rules_of c.args.limit c.args.pattern.now (query_of c.args.query.now) (g.F.Shape.text c.args.shape) in
+    let format = g.R.LineReader.format c.args.reader.now in
+    let told = g.L.Logs.folder c.take_all.new.logs in
+    let u = (g.G.Stage.state c.args.stage.now).written in
+    let v = (g.G.Stage.state c.take_all.new.stage).written in
+    let Of : SampleFault → Type 0 = λ fault. Told told (λ folder. AreKept format false c.args.spans.now folder → IsStoppedBy rules u (past_behind format false folder (record { first = None; founds = [] }) c.args.spans.now) fault v) in
+    subst Of (sym c.fault_in.ensures)
+    (stopped_reading g.F.Shape.text g.F.Shape.has_text rules format told c.args.spans.now c.first_page-page.result c.take_all.new.page u v c.in-Err.fault (c.first_page-page.ensures.holds u) c.in-Err.ensures.stops)
+
+pub returns-in-Err-clause-too_many : goal.returns-in-Err-clause-too_many
+returns-in-Err-clause-too_many g c =
+    let format = g.R.LineReader.format c.args.reader.now in
+    let told = g.L.Logs.folder c.take_all.new.logs in
+    let page = c.first_page-page.result in
+    let Of : Option ℕ → ℕ → BadLine → Type 0 = λ most bad line. Told told (λ folder. AreKept format false c.args.spans.now folder → IsTooMany most bad (spans_bad_lines format false folder c.args.spans.now) line) in
+    let On : SampleFault → Type 0 = λ fault. OnBadOne fault (Of c.args.most_bad 0) in
+    subst On (sym c.fault_in.ensures)
+    (bad_in c.take_all.new.page.taker.phase c.in-Err.fault (Of c.args.most_bad 0)
+    (bad_line_so c.in-Err.fault (Of page.most_bad page.bad) (Of c.args.most_bad 0)
+    (λ line s. subst (λ (most : Option ℕ). Of most 0 line) c.first_page-page.ensures.most (subst (λ (bad : ℕ). Of page.most_bad bad line) c.first_page-page.ensures.bad s))
+    c.in-Err.ensures.too_many))
+
+pub returns-in-Err-clause-logs : goal.returns-in-Err-clause-logs
+returns-in-Err-clause-logs g c = λ is. c.in-Err.ensures.logs (ap (λ (f : RunFault). Err f) (logs_in c.take_all.new.page.taker.phase c.in-Err.fault (sym c.fault_in.ensures ∙ fault_same c.fault_in.result _ is)))
+
+pub returns-in-Err-clause-output : goal.returns-in-Err-clause-output
+returns-in-Err-clause-output g c = λ is. c.in-Err.ensures.output (ap (λ (f : RunFault). Err f) (output_in c.take_all.new.page.taker.phase c.in-Err.fault (sym c.fault_in.ensures ∙ fault_same c.fault_in.result _ is)))
+
+pub returns-in-Ok-finish_run-clause-ran : goal.returns-in-Ok-finish_run-clause-ran
+returns-in-Ok-finish_run-clause-ran g c =
+    let rules = rules_of c.args.limit c.args.pattern.now (query_of c.args.query.now) (g.F.Shape.text c.args.shape) in
+    let format = g.R.LineReader.format c.args.reader.now in
+    let told = g.L.Logs.folder c.take_all.new.logs in
+    ran g.F.Shape.text g.F.Shape.has_text rules format told c.args.spans.now c.first_page-page.result c.take_all.new.page (g.G.Stage.state c.args.stage.now).written (g.G.Stage.state c.take_all.new.stage).written (g.G.Stage.state c.finish_run.new.stage).written
+    (record { processed = c.take_all.new.page.rows; output = c.in-Ok-finish_run.output; bad = c.take_all.new.page.bad })
+    (c.first_page-page.ensures.holds (g.G.Stage.state c.args.stage.now).written) c.first_page-page.ensures.rows c.first_page-page.ensures.bad refl refl c.in-Ok-take_all.ensures.takes c.in-Ok-finish_run.ensures.written
+
+pub returns-clause-stopped : goal.returns-clause-stopped
+returns-clause-stopped g c =
+    let rules = rules_of c.args.limit c.args.pattern.now (query_of c.args.query.now) (g.F.Shape.text c.args.shape) in
+    let format = g.R.LineReader.format c.args.reader.now in
+    let told = g.L.Logs.folder c.take_all.new.logs in
+    let u = (g.G.Stage.state c.args.stage.now).written in
+    let w = (g.G.Stage.state c.finish_run.new.stage).written in
+    let Of : SampleFault → Type 0 = λ fault. Told told (λ folder. AreKept format false c.args.spans.now folder → IsStoppedBy rules u (past_behind format false folder (record { first = None; founds = [] }) c.args.spans.now) fault w) in
+    subst Of (sym c.fault_of.ensures)
+    (stopped_ending g.F.Shape.text g.F.Shape.has_text rules format told c.args.spans.now c.first_page-page.result c.take_all.new.page u (g.G.Stage.state c.take_all.new.stage).written w c.in-Err-finish_run.stop (c.first_page-page.ensures.holds u) c.in-Ok-take_all.ensures.takes c.in-Err-finish_run.ensures.stopped)

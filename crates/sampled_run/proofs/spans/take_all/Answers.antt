@@ -1,0 +1,59 @@
+use Rattle.std.proofs.Common.{◌∙◌, arith}
+use Rattle.lp_model.proofs.Growing.{OnlyGrow-trans}
+use Rattle.lp_model.proofs.Results.{on_err}
+use Rattle.lp_model.specs.Outside.{Told}
+use Rattle.log_reading.proofs.SpansTaken.{there_all, size_more}
+use Rattle.log_reading.proofs.Faults.{handed_on, bad_line_so}
+use Rattle.log_reading.specs.Page.{IsTooMany}
+use Rattle.log_reading.specs.Spans.{BadLine, OnBadLine, AreKept, spans_bad_lines}
+use Rattle.sampled_run.proofs.Taken.{samples_nothing, samples_one_more, halted_within, exceeded}
+use Rattle.sampled_run.proofs.spans.take_all.Goals as goal
+
+pub returns-in_err-take_one-clause-grows : goal.returns-in_err-take_one-clause-grows
+returns-in_err-take_one-clause-grows g c = OnlyGrow-trans _ _ _ c.loop-span.invariant.grows c.in_err-take_one.ensures.grows
+
+pub returns-in_err-take_one-clause-stops : goal.returns-in_err-take_one-clause-stops
+returns-in_err-take_one-clause-stops g c = on_err _ c.from_residual.result (
+    let so_far = c.loop-span.invariant in
+    let here = c.in_err-take_one.ensures in
+    halted_within g.F.Shape.text g.F.Shape.has_text (g.R.LineReader.format c.args.reader.now) c.args.waits _ _ c.args.spans.now c.loop-span.span-index c.span-item.result c.args.page.now c.loop-span.page c.take_one.new.page _ _ _ c.loop-span-test.true c.span-item.is
+    here.grows so_far.there so_far.takes here.stops)
+
+pub loop-span-preserved : goal.loop-span-preserved
+loop-span-preserved g c =
+    let so_far = c.loop-span.invariant in
+    let here = c.in_ok-take_one.ensures in
+    let size = size_more c.args.spans.now c.loop-span.span-index c.span-item.result c.loop-span-test.true c.span-item.is in
+    let rows1 = so_far.rows in let rows2 = here.rows in
+    let bad1 = so_far.bad in let bad2 = here.bad in
+    let taken1 = so_far.taken in let taken2 = here.taken in
+    let given1 = so_far.given in let given2 = here.given in
+    let logs1 = so_far.later_logs in let logs2 = here.later_logs in
+    let later1 = so_far.later in let later2 = here.later in
+    let start = (c.requires.spans c.loop-span.span-index c.span-item.result c.loop-span-test.true c.span-item.is).start in
+    record {
+      grows = OnlyGrow-trans _ _ _ so_far.grows here.grows;
+      there = there_all _ _ c.args.spans.now here.grows so_far.there;
+      takes = samples_one_more g.F.Shape.text g.F.Shape.has_text (g.R.LineReader.format c.args.reader.now) c.args.waits _ _ c.args.spans.now c.loop-span.span-index c.span-item.result c.args.page.now c.loop-span.page c.take_one.new.page _ _ _ c.loop-span-test.true c.span-item.is
+          here.grows so_far.there so_far.takes here.takes;
+      within = here.within;
+      most = here.most ∙ so_far.most;
+      rows = omega arith;
+      bad = omega arith;
+      taken = omega arith;
+      given = omega arith;
+      later_logs = omega arith;
+      later = omega arith;
+    }
+
+pub returns-in_err-take_one-clause-too_many : goal.returns-in_err-take_one-clause-too_many
+returns-in_err-take_one-clause-too_many g c =
+    let so_far = c.loop-span.invariant in
+    let here = c.in_err-take_one.ensures in
+    let spans = c.args.spans.now in
+    let page = c.args.page.now in
+    let format = g.R.LineReader.format c.args.reader.now in
+    let Q : BadLine → Type 0 = λ line. Told (g.L.Logs.folder c.take_one.new.logs) (λ folder. AreKept format c.args.waits spans folder → IsTooMany page.most_bad page.bad (spans_bad_lines format c.args.waits folder spans) line) in
+    handed_on c.from_residual.result _ (λ fault. OnBadLine fault Q) c.from_residual.ensures.1
+    (bad_line_so _ _ Q (λ line s. exceeded g.F.Shape.text g.F.Shape.has_text format c.args.waits _ _ spans c.loop-span.span-index c.span-item.result page c.loop-span.page _ _ line c.loop-span-test.true c.span-item.is here.grows so_far.there so_far.most so_far.takes s)
+    here.too_many)

@@ -1,0 +1,69 @@
+use Rattle.std.proofs.Common.{◌∷◌, []}
+use Rattle.line_input.specs.Taken.{slots_of}
+use Rattle.log_reading.specs.Found.{Found}
+use Rattle.sampled_run.proofs.Answered.{ok_so, err_so}
+use Rattle.sampled_run.proofs.Records.{samples_writing, halts_writing, samples_gathering, halts_gathering, samples_turning, halts_turning, halts_refused, halts_lost}
+use Rattle.sampled_run.proofs.taking.SamplingTaker.take.Goals as goal
+
+pub returns-in-Writing-clause-takes : goal.returns-in-Writing-clause-takes
+returns-in-Writing-clause-takes g c =
+    let u = (g.G.Stage.state c.args.stage.now).written in
+    let v = (g.G.Stage.state c.take.new.stage).written in
+    let found : Found = record { identity = c.args.identity.now; row = record { number = c.args.number; slots = slots_of c.args.line.now c.args.fields.now; columns = c.args.columns.now } } in
+    ok_so c.take.result c.take.ensures.takes (λ writes. record {
+      along = λ rules start past holds.
+          let done = (samples_writing g.F.Shape.text g.F.Shape.has_text c.args.self.now c.in-Writing.writer c.take.new.self u v (found ∷ []) c.in-Writing.is writes).along rules start past holds in
+          record { asks = done.asks; phase = done.phase };
+    })
+
+pub returns-in-Writing-clause-stops : goal.returns-in-Writing-clause-stops
+returns-in-Writing-clause-stops g c =
+    let u = (g.G.Stage.state c.args.stage.now).written in
+    let v = (g.G.Stage.state c.take.new.stage).written in
+    let found : Found = record { identity = c.args.identity.now; row = record { number = c.args.number; slots = slots_of c.args.line.now c.args.fields.now; columns = c.args.columns.now } } in
+    err_so c.take.result c.take.ensures.stops (λ halts. record { within = (halts_writing g.F.Shape.text g.F.Shape.has_text c.args.self.now c.in-Writing.writer c.take.new.self u v (found ∷ []) c.in-Writing.is halts).within })
+
+pub returns-in-Ok-true-clause-takes : goal.returns-in-Ok-true-clause-takes
+returns-in-Ok-true-clause-takes g c =
+    let u = (g.G.Stage.state c.args.stage.now).written in
+    let v = (g.G.Stage.state c.turn.new.stage).written in
+    let found : Found = record { identity = c.args.identity.now; row = record { number = c.args.number; slots = slots_of c.args.line.now c.args.fields.now; columns = c.args.columns.now } } in
+    let kept = c.in-Ok-true.ensures.kept in
+    ok_so c.turn.result c.turn.ensures.turned (λ turned.
+    samples_turning g.F.Shape.text g.F.Shape.has_text c.args.self.now c.turn.new.sampling c.in-Gathering.gathering c.gather.new.gathering u v found c.in-Gathering.is kept.0 kept.1 c.gather.ensures.shape (c.in-Ok-true.ensures.enough c.in-Ok-true.field-0-test)
+    (λ rules start past holds told. turned rules start past (record { asks = holds.asks; phase = holds.phase }) told))
+
+pub returns-in-Ok-true-clause-stops : goal.returns-in-Ok-true-clause-stops
+returns-in-Ok-true-clause-stops g c =
+    let u = (g.G.Stage.state c.args.stage.now).written in
+    let v = (g.G.Stage.state c.turn.new.stage).written in
+    let found : Found = record { identity = c.args.identity.now; row = record { number = c.args.number; slots = slots_of c.args.line.now c.args.fields.now; columns = c.args.columns.now } } in
+    let kept = c.in-Ok-true.ensures.kept in
+    err_so c.turn.result c.turn.ensures.stopped (λ stopped.
+    halts_turning g.F.Shape.text g.F.Shape.has_text c.args.self.now c.turn.new.sampling c.in-Gathering.gathering c.gather.new.gathering u v found c.in-Gathering.is kept.0 kept.1 c.gather.ensures.shape (c.in-Ok-true.ensures.enough c.in-Ok-true.field-0-test)
+    (λ rules start past later holds told follows. stopped rules start past later (record { asks = holds.asks; phase = holds.phase }) told follows))
+
+pub returns-in-Ok-false-clause-takes : goal.returns-in-Ok-false-clause-takes
+returns-in-Ok-false-clause-takes g c =
+    let u = (g.G.Stage.state c.args.stage.now).written in
+    let found : Found = record { identity = c.args.identity.now; row = record { number = c.args.number; slots = slots_of c.args.line.now c.args.fields.now; columns = c.args.columns.now } } in
+    let kept = c.in-Ok-false.ensures.kept in
+    record {
+      along = λ rules start past holds.
+          let done = (samples_gathering g.F.Shape.text g.F.Shape.has_text c.args.self.now c.in-Gathering.gathering c.gather.new.gathering u found c.in-Gathering.is kept.0 kept.1 c.gather.ensures.shape).along rules start past holds in
+          record { asks = done.asks; phase = done.phase };
+    }
+
+pub returns-in-Err-clause-stops : goal.returns-in-Err-clause-stops
+returns-in-Err-clause-stops g c =
+    let u = (g.G.Stage.state c.args.stage.now).written in
+    let found : Found = record { identity = c.args.identity.now; row = record { number = c.args.number; slots = slots_of c.args.line.now c.args.fields.now; columns = c.args.columns.now } } in
+    record { within = (halts_gathering g.F.Shape.text g.F.Shape.has_text c.args.self.now c.in-Gathering.gathering c.gather.new.gathering u (found ∷ []) c.in-Gathering.is).within }
+
+pub returns-in-Refused-clause-stops : goal.returns-in-Refused-clause-stops
+returns-in-Refused-clause-stops g c =
+    halts_refused g.F.Shape.text g.F.Shape.has_text c.args.self.now _ _ _ _ _ c.in-Refused.is
+
+pub returns-in-Lost-clause-stops : goal.returns-in-Lost-clause-stops
+returns-in-Lost-clause-stops g c =
+    halts_lost g.F.Shape.text g.F.Shape.has_text c.args.self.now _ _ _ _ c.in-Lost.is

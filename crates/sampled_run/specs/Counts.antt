@@ -1,0 +1,17 @@
+-- How many records a phase has taken.
+use Rattle.std.specs.Prelude.{ℕ, length, ⊤}
+use Rattle.sampled_run.specs.declared.phase.Phase.{Phase}
+use Rattle.sampled_run.specs.declared.phase.Phase.TheVariants as P
+
+abbrev pub taken_in : {F : Type 0} → Phase F → ℕ
+taken_in (P.Gathering gathering) = length gathering.rows
+taken_in (P.Writing writer) = writer.taken
+taken_in (P.Refused fault) = 0
+taken_in P.Lost = 0
+
+-- the query has no plan
+abbrev pub IsRefusedIn : {F : Type 0} → Phase F → Type 0
+IsRefusedIn (P.Gathering gathering) = ⊥
+IsRefusedIn (P.Writing writer) = ⊥
+IsRefusedIn (P.Refused fault) = ⊤
+IsRefusedIn P.Lost = ⊥

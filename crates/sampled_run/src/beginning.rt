@@ -1,0 +1,141 @@
+// The text of a run, from its names to the rows of the records that were kept.
+ghost use Rattle.std.specs.Prelude.{◌≡◌, ◌≤◌, ◌<◌, ◌^◌, ◌++◌, true, List, ℕ, Option, map, option_map, length, OnErr, IfOk, IfErr, IsErrOf, IsTrue};
+ghost use Rattle.lp_model.specs.Outside.{GainsSome, Rose};
+ghost use Rattle.log_reading.specs.Found.{Found};
+ghost use Rattle.query_tree.specs.Views.{query_of};
+ghost use Rattle.query_types.specs.Built.{is_built};
+ghost use Rattle.query_run.specs.Output.{IsUnderWay};
+ghost use Rattle.query_run.specs.Rows.{picked};
+ghost use Rattle.query_types.specs.Conditions.{filter_of};
+ghost use Rattle.sampled_table.specs.Picks.{sampled_picks};
+ghost use Rattle.sampled_table.specs.Kept.{found_in};
+ghost use Rattle.sampled_run.specs.Past.{Past, Later, Rules, told_at};
+ghost use Rattle.sampled_run.specs.Holds.{Asks, Begun, Gathers};
+ghost use Rattle.sampled_run.specs.Stops.{IsStop, stop_of};
+
+use crate::giving::give_kept;
+use crate::planning::picker_for;
+use crate::{Gathering, Stop};
+use log_reading::TakeFault;
+use lp_outside::Stage;
+use lp_time::Pattern;
+use lp_values::{TextList, copy_texts};
+use output_formats::Shape;
+use query_run::{Picker, Target, Writer, first_writer};
+use query_tree::Query;
+use sampled_table::{KeptRows, SampledPicker};
+use std::alloc::Global;
+
+// More rows than fit into memory.
+const MOST: usize = 1 << 63;
+
+/// Why a run stops, where a writer failed.
+pub(crate) fn stop_of(fault: TakeFault) -> Stop
+    ensures { result ≡ stop_of fault }
+{
+    match fault {
+        TakeFault::Memory | TakeFault::Stopped => Stop::Memory,
+        TakeFault::Failed => Stop::Output,
+    }
+}
+
+// Whether rows can be counted; more don't fit into memory.
+fn is_countable(rows: &KeptRows) -> bool
+    ensures { IsTrue result → length rows.now < 2 ^ 63 }
+{
+    rows.len() < MOST
+}
+
+// A writer, behind the rows of records that were kept.
+fn write_kept<F: Shape + Drop, P: Picker + Drop, G: Stage>(
+    alloc: Global,
+    shape: F,
+    picker: P,
+    names: &TextList,
+    target: Target,
+    rows: &KeptRows,
+    stage: &mut G,
+) -> Result<Writer<F, P>, TakeFault>
+    ensures under_way { IfOk result (λ writer. IsUnderWay (F.has_text writer.shape true names.now (picked (P.picks picker) (map found_in rows.now))) (G.state stage.old).written (G.state stage.new).written writer.buffers.held) }
+    ensures format { IfOk result (λ writer. F.text writer.shape ≡ F.text shape) }
+    ensures picker { IfOk result (λ writer. writer.picker ≡ picker) }
+    ensures output { IfOk result (λ writer. writer.output ≡ length (picked (P.picks picker) (map found_in rows.now))) }
+    ensures taken { IfOk result (λ writer. writer.taken ≡ length rows.now) }
+    ensures front { OnErr result ((more : List Found) → GainsSome (G.state stage.old).written (G.state stage.new).written (F.text shape true names.now (picked (P.picks picker) (map found_in rows.now ++ more)))) }
+    ensures later { G.faults stage.old ≤ G.faults stage.new }
+    ensures failed { IsErrOf result TakeFault.Failed → Rose (G.faults stage.old) (G.faults stage.new) }
+{
+    if !is_countable(rows) {
+        return Err(TakeFault::Memory);
+    }
+    let Ok(mut writer) = first_writer(alloc, shape, picker, names, true, target) else {
+        return Err(TakeFault::Memory);
+    };
+    give_kept(alloc, rows, &mut writer, stage)?;
+    Ok(writer)
+}
+
+// Begins to write, with this picker.
+fn begin_with<'a, F: Shape + Drop, G: Stage>(
+    alloc: Global,
+    picker: SampledPicker<'a>,
+    gathering: Gathering<F>,
+    stage: &mut G,
+) -> Result<Writer<F, SampledPicker<'a>>, TakeFault>
+    ensures under_way { IfOk result (λ writer. IsUnderWay (F.has_text writer.shape true picker.entry.plan.names (picked (sampled_picks picker.entry.pattern.now picker.entry.told picker.entry.plan.items (option_map filter_of picker.entry.plan.condition)) (map found_in gathering.rows))) (G.state stage.old).written (G.state stage.new).written writer.buffers.held) }
+    ensures format { IfOk result (λ writer. F.text writer.shape ≡ F.text gathering.shape) }
+    ensures picker { IfOk result (λ writer. writer.picker ≡ picker.entry) }
+    ensures output { IfOk result (λ writer. writer.output ≡ length (picked (sampled_picks picker.entry.pattern.now picker.entry.told picker.entry.plan.items (option_map filter_of picker.entry.plan.condition)) (map found_in gathering.rows))) }
+    ensures taken { IfOk result (λ writer. writer.taken ≡ length gathering.rows) }
+    ensures front { OnErr result ((more : List Found) → GainsSome (G.state stage.old).written (G.state stage.new).written (F.text gathering.shape true picker.entry.plan.names (picked (sampled_picks picker.entry.pattern.now picker.entry.told picker.entry.plan.items (option_map filter_of picker.entry.plan.condition)) (map found_in gathering.rows ++ more)))) }
+    ensures later { G.faults stage.old ≤ G.faults stage.new }
+    ensures failed { IsErrOf result TakeFault.Failed → Rose (G.faults stage.old) (G.faults stage.new) }
+{
+    let Ok(names) = copy_texts(alloc, &picker.plan.names) else {
+        return Err(TakeFault::Memory);
+    };
+    write_kept(
+        alloc,
+        gathering.shape,
+        picker,
+        &names,
+        gathering.target,
+        &gathering.rows,
+        stage,
+    )
+}
+
+/// Begins to write: judges the columns from the records that were kept, plans the query, and writes their rows.
+pub(crate) fn begin<'a, F: Shape + Drop, G: Stage>(
+    alloc: Global,
+    limit: u32,
+    pattern: &'a Pattern,
+    query: &Query,
+    gathering: Gathering<F>,
+    stage: &mut G,
+) -> Result<Writer<F, SampledPicker<'a>>, Stop>
+    requires { is_built (query_of query.now) ≡ true }
+    ensures begun { IfOk result (λ writer. (rules : Rules) (start : Option (List ℕ)) (past : Past) → Asks limit pattern.now (query_of query.now) rules → Gathers F.text rules start past gathering (G.state stage.old).written
+        → Begun F.text F.has_text rules start past writer (G.state stage.new).written) }
+    ensures taken { IfOk result (λ writer. writer.taken ≡ length gathering.rows) }
+    ensures stopped { IfErr result (λ stop. (rules : Rules) (start : Option (List ℕ)) (past later : Past) → Asks limit pattern.now (query_of query.now) rules → Gathers F.text rules start past gathering (G.state stage.old).written
+        → Later past later → told_at rules later ≡ told_at rules past → IsStop rules start later stop (G.state stage.new).written) }
+    ensures later { G.faults stage.old ≤ G.faults stage.new }
+    ensures failed { IsErrOf result Stop.Output → Rose (G.faults stage.old) (G.faults stage.new) }
+{
+    let picker = match picker_for(
+        alloc,
+        limit,
+        pattern,
+        query,
+        &gathering.first,
+        &gathering.rows,
+    ) {
+        Ok(picker) => picker,
+        Err(stop) => return Err(stop),
+    };
+    match begin_with(alloc, picker, gathering, stage) {
+        Ok(writer) => Ok(writer),
+        Err(fault) => Err(stop_of(fault)),
+    }
+}

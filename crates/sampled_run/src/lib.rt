@@ -1,0 +1,24 @@
+//! A query over CSV or TSV logs, whose columns the logs tell.
+//!
+//! One taker keeps the first records until they tell the kinds of the columns; then it plans the query, writes the rows of the records that it kept, and goes on record by record.
+#![tactic(auto)]
+
+mod beginning;
+mod ending;
+mod fault;
+mod formats;
+mod giving;
+mod noting;
+mod phase;
+mod planning;
+mod running;
+mod spans;
+mod taking;
+#[cfg(test)]
+mod tests;
+mod turning;
+
+pub use ending::finish_run;
+pub use fault::{SampleFault, Stop};
+pub use formats::run_sampled;
+pub use phase::{Gathering, Phase, Sampling};

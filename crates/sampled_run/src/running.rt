@@ -1,0 +1,152 @@
+// A query over logs whose columns they tell, by any reader of their format.
+ghost use Rattle.std.specs.Prelude.{◌≡◌, ◌≤◌, ◌+◌, true, false, [], ℕ, List, length, Option, None, IfOk, IfErr, IsErrOf};
+ghost use Rattle.lp_model.specs.Outside.{Rose, OnlyGrow, Told, bytes_in};
+ghost use Rattle.log_reading.specs.Page.{IsTooMany, IsWithin};
+ghost use Rattle.log_reading.specs.Spans.{AllSpans, AreKept, IsSpan, spans_bad, spans_bad_lines, spans_size};
+ghost use Rattle.query_tree.specs.Views.{query_of};
+ghost use Rattle.query_types.specs.Built.{is_built};
+ghost use Rattle.sampled_run.specs.Counts.{taken_in};
+ghost use Rattle.sampled_run.specs.Past.{Past, Rules, rules_of};
+ghost use Rattle.sampled_run.specs.Spans.{past_behind};
+ghost use Rattle.sampled_run.specs.Holds.{Holds};
+ghost use Rattle.sampled_run.specs.Ran.{IsSampled, IsStoppedBy, OnBadOne, fault_in, fault_of};
+
+use crate::ending::finish_run;
+use crate::spans::take_all;
+use crate::{Gathering, Phase, SampleFault, Sampling, Stop};
+use line_input::{LineReader, Splitter, Standing};
+use log_reading::{Page, RunFault, Span, TookList};
+use lp_outside::{Logs, Stage};
+use lp_time::Pattern;
+use output_formats::Shape;
+use query_run::{Counts, Target};
+use query_tree::Query;
+use sampled_table::KeptRows;
+use std::alloc::{AllocError, Global};
+
+const CHUNK: usize = 65536;
+
+// So many zero bytes.
+fn zeros(alloc: Global, size: usize) -> Result<Vec<u8>, AllocError>
+    ensures { IfOk result (λ bytes. length bytes.items ≡ size) }
+{
+    vec![in alloc; 0u8; size]
+}
+
+// Why a run stops, where the reading of its logs did.
+fn fault_in<'a, F>(sampling: &Sampling<'a, F>, fault: RunFault) -> SampleFault
+    ensures { result ≡ fault_in sampling.now.phase fault }
+{
+    match &sampling.phase {
+        Phase::Refused(fault) => SampleFault::Plan(*fault),
+        Phase::Gathering(_) | Phase::Writing(_) | Phase::Lost => match fault {
+            RunFault::Logs => SampleFault::Logs,
+            RunFault::Output => SampleFault::Output,
+            RunFault::Memory | RunFault::Stopped => SampleFault::Memory,
+            RunFault::Bad { log, row } => SampleFault::Bad { log, row },
+        },
+    }
+}
+
+// Why a run stops at its end.
+fn fault_of(stop: Stop) -> SampleFault
+    ensures { result ≡ fault_of stop }
+{
+    match stop {
+        Stop::Plan(fault) => SampleFault::Plan(fault),
+        Stop::Output => SampleFault::Output,
+        Stop::Memory => SampleFault::Memory,
+    }
+}
+
+// The page before the first log.
+fn first_page<'a, F: Shape + Drop>(
+    alloc: Global,
+    limit: u32,
+    pattern: &'a Pattern,
+    query: &'a Query,
+    most_bad: Option<u64>,
+    shape: F,
+    target: Target,
+) -> Page<Sampling<'a, F>>
+    requires { is_built (query_of query.now) ≡ true }
+    ensures holds { (start : Option (List ℕ)) → Holds F.text F.has_text (rules_of limit pattern.now (query_of query.now) (F.text shape)) start (record { first = None; founds = [] }) result.taker start }
+    ensures taken { taken_in result.taker.phase ≡ 0 }
+    ensures rows { result.rows ≡ 0 }
+    ensures bad { result.bad ≡ 0 }
+    ensures most { result.most_bad ≡ most_bad }
+{
+    Page {
+        taker: Sampling {
+            limit,
+            pattern,
+            query,
+            phase: Phase::Gathering(Gathering {
+                first: None,
+                rows: KeptRows::new(alloc),
+                shape,
+                target,
+            }),
+        },
+        splitter: Splitter::new(alloc, 0),
+        standing: Standing::new(),
+        rows: 0,
+        bad: 0,
+        most_bad,
+    }
+}
+
+/// Writes the output rows of a query over the records of spans, joined in order, whose columns they tell, by a reader of their format.
+pub(crate) fn sample_reader<'a, R: LineReader, L: Logs, F: Shape + Drop, G: Stage>(
+    alloc: Global,
+    reader: &R,
+    limit: u32,
+    pattern: &'a Pattern,
+    query: &'a Query,
+    most_bad: Option<u64>,
+    logs: &mut L,
+    spans: &[Span],
+    shape: F,
+    target: Target,
+    stage: &mut G,
+) -> Result<Counts, SampleFault>
+    requires built { is_built (query_of query.now) ≡ true }
+    requires few { length spans.now ≤ 100000 }
+    requires spans { AllSpans spans.now IsSpan }
+    requires there { Told (L.folder logs.old) (λ folder. AllSpans spans.now (λ span. span.listed ≤ length (bytes_in folder span.name))) }
+    ensures grows { OnlyGrow (L.folder logs.old) (L.folder logs.new) }
+    ensures ran { IfOk result (λ counts. Told (L.folder logs.new) (λ folder. AreKept (R.format reader.now) false spans.now folder
+        → IsSampled (rules_of limit pattern.now (query_of query.now) (F.text shape)) (G.state stage.old).written (past_behind (R.format reader.now) false folder (record { first = None; founds = [] }) spans.now) (R.format reader.now) folder spans.now counts (G.state stage.new).written)) }
+    ensures stopped { IfErr result (λ fault. Told (L.folder logs.new) (λ folder. AreKept (R.format reader.now) false spans.now folder
+        → IsStoppedBy (rules_of limit pattern.now (query_of query.now) (F.text shape)) (G.state stage.old).written (past_behind (R.format reader.now) false folder (record { first = None; founds = [] }) spans.now) fault (G.state stage.new).written)) }
+    ensures within { IfOk result (λ counts. IsWithin most_bad counts.bad) }
+    ensures too_many { IfErr result (λ fault. OnBadOne fault (λ line. Told (L.folder logs.new) (λ folder. AreKept (R.format reader.now) false spans.now folder
+        → IsTooMany most_bad 0 (spans_bad_lines (R.format reader.now) false folder spans.now) line))) }
+    ensures given { L.given logs.new ≤ L.given logs.old + spans_size spans.now }
+    ensures later_logs { L.faults logs.old ≤ L.faults logs.new }
+    ensures logs { IsErrOf result SampleFault.Logs → Rose (L.faults logs.old) (L.faults logs.new) }
+    ensures later { G.faults stage.old ≤ G.faults stage.new }
+    ensures output { IsErrOf result SampleFault.Output → Rose (G.faults stage.old) (G.faults stage.new) }
+{
+    let Ok(mut chunk) = zeros(alloc, CHUNK) else {
+        return Err(SampleFault::Memory);
+    };
+    let mut page = first_page(alloc, limit, pattern, query, most_bad, shape, target);
+    let mut took = TookList::new(alloc);
+    match take_all(
+        alloc, reader, false, logs, spans, &mut chunk, &mut page, &mut took, stage,
+    ) {
+        Ok(()) => {}
+        Err(fault) => return Err(fault_in(&page.taker, fault)),
+    }
+    let processed = page.rows;
+    let bad = page.bad;
+    match finish_run(alloc, page.taker, stage) {
+        Ok(output) => Ok(Counts {
+            processed,
+            output,
+            bad,
+        }),
+        Err(stop) => Err(fault_of(stop)),
+    }
+}

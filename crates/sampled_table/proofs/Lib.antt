@@ -1,0 +1,3 @@
+mod Steps
+mod Masking
+pub mod Staying

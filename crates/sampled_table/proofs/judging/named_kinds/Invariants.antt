@@ -1,0 +1,11 @@
+use Rattle.std.proofs.Common.{◌≡◌, ◌++◌, drop, get_or}
+use Rattle.lp_values.specs.declared.kind.Kind.TheVariants as K
+use Rattle.sampled_table.specs.Fields.{indexed}
+use Rattle.sampled_table.proofs.judging.named_kinds.Given as goal
+
+abbrev pub invariant-loop-name : goal.invariant-loop-name
+invariant-loop-name l = record {
+  at : l.at ≡ l.name-index;
+  columns : indexed (λ at name. record { name = name; kind = get_or l.kinds at K.Any }) 0 l.name-items
+      ≡ l.columns ++ indexed (λ at name. record { name = name; kind = get_or l.kinds at K.Any }) l.name-index (drop l.name-index l.name-items);
+}

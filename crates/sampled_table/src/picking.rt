@@ -1,0 +1,60 @@
+// A plan over sampled columns as a picker.
+ghost use Rattle.std.specs.Prelude.{◌≡◌, ◌+◌, ◌≤◌, length, option_map};
+ghost use Rattle.query_types.specs.Conditions.{filter_of};
+ghost use Rattle.query_types.specs.Planned.{Covers};
+ghost use Rattle.sampled_table.specs.Picks.{sampled_picks};
+
+use crate::Judged;
+use crate::row::read_row;
+use line_input::{Columns, Fields};
+use lp_outside::Name;
+use lp_time::Pattern;
+use lp_values::ValueList;
+use query_run::Picker;
+use query_types::Plan;
+use row_engine::{passes, select_row};
+use std::alloc::{AllocError, Global};
+
+/// Makes of each record the output row of a plan over a run's columns.
+#[derive(Drop)]
+pub struct SampledPicker<'a> {
+    pub plan: Plan,
+    pub pattern: &'a Pattern,
+    pub told: Judged,
+    ghost covers: { Covers plan.used plan.items (option_map filter_of plan.condition) },
+    ghost fits: { length told.columns + 2 ≤ length plan.used },
+}
+
+impl<'a> Picker for SampledPicker<'a> {
+    ghost picks = { λ s. sampled_picks s.pattern.now s.told s.plan.items (option_map filter_of s.plan.condition) };
+
+    fn pick(
+        &self,
+        alloc: Global,
+        identity: &Name,
+        number: u64,
+        columns: &Option<Columns>,
+        line: &[u8],
+        fields: &Fields,
+        values: &mut ValueList,
+        row: &mut ValueList,
+    ) -> Result<bool, AllocError> {
+        read_row(
+            alloc,
+            &self.plan,
+            self.pattern,
+            &self.told,
+            identity,
+            number,
+            columns,
+            line,
+            fields,
+            values,
+        )?;
+        if !passes(&self.plan, values) {
+            return Ok(false);
+        }
+        select_row(alloc, &self.plan, values, row)?;
+        Ok(true)
+    }
+}
