@@ -1,22 +1,11 @@
--- What is built so far: every input format but CSV and TSV, CSV output, and queries of columns and conditions over files.
+-- What is built so far: every input format, CSV output, and queries of columns and conditions over files.
 use Rattle.std.specs.Prelude.{Bool, true, false, not, ◌&&◌, List, [], ◌∷◌, Option, Some, None, is_none}
 use Rattle.grammar.specs.Trees.{Placed, Query}
-use Rattle.command_words.specs.declared.formats.InputFormat.{InputFormat}
-use Rattle.command_words.specs.declared.formats.InputFormat.TheVariants as I
 use Rattle.command_words.specs.declared.formats.OutputFormat.{OutputFormat}
 use Rattle.command_words.specs.declared.formats.OutputFormat.TheVariants as O
 use Rattle.command_words.specs.declared.spec.Spec.{Spec}
 use Rattle.query_text.specs.Stdin.{is_stdin, names_in}
 use Rattle.query_types.specs.Built.{is_built}
-use Rattle.execution.specs.Formats.{input_of}
-
-abbrev pub is_built_input : InputFormat → Bool
-is_built_input I.IisW3c = true
-is_built_input I.Ncsa = true
-is_built_input I.Csv = false
-is_built_input I.Tsv = false
-is_built_input I.TextLine = true
-is_built_input I.TextWord = true
 
 abbrev pub is_csv : Option OutputFormat → Bool
 is_csv None = false
@@ -33,9 +22,9 @@ reads_stdin (name ∷ []) = is_stdin name.text
 reads_stdin (name ∷ next ∷ names) = false
 
 -- whether all that the options ask for is built
-abbrev pub are_options_built : Spec → InputFormat → Bool
-are_options_built spec input = is_built_input input && is_csv spec.output && is_none spec.checkpoint
+abbrev pub are_options_built : Spec → Bool
+are_options_built spec = is_csv spec.output && is_none spec.checkpoint
 
 -- whether all that the options and the query ask for is built
 abbrev pub all_built : Spec → Query → Bool
-all_built spec q = are_options_built spec (input_of spec q) && is_built q && not (reads_stdin (names_in q))
+all_built spec q = are_options_built spec && is_built q && not (reads_stdin (names_in q))

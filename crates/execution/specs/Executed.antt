@@ -1,64 +1,100 @@
 -- What a query writes over spans of logs.
-use Rattle.std.specs.Prelude.{◌≡◌, ◌⊎◌, ℕ, ℤ, true, false, List, length, pos, ◌≤ℤ◌, ◌<ℤ◌, Option, Ok, Err}
+use Rattle.std.specs.Prelude.{◌≡◌, ◌⊎◌, ℕ, ℤ, true, false, List, length, pos, ◌≤ℤ◌, ◌<ℤ◌, Option, Ok, Err, ⊤}
 use Rattle.grammar.specs.Trees as model
 use Rattle.lp_model.specs.Outside.{Folder, Told, Gains, GainsSome}
+use Rattle.lp_time.specs.declared.piece.Piece.{Piece}
 use Rattle.lp_values.specs.declared.value.Value.{Value}
 use Rattle.command_words.specs.declared.spec.Spec.{Spec}
-use Rattle.command_words.specs.declared.formats.InputFormat.{InputFormat}
+use Rattle.delimited_input.specs.declared.options.DelimitedOptions.{DelimitedOptions}
+use Rattle.delimited_input.specs.Lines.{delimited_lines}
 use Rattle.log_reading.specs.declared.span.Span.{Span}
 use Rattle.log_reading.specs.Page.{IsTooMany, IsWithin}
 use Rattle.log_reading.specs.Spans.{AreKept, BadLine, spans_found, spans_bad, spans_bad_lines}
 use Rattle.output_formats.specs.Headers.{csv_of}
 use Rattle.query_run.specs.declared.executing.Counts.{Counts}
 use Rattle.query_types.specs.declared.fault.TypeFault.{TypeFault}
+use Rattle.query_types.specs.declared.table.TableColumns.{TableColumns}
 use Rattle.query_types.specs.Planned.{Planned, plan_of}
 use Rattle.input_tables.specs.Tables.{lines_of, readings_of, table_of}
 use Rattle.plan_run.specs.Rows.{plan_rows}
-use Rattle.execution.specs.Formats.{input_of}
+use Rattle.sampled_run.specs.Past.{rows_with}
+use Rattle.sampled_run.specs.Spans.{first_log}
+use Rattle.sampled_table.specs.declared.judging.Judged.{Judged}
+use Rattle.sampled_table.specs.Judged.{judged}
+use Rattle.sampled_table.specs.Judged.{table_of as table_with}
+use Rattle.execution.specs.declared.formats.LogFormat.{LogFormat}
+use Rattle.execution.specs.declared.formats.LogFormat.TheVariants as F
+use Rattle.execution.specs.Formats.{lines_in}
 
 -- from 1970-01-01 00:00:00 to 9999-12-31 23:59:59
 abbrev pub IsMoment : ℤ → Type 0
 IsMoment moment = (pos 0 ≤ℤ moment) × (moment <ℤ pos 253402300800)
 
--- the output rows of a plan over spans that are read in a format
-abbrev pub rows_in : InputFormat → Planned → Folder → List Span → List (List Value)
-rows_in format plan folder spans = plan_rows (readings_of format) plan (lines_of format) folder spans
+-- the columns that logs tell: those of the first log that has any, of the kinds that the first records have
+abbrev pub told_in : DelimitedOptions → ℕ → List Piece → Folder → List Span → Judged
+told_in options limit pattern folder spans =
+    let lines = delimited_lines options in
+    judged limit pattern (first_log lines false folder spans) (spans_found lines false folder spans)
+
+abbrev pub told_table : DelimitedOptions → ℕ → List Piece → Folder → List Span → TableColumns
+told_table options limit pattern folder spans = table_with (told_in options limit pattern folder spans)
+
+-- a fact on the table of a run; one that the logs tell is known where these tell their bytes, and each span begins as its log was kept
+abbrev pub OnTable : LogFormat → List Piece → Option Folder → List Span → (TableColumns → Type 0) → Type 0
+OnTable (F.Tabled format) pattern told spans P = P (table_of format)
+OnTable (F.Sampled options limit) pattern told spans P = Told told (λ folder. AreKept (delimited_lines options) false spans folder → P (told_table options limit pattern folder spans))
+
+-- the output rows of a plan over spans
+abbrev pub rows_in : LogFormat → List Piece → Planned → Folder → List Span → List (List Value)
+rows_in (F.Tabled format) pattern plan folder spans = plan_rows (readings_of format) plan (lines_of format) folder spans
+rows_in (F.Sampled options limit) pattern plan folder spans = rows_with pattern (told_in options limit pattern folder spans) plan (spans_found (delimited_lines options) false folder spans)
+
+-- the text of these rows
+abbrev pub text_in : Spec → LogFormat → Planned → Folder → List Span → List ℕ
+text_in spec format plan folder spans = csv_of spec.headers true plan.names (rows_in format spec.ts_format plan folder spans)
 
 -- an output gains the CSV text of a plan's rows; so many records, rows and bad lines were met, of these no more than there may be
-pub record Writes (before now : Option (List ℕ)) (spec : Spec) (format : InputFormat) (plan : Planned) (spans : List Span) (counts : Counts) (folder : Folder) : Type 0 where
-  pub text : Gains before now (csv_of spec.headers true plan.names (rows_in format plan folder spans))
-  pub processed : counts.processed ≡ length (spans_found (lines_of format) false folder spans)
-  pub output : counts.output ≡ length (rows_in format plan folder spans)
-  pub bad : counts.bad ≡ length (spans_bad (lines_of format) false folder spans)
+pub record Writes (before now : Option (List ℕ)) (spec : Spec) (format : LogFormat) (plan : Planned) (spans : List Span) (counts : Counts) (folder : Folder) : Type 0 where
+  pub text : Gains before now (text_in spec format plan folder spans)
+  pub processed : counts.processed ≡ length (spans_found (lines_in format) false folder spans)
+  pub output : counts.output ≡ length (rows_in format spec.ts_format plan folder spans)
+  pub bad : counts.bad ≡ length (spans_bad (lines_in format) false folder spans)
   pub within : IsWithin spec.errors counts.bad
 
--- a query has this plan
-abbrev pub IsPlanned : Spec → model.Query → Planned → Type 0
-IsPlanned spec q plan = plan_of (table_of (input_of spec q)) q ≡ Ok plan
-
--- where each span begins as its log was kept, the output gains the text of the query's rows over the spans
-pub record IsExecuted (told : Option Folder) (before now : Option (List ℕ)) (spec : Spec) (q : model.Query) (spans : List Span) (counts : Counts) : Type 0 where
+-- where each span begins as its log was kept, the output gains the text of the rows of the query's plan over a table
+pub record WritesAll (format : LogFormat) (told : Option Folder) (before now : Option (List ℕ)) (spec : Spec) (q : model.Query) (spans : List Span) (counts : Counts) (table : TableColumns) : Type 0 where
   pub plan : Planned
-  pub is_planned : IsPlanned spec q plan
-  pub written : Told told (λ folder. AreKept (lines_of (input_of spec q)) false spans folder → Writes before now spec (input_of spec q) plan spans counts folder)
+  pub is_planned : plan_of table q ≡ Ok plan
+  pub written : Told told (λ folder. AreKept (lines_in format) false spans folder → Writes before now spec format plan spans counts folder)
+
+-- the output gains the text of the query's rows
+abbrev pub IsExecuted : LogFormat → Option Folder → Option (List ℕ) → Option (List ℕ) → Spec → model.Query → List Span → Counts → Type 0
+IsExecuted format told before now spec q spans counts = OnTable format spec.ts_format told spans (WritesAll format told before now spec q spans counts)
 
 -- the output holds the front of that text
-pub record IsFront (told : Option Folder) (before now : Option (List ℕ)) (spec : Spec) (q : model.Query) (spans : List Span) : Type 0 where
+pub record HoldsFront (format : LogFormat) (told : Option Folder) (before now : Option (List ℕ)) (spec : Spec) (q : model.Query) (spans : List Span) (table : TableColumns) : Type 0 where
   pub plan : Planned
-  pub is_planned : IsPlanned spec q plan
-  pub front : Told told (λ folder. AreKept (lines_of (input_of spec q)) false spans folder → GainsSome before now (csv_of spec.headers true plan.names (rows_in (input_of spec q) plan folder spans)))
-
--- of the bad lines of the spans, in order, this is the first that is one too many; the output holds the front of the text
-pub record IsParseError (told : Option Folder) (before now : Option (List ℕ)) (spec : Spec) (q : model.Query) (spans : List Span) (line : BadLine) : Type 0 where
-  pub plan : Planned
-  pub is_planned : IsPlanned spec q plan
-  pub exceeds : Told told (λ folder. AreKept (lines_of (input_of spec q)) false spans folder → IsTooMany spec.errors 0 (spans_bad_lines (lines_of (input_of spec q)) false folder spans) line)
-  pub front : Told told (λ folder. AreKept (lines_of (input_of spec q)) false spans folder → GainsSome before now (csv_of spec.headers true plan.names (rows_in (input_of spec q) plan folder spans)))
+  pub is_planned : plan_of table q ≡ Ok plan
+  pub front : Told told (λ folder. AreKept (lines_in format) false spans folder → GainsSome before now (text_in spec format plan folder spans))
 
 -- a run stopped before it wrote anything, or within the text
-abbrev pub IsStopped : Option Folder → Option (List ℕ) → Option (List ℕ) → Spec → model.Query → List Span → Type 0
-IsStopped told before now spec q spans = (now ≡ before) ⊎ IsFront told before now spec q spans
+abbrev pub IsStopped : LogFormat → Option Folder → Option (List ℕ) → Option (List ℕ) → Spec → model.Query → List Span → Type 0
+IsStopped format told before now spec q spans = OnTable format spec.ts_format told spans (λ table. (now ≡ before) ⊎ HoldsFront format told before now spec q spans table)
+
+-- over a table that is known before a log is read, the query has a plan
+abbrev pub IsTyped : LogFormat → model.Query → Type 0
+IsTyped (F.Tabled format) q = (plan : Planned) × (plan_of (table_of format) q ≡ Ok plan)
+IsTyped (F.Sampled options limit) q = ⊤
+
+-- of the bad lines of the spans, in order, this is the first that is one too many
+pub record IsParseError (format : LogFormat) (told : Option Folder) (spec : Spec) (q : model.Query) (spans : List Span) (line : BadLine) : Type 0 where
+  pub typed : IsTyped format q
+  pub exceeds : Told told (λ folder. AreKept (lines_in format) false spans folder → IsTooMany spec.errors 0 (spans_bad_lines (lines_in format) false folder spans) line)
 
 -- a query has no plan, by this fault
-abbrev pub IsUnplanned : Spec → model.Query → TypeFault → Type 0
-IsUnplanned spec q fault = plan_of (table_of (input_of spec q)) q ≡ Err fault
+abbrev pub IsUnplanned : LogFormat → Option Folder → Spec → model.Query → List Span → TypeFault → Type 0
+IsUnplanned format told spec q spans fault = OnTable format spec.ts_format told spans (λ table. plan_of table q ≡ Err fault)
+
+-- nothing is written
+abbrev pub IsUntouched : LogFormat → Option Folder → Option (List ℕ) → Option (List ℕ) → Spec → List Span → Type 0
+IsUntouched format told before now spec spans = OnTable format spec.ts_format told spans (λ table. now ≡ before)

@@ -1,23 +1,12 @@
 // What is built so far.
 ghost use Rattle.std.specs.Prelude.{◌≡◌};
 ghost use Rattle.query_tree.specs.Views.{placed_all, query_of};
-ghost use Rattle.execution.specs.Built.{all_built, are_options_built, is_built_input, is_csv, reads_stdin};
+ghost use Rattle.execution.specs.Built.{all_built, are_options_built, is_csv, reads_stdin};
 
-use crate::formats::input_of;
-use command_words::{InputFormat, OutputFormat, Spec};
+use command_words::{OutputFormat, Spec};
 use query_text::is_stdin;
 use query_tree::{PlacedList, Query};
 use query_types::is_built;
-
-fn is_built_input(format: InputFormat) -> bool
-    ensures { result ≡ is_built_input format }
-{
-    match format {
-        InputFormat::IisW3c | InputFormat::Ncsa | InputFormat::TextLine | InputFormat::TextWord =>
-            true,
-        InputFormat::Csv | InputFormat::Tsv => false,
-    }
-}
 
 fn is_csv(format: Option<OutputFormat>) -> bool
     ensures { result ≡ is_csv format }
@@ -41,15 +30,15 @@ fn reads_stdin(names: &PlacedList) -> bool
 }
 
 // Whether all that the options ask for is built.
-fn are_options_built(spec: &Spec, input: InputFormat) -> bool
-    ensures { result ≡ are_options_built spec.now input }
+fn are_options_built(spec: &Spec) -> bool
+    ensures { result ≡ are_options_built spec.now }
 {
-    is_built_input(input) && is_csv(spec.output) && spec.checkpoint.is_none()
+    is_csv(spec.output) && spec.checkpoint.is_none()
 }
 
 /// Whether all that the options and the query ask for is built.
 pub fn all_built(spec: &Spec, query: &Query) -> bool
     ensures { result ≡ all_built spec.now (query_of query.now) }
 {
-    are_options_built(spec, input_of(spec, query)) && is_built(query) && !reads_stdin(&query.names)
+    are_options_built(spec) && is_built(query) && !reads_stdin(&query.names)
 }

@@ -1,6 +1,13 @@
-// Why a run of a query stops.
+// How a run of a query ends.
 use lp_outside::Name;
+use query_run::Counts;
 use query_types::TypeFault;
+
+/// What a run did.
+#[derive(Drop)]
+pub struct Ran {
+    pub counts: Counts,
+}
 
 /// Why a run of a query stops. The fault of a plan is never want of memory.
 #[derive(Drop)]

@@ -2,16 +2,19 @@
 //!
 //! To the crate above: [`execute`] writes exactly the text of the query's rows over the records of the spans, in order, or
 //! answers the typing fault of the query; after a refusal the stage has the front of the text. [`all_built`] tells what is
-//! built so far, and [`input_of`] in which format logs are read.
+//! built so far, and [`log_format`] how logs are read.
 #![tactic(auto)]
 
 mod built;
+mod errors;
 mod executing;
 mod fault;
 mod formats;
 mod planning;
+mod sampled;
+mod tabled;
 
 pub use built::all_built;
-pub use executing::{Ran, execute};
-pub use fault::RunFault;
-pub use formats::input_of;
+pub use executing::execute;
+pub use fault::{Ran, RunFault};
+pub use formats::{LogFormat, log_format};

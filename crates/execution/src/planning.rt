@@ -7,16 +7,15 @@ ghost use Rattle.query_types.specs.Meanings.{Answers};
 ghost use Rattle.query_types.specs.Planned.{Covers, plan_of, planned_in};
 ghost use Rattle.input_tables.specs.Tables.{columns_of, table_of};
 
-use command_words::InputFormat;
-use input_tables::table_of;
+use input_tables::{TableFormat, table_of};
 use query_tree::Query;
 use query_types::{Plan, TypeFault, plan};
 use std::alloc::Global;
 
-/// The plan of a query over the columns of a format.
+/// The plan of a query over the table of a format.
 pub(crate) fn plan_over(
     alloc: Global,
-    format: InputFormat,
+    format: TableFormat,
     query: &Query,
 ) -> Result<Plan, TypeFault>
     requires { is_built (query_of query.now) ≡ true }

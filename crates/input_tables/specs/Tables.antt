@@ -1,9 +1,9 @@
--- The input formats: their lines, and their tables. CSV and TSV, whose columns come from the logs, have those of a text log.
+-- The input formats that have a table: their lines, and their columns.
 use Rattle.std.specs.Prelude.{ℕ, false, List, [], ◌∷◌, map, drop, codes}
 use Rattle.lp_model.specs.Reading.{Format, text_lines}
 use Rattle.line_input.specs.Words.{text_words}
-use Rattle.command_words.specs.declared.formats.InputFormat.{InputFormat}
-use Rattle.command_words.specs.declared.formats.InputFormat.TheVariants as I
+use Rattle.input_tables.specs.declared.format.TableFormat.{TableFormat}
+use Rattle.input_tables.specs.declared.format.TableFormat.TheVariants as T
 use Rattle.query_types.specs.declared.table.NamedKind.{NamedKind}
 use Rattle.query_types.specs.declared.table.TableColumns.{TableColumns}
 use Rattle.slot_reading.specs.declared.reading.Reading.{Reading}
@@ -16,13 +16,11 @@ use Rattle.w3c_input.specs.Lines.{w3c_lines}
 use Rattle.w3c_input.specs.Table.{Field, logged_fields}
 
 -- the lines of a format
-abbrev pub lines_of : InputFormat → Format
-lines_of I.IisW3c = w3c_lines
-lines_of I.Ncsa = ncsa_lines
-lines_of I.Csv = text_lines
-lines_of I.Tsv = text_lines
-lines_of I.TextLine = text_lines
-lines_of I.TextWord = text_words
+abbrev pub lines_of : TableFormat → Format
+lines_of T.IisW3c = w3c_lines
+lines_of T.Ncsa = ncsa_lines
+lines_of T.TextLine = text_lines
+lines_of T.TextWord = text_words
 
 -- the fields of an NCSA log behind the log's name and the number
 abbrev pub ncsa_logged : List Field
@@ -33,37 +31,33 @@ abbrev pub text_fields : List Field
 text_fields = record { name = codes "Text"; reading = R.Text } ∷ []
 
 -- the fields of a format behind the log's name and the number
-abbrev pub fields_of : InputFormat → List Field
-fields_of I.IisW3c = logged_fields
-fields_of I.Ncsa = ncsa_logged
-fields_of I.Csv = text_fields
-fields_of I.Tsv = text_fields
-fields_of I.TextLine = text_fields
-fields_of I.TextWord = text_fields
+abbrev pub fields_of : TableFormat → List Field
+fields_of T.IisW3c = logged_fields
+fields_of T.Ncsa = ncsa_logged
+fields_of T.TextLine = text_fields
+fields_of T.TextWord = text_fields
 
 -- what the number of a record is called
-abbrev pub number_name : InputFormat → List ℕ
-number_name I.IisW3c = codes "LogRow"
-number_name I.Ncsa = codes "LogRow"
-number_name I.Csv = codes "Index"
-number_name I.Tsv = codes "Index"
-number_name I.TextLine = codes "Index"
-number_name I.TextWord = codes "Index"
+abbrev pub number_name : TableFormat → List ℕ
+number_name T.IisW3c = codes "LogRow"
+number_name T.Ncsa = codes "LogRow"
+number_name T.TextLine = codes "Index"
+number_name T.TextWord = codes "Index"
 
 -- the column of a field
 abbrev pub column_of : Field → NamedKind
 column_of field = record { name = field.name; kind = kind_of field.reading }
 
 -- the columns of a format: the log, the record's number, and the fields
-abbrev pub columns_of : InputFormat → List NamedKind
+abbrev pub columns_of : TableFormat → List NamedKind
 columns_of format = column_of (record { name = codes "LogFilename"; reading = R.Text }) ∷ column_of (record { name = number_name format; reading = R.Integer }) ∷ map column_of (fields_of format)
 
-abbrev pub table_of : InputFormat → TableColumns
+abbrev pub table_of : TableFormat → TableColumns
 table_of format = record { columns = columns_of format; others = false }
 
 abbrev pub reading_in : Field → Reading
 reading_in field = field.reading
 
 -- how the fields of a format are read
-abbrev pub readings_of : InputFormat → List Reading
+abbrev pub readings_of : TableFormat → List Reading
 readings_of format = map reading_in (fields_of format)

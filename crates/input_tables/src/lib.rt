@@ -6,9 +6,11 @@
 #![tactic(auto)]
 
 mod field;
+mod format;
 mod known;
 mod tables;
 #[cfg(test)]
 mod tests;
 
+pub use format::TableFormat;
 pub use tables::{readings_of, table_of};

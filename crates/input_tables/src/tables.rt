@@ -3,22 +3,21 @@ ghost use Rattle.std.specs.Prelude.{◌≡◌, ◌++◌, ◌∷◌, [], map, IfO
 ghost use Rattle.input_tables.specs.Known.{known};
 ghost use Rattle.input_tables.specs.Tables.{column_of, fields_of, number_name, reading_in, readings_of, table_of};
 
+use crate::TableFormat;
 use crate::field::{How, Known};
 use crate::known::{iis_known, ncsa_known, text_known};
-use command_words::InputFormat;
 use lp_values::{ListOf, Text};
 use query_types::{NamedKind, NamedKinds, TableColumns};
 use slot_reading::Reading;
 use std::alloc::{AllocError, Global};
 
 // The name of the number of a record.
-fn number_name(format: InputFormat) -> &'static str
+fn number_name(format: TableFormat) -> &'static str
     ensures { result.now ≡ number_name format }
 {
     match format {
-        InputFormat::IisW3c | InputFormat::Ncsa => "LogRow",
-        InputFormat::Csv | InputFormat::Tsv | InputFormat::TextLine | InputFormat::TextWord =>
-            "Index",
+        TableFormat::IisW3c | TableFormat::Ncsa => "LogRow",
+        TableFormat::TextLine | TableFormat::TextWord => "Index",
     }
 }
 
@@ -56,20 +55,21 @@ fn readings(alloc: Global, fields: &[Known]) -> Result<ListOf<Reading>, AllocErr
 fn add_fields(
     alloc: Global,
     columns: &mut NamedKinds,
-    format: InputFormat,
+    format: TableFormat,
 ) -> Result<(), AllocError>
     ensures { OnOk result (columns.new ≡ columns.old ++ map column_of (fields_of format)) }
 {
     match format {
-        InputFormat::IisW3c => add_columns(alloc, columns, &iis_known()),
-        InputFormat::Ncsa => add_columns(alloc, columns, &ncsa_known()),
-        InputFormat::Csv | InputFormat::Tsv | InputFormat::TextLine | InputFormat::TextWord =>
-            add_columns(alloc, columns, &text_known()),
+        TableFormat::IisW3c => add_columns(alloc, columns, &iis_known()),
+        TableFormat::Ncsa => add_columns(alloc, columns, &ncsa_known()),
+        TableFormat::TextLine | TableFormat::TextWord => {
+            add_columns(alloc, columns, &text_known())
+        }
     }
 }
 
 /// The columns of a format: the log's name, the record's number, and its fields.
-pub fn table_of(alloc: Global, format: InputFormat) -> Result<TableColumns, AllocError>
+pub fn table_of(alloc: Global, format: TableFormat) -> Result<TableColumns, AllocError>
     ensures { IfOk result (λ table. table ≡ table_of format) }
 {
     let mut columns = NamedKinds::new(alloc);
@@ -91,13 +91,12 @@ pub fn table_of(alloc: Global, format: InputFormat) -> Result<TableColumns, Allo
 }
 
 /// How the fields of a format's records are read.
-pub fn readings_of(alloc: Global, format: InputFormat) -> Result<ListOf<Reading>, AllocError>
+pub fn readings_of(alloc: Global, format: TableFormat) -> Result<ListOf<Reading>, AllocError>
     ensures { IfOk result (λ list. list ≡ readings_of format) }
 {
     match format {
-        InputFormat::IisW3c => readings(alloc, &iis_known()),
-        InputFormat::Ncsa => readings(alloc, &ncsa_known()),
-        InputFormat::Csv | InputFormat::Tsv | InputFormat::TextLine | InputFormat::TextWord =>
-            readings(alloc, &text_known()),
+        TableFormat::IisW3c => readings(alloc, &iis_known()),
+        TableFormat::Ncsa => readings(alloc, &ncsa_known()),
+        TableFormat::TextLine | TableFormat::TextWord => readings(alloc, &text_known()),
     }
 }

@@ -1,6 +1,5 @@
 // The tables, written out.
-use crate::{readings_of, table_of};
-use command_words::InputFormat;
+use crate::{TableFormat, readings_of, table_of};
 use lp_values::Kind;
 use std::alloc::Global;
 use std::test::Fail;
@@ -16,7 +15,7 @@ fn letter(kind: Kind) -> &'static str {
 }
 
 // The names of a table with their kinds.
-fn columns(alloc: Global, format: InputFormat) -> Result<String, Fail> {
+fn columns(alloc: Global, format: TableFormat) -> Result<String, Fail> {
     let table = table_of(alloc, format)?;
     let mut to = String::new(alloc);
     for column in table.columns.as_slice() {
@@ -29,7 +28,7 @@ fn columns(alloc: Global, format: InputFormat) -> Result<String, Fail> {
 }
 
 // The kinds that the readings of a table make.
-fn kinds(alloc: Global, format: InputFormat) -> Result<String, Fail> {
+fn kinds(alloc: Global, format: TableFormat) -> Result<String, Fail> {
     let list = readings_of(alloc, format)?;
     let mut to = String::new(alloc);
     for reading in list.as_slice() {
@@ -55,10 +54,10 @@ const NCSA_KINDS: &str = "Text;Text;Text;Stamp;Text;Integer;Integer;Text;Text;Te
 #[test]
 fn the_tables_are_these(rt: HostRuntime) -> Result<(), Fail> {
     let cases = [
-        (InputFormat::IisW3c, IIS, IIS_KINDS),
-        (InputFormat::Ncsa, NCSA, NCSA_KINDS),
-        (InputFormat::TextLine, TEXT, "Text;"),
-        (InputFormat::TextWord, TEXT, "Text;"),
+        (TableFormat::IisW3c, IIS, IIS_KINDS),
+        (TableFormat::Ncsa, NCSA, NCSA_KINDS),
+        (TableFormat::TextLine, TEXT, "Text;"),
+        (TableFormat::TextWord, TEXT, "Text;"),
     ];
     for (format, names, read) in cases {
         assert_eq!(rt; columns(rt.alloc(), format)?.as_str(), names);

@@ -5,21 +5,21 @@ use Rattle.lp_model.specs.Outside.{Folder, OnlyGrow, Told, GainsSome, Rose}
 use Rattle.checkpoint.specs.Wholes.{whole_spans}
 use Rattle.command_words.specs.declared.spec.Spec.{Spec}
 use Rattle.execution.specs.Built.{all_built}
-use Rattle.execution.specs.Executed.{IsExecuted, IsFront, IsMoment, IsUnplanned, Writes, rows_in}
-use Rattle.execution.specs.Executed.{IsStopped as IsHalted, IsParseError as IsExceeded}
-use Rattle.execution.specs.Formats.{input_of}
+use Rattle.execution.specs.Executed.{IsExecuted, IsMoment, IsUntouched, Writes, text_in}
+use Rattle.execution.specs.Executed.{HoldsFront as HoldsSpans, IsParseError as IsExceeded, IsStopped as IsStoppedIn, IsUnplanned as IsUnplannedIn, WritesAll as WritesSpans}
+use Rattle.execution.specs.Formats.{lines_in, log_format}
 use Rattle.execution.specs.Faults.{IfParse, IfPlan}
 use Rattle.execution.specs.declared.fault.RunFault.{RunFault}
 use Rattle.execution.specs.declared.fault.RunFault.TheVariants as X
-use Rattle.input_tables.specs.Tables.{lines_of}
 use Rattle.log_reading.specs.declared.span.Span.{Span}
 use Rattle.log_reading.specs.Page.{IsTooMany}
 use Rattle.log_reading.specs.Spans.{BadLine, spans_bad_lines, bad_line}
-use Rattle.output_formats.specs.Headers.{csv_of}
 use Rattle.query_run.specs.declared.executing.Counts.{Counts}
+use Rattle.query_text.specs.declared.fault.QueryFault.{QueryFault}
 use Rattle.query_text.specs.declared.fault.QueryFault.TheVariants as Q
 use Rattle.query_types.specs.declared.fault.TypeFault.{TypeFault}
-use Rattle.query_types.specs.Planned.{Planned}
+use Rattle.query_types.specs.declared.table.TableColumns.{TableColumns}
+use Rattle.query_types.specs.Planned.{plan_of}
 use Rattle.log_listing.specs.declared.lengths.NameLength.{NameLength}
 use Rattle.reports.specs.declared.status.Status.{Status}
 use Rattle.reports.specs.declared.status.Status.TheVariants.{Done, Memory, Clock, Usage, Query, NotBuilt, NoSuchLog, BadName, TooManyLogs, LogsFault, SinkFault, ParseErrors}
@@ -29,9 +29,9 @@ use Rattle.requests.specs.declared.fault.RequestFault.{RequestFault}
 use Rattle.requests.specs.declared.fault.RequestFault.TheVariants as R
 use Rattle.requests.proofs.Growing.{asks_grown}
 use Rattle.logparser_cli.specs.Logs.{AreSpans, IsUnlisted}
-use Rattle.logparser_cli.specs.Whole.{World, Runs, Tells, told_statistics, IsWhole, HoldsFront, IsParseError, IsUnwritten}
+use Rattle.logparser_cli.specs.Whole.{World, Tells, told_statistics, HoldsFront, IsFront, IsHalted, IsParseError, IsUnplanned, IsUnwritten, IsWhole, WritesAll}
 use Rattle.logparser_cli.specs.Answers.{IsStopped, IsUnplannable, AnswersBuilt, AnswersQuery, Asked, IsUnasked, Answers, unasked, stopped}
-use Rattle.logparser_cli.proofs.Wholes.{whole_told, logs_later, logs_earlier}
+use Rattle.logparser_cli.proofs.Wholes.{logs_earlier, logs_later, on_whole, whole_told}
 
 pub on_refused : (status : Status) (P : Type 0) → P → OnRefused status P
 on_refused Done P p = tt
@@ -68,78 +68,107 @@ unlisted_answers old new spec q (ParseErrors log row) is same rose = absurd is
 
 -- a query was run over whole logs
 pub whole : (old new : World) (mid : Option Folder) (spec : Spec) (q : model.Query) (spans : List Span) (counts : Counts) → AreSpans old.folder mid q spans → OnlyGrow mid new.folder
-    → IsExecuted new.folder old.out new.out spec q spans counts → Tells old.err new.err (told_statistics spec.stats counts) (Rose old.err_faults new.err_faults) → IsWhole old new spec q
+    → IsExecuted (log_format spec q) new.folder old.out new.out spec q spans counts → Tells old.err new.err (told_statistics spec.stats counts) (Rose old.err_faults new.err_faults) → IsWhole old new spec q
 whole old new mid spec q spans counts found grow ran told = record {
   logs = found.logs;
-  plan = ran.plan;
-  runs = record { are_logs = logs_later old.folder mid new.folder q found.logs grow found.are_logs; is_planned = ran.is_planned };
+  are_logs = logs_later old.folder mid new.folder q found.logs grow found.are_logs;
   counts = counts;
-  written = whole_told new.folder (input_of spec q) found.logs spans (λ s folder. Writes old.out new.out spec (input_of spec q) ran.plan s counts folder) found.wholes ran.written;
+  written = on_whole new.folder (log_format spec q) spec.ts_format found.logs spans (WritesSpans (log_format spec q) new.folder old.out new.out spec q spans counts) (WritesAll new.folder old.out new.out spec q found.logs counts) found.wholes
+      (λ table w. record {
+        plan = w.plan;
+        is_planned = w.is_planned;
+        written = whole_told new.folder (log_format spec q) found.logs spans (λ s folder. Writes old.out new.out spec (log_format spec q) w.plan s counts folder) found.wholes w.written;
+      })
+      ran;
   told = told;
 }
 
--- it stopped
-halted : (old new : World) (mid : Option Folder) (spec : Spec) (q : model.Query) (spans : List Span) → AreSpans old.folder mid q spans → OnlyGrow mid new.folder → IsHalted new.folder old.out new.out spec q spans → IsStopped old new spec q
-halted old new mid spec q spans found grow (inl same) = inl same
-halted old new mid spec q spans found grow (inr front) = inr (record {
-  logs = found.logs;
+-- nothing is written, or the front of the text
+front_of : (old new : World) (spec : Spec) (q : model.Query) (logs : List NameLength) (spans : List Span) (table : TableColumns) → spans ≡ whole_spans logs
+    → (new.out ≡ old.out) ⊎ HoldsSpans (log_format spec q) new.folder old.out new.out spec q spans table → (new.out ≡ old.out) ⊎ HoldsFront new.folder old.out new.out spec q logs table
+front_of old new spec q logs spans table wholes (inl same) = inl same
+front_of old new spec q logs spans table wholes (inr front) = inr (record {
   plan = front.plan;
-  runs = record { are_logs = logs_later old.folder mid new.folder q found.logs grow found.are_logs; is_planned = front.is_planned };
-  front = whole_told new.folder (input_of spec q) found.logs spans (λ s folder. GainsSome old.out new.out (csv_of spec.headers true front.plan.names (rows_in (input_of spec q) front.plan folder s))) found.wholes front.front;
+  is_planned = front.is_planned;
+  front = whole_told new.folder (log_format spec q) logs spans (λ s folder. GainsSome old.out new.out (text_in spec (log_format spec q) front.plan folder s)) wholes front.front;
 })
 
--- a bad line was one too many
-exceeded : (old new : World) (mid : Option Folder) (spec : Spec) (q : model.Query) (spans : List Span) (line : BadLine) → AreSpans old.folder mid q spans → OnlyGrow mid new.folder → IsExceeded new.folder old.out new.out spec q spans line
-    → IsParseError old.folder new.folder old.out new.out spec q line
-exceeded old new mid spec q spans line found grow e = record {
+stopped_front : (old new : World) (spec : Spec) (q : model.Query) (logs : List NameLength) (spans : List Span) → spans ≡ whole_spans logs → IsStoppedIn (log_format spec q) new.folder old.out new.out spec q spans → IsFront new.folder old.out new.out spec q logs
+stopped_front old new spec q logs spans wholes stop =
+    on_whole new.folder (log_format spec q) spec.ts_format logs spans (λ table. (new.out ≡ old.out) ⊎ HoldsSpans (log_format spec q) new.folder old.out new.out spec q spans table)
+    (λ table. (new.out ≡ old.out) ⊎ HoldsFront new.folder old.out new.out spec q logs table) wholes (λ table front. front_of old new spec q logs spans table wholes front) stop
+
+-- it stopped
+halted : (old new : World) (mid : Option Folder) (spec : Spec) (q : model.Query) (spans : List Span) → AreSpans old.folder mid q spans → OnlyGrow mid new.folder → IsStoppedIn (log_format spec q) new.folder old.out new.out spec q spans → IsHalted old.folder new.folder old.out new.out spec q
+halted old new mid spec q spans found grow stop = record {
   logs = found.logs;
-  plan = e.plan;
-  runs = record { are_logs = logs_later old.folder mid new.folder q found.logs grow found.are_logs; is_planned = e.is_planned };
-  exceeds = whole_told new.folder (input_of spec q) found.logs spans (λ s folder. IsTooMany spec.errors 0 (spans_bad_lines (lines_of (input_of spec q)) false folder s) line) found.wholes e.exceeds;
-  front = whole_told new.folder (input_of spec q) found.logs spans (λ s folder. GainsSome old.out new.out (csv_of spec.headers true e.plan.names (rows_in (input_of spec q) e.plan folder s))) found.wholes e.front;
+  are_logs = logs_later old.folder mid new.folder q found.logs grow found.are_logs;
+  front = stopped_front old new spec q found.logs spans found.wholes stop;
 }
 
-stopped_by : (old new : World) (mid : Option Folder) (spec : Spec) (q : model.Query) (spans : List Span) (fault : RunFault) → AreSpans old.folder mid q spans → OnlyGrow mid new.folder
-    → IsStopped old new spec q → IfPlan {T = Unit {0}} (Err fault) (IsUnplanned spec q) → IfPlan {T = Unit {0}} (Err fault) (λ f. new.out ≡ old.out)
-    → IfParse {T = Unit {0}} (Err fault) (IsExceeded new.folder old.out new.out spec q spans)
-    → (fault ≡ X.LogsFault → Rose old.logs_faults new.logs_faults) → (fault ≡ X.StageFault → Rose old.out_faults new.out_faults) → AnswersBuilt old new spec q (stopped fault)
-stopped_by old new mid spec q spans (X.Plan fault) found grow stop plan before parse logs stage = (plan, before)
-stopped_by old new mid spec q spans X.LogsFault found grow stop plan before parse logs stage = (stop, logs refl)
-stopped_by old new mid spec q spans X.StageFault found grow stop plan before parse logs stage = (stop, stage refl)
-stopped_by old new mid spec q spans (X.ParseErrors log row) found grow stop plan before parse logs stage = exceeded old new mid spec q spans (bad_line log row) found grow parse
-stopped_by old new mid spec q spans X.Memory found grow stop plan before parse logs stage = stop
+-- a bad line was one too many
+exceeded : (old new : World) (mid : Option Folder) (spec : Spec) (q : model.Query) (spans : List Span) (line : BadLine) → AreSpans old.folder mid q spans → OnlyGrow mid new.folder
+    → IsStoppedIn (log_format spec q) new.folder old.out new.out spec q spans → IsExceeded (log_format spec q) new.folder spec q spans line → IsParseError old.folder new.folder old.out new.out spec q line
+exceeded old new mid spec q spans line found grow stop e = record {
+  logs = found.logs;
+  are_logs = logs_later old.folder mid new.folder q found.logs grow found.are_logs;
+  typed = e.typed;
+  exceeds = whole_told new.folder (log_format spec q) found.logs spans (λ s folder. IsTooMany spec.errors 0 (spans_bad_lines (lines_in (log_format spec q)) false folder s) line) found.wholes e.exceeds;
+  front = stopped_front old new spec q found.logs spans found.wholes stop;
+}
+
+-- no plan was made
+unplanned : (old new : World) (mid : Option Folder) (spec : Spec) (q : model.Query) (spans : List Span) (fault : TypeFault) → AreSpans old.folder mid q spans → OnlyGrow mid new.folder
+    → IsUnplannedIn (log_format spec q) new.folder spec q spans fault → IsUntouched (log_format spec q) new.folder old.out new.out spec spans → IsUnplanned old.folder new.folder old.out new.out spec q fault
+unplanned old new mid spec q spans fault found grow plan before = record {
+  logs = found.logs;
+  are_logs = logs_later old.folder mid new.folder q found.logs grow found.are_logs;
+  unplanned = on_whole new.folder (log_format spec q) spec.ts_format found.logs spans (λ table. plan_of table q ≡ Err fault) (λ table. plan_of table q ≡ Err fault) found.wholes (λ table is. is) plan;
+  unwritten = on_whole new.folder (log_format spec q) spec.ts_format found.logs spans (λ table. new.out ≡ old.out) (λ table. new.out ≡ old.out) found.wholes (λ table same. same) before;
+}
 
 pub stopped_answers : (old new : World) (mid : Option Folder) (spec : Spec) (q : model.Query) (spans : List Span) (fault : RunFault) → AreSpans old.folder mid q spans → OnlyGrow mid new.folder
-    → IsHalted new.folder old.out new.out spec q spans → IfPlan {T = Unit {0}} (Err fault) (IsUnplanned spec q) → IfPlan {T = Unit {0}} (Err fault) (λ f. new.out ≡ old.out)
-    → IfParse {T = Unit {0}} (Err fault) (IsExceeded new.folder old.out new.out spec q spans)
+    → IsStoppedIn (log_format spec q) new.folder old.out new.out spec q spans → IfPlan {T = Unit {0}} (Err fault) (IsUnplannedIn (log_format spec q) new.folder spec q spans)
+    → IfPlan {T = Unit {0}} (Err fault) (λ f. IsUntouched (log_format spec q) new.folder old.out new.out spec spans)
+    → IfParse {T = Unit {0}} (Err fault) (IsExceeded (log_format spec q) new.folder spec q spans)
     → (fault ≡ X.LogsFault → Rose old.logs_faults new.logs_faults) → (fault ≡ X.StageFault → Rose old.out_faults new.out_faults) → AnswersBuilt old new spec q (stopped fault)
-stopped_answers old new mid spec q spans fault found grow stop plan before parse logs stage = stopped_by old new mid spec q spans fault found grow (halted old new mid spec q spans found grow stop) plan before parse logs stage
+stopped_answers old new mid spec q spans (X.Plan fault) found grow stop plan before parse logs stage = unplanned old new mid spec q spans fault found grow plan before
+stopped_answers old new mid spec q spans X.LogsFault found grow stop plan before parse logs stage = (inr (halted old new mid spec q spans found grow stop), logs refl)
+stopped_answers old new mid spec q spans X.StageFault found grow stop plan before parse logs stage = (inr (halted old new mid spec q spans found grow stop), stage refl)
+stopped_answers old new mid spec q spans (X.ParseErrors log row) found grow stop plan before parse logs stage = exceeded old new mid spec q spans (bad_line log row) found grow stop parse
+stopped_answers old new mid spec q spans X.Memory found grow stop plan before parse logs stage = inr (halted old new mid spec q spans found grow stop)
 
 -- the same world with the logs as they were before
 abbrev with_logs : World → Option Folder → ℕ → World
 with_logs world folder faults = record { folder = folder; logs_faults = faults; out = world.out; out_faults = world.out_faults; err = world.err; err_faults = world.err_faults }
 
-runs_earlier : (before mid now : Option Folder) (spec : Spec) (q : model.Query) (logs : List NameLength) (plan : Planned) → OnlyGrow before mid → Runs mid now spec q logs plan → Runs before now spec q logs plan
-runs_earlier before mid now spec q logs plan grow runs = record { are_logs = logs_earlier before mid now q logs grow runs.are_logs; is_planned = runs.is_planned }
-
 stop_earlier : (mid new : World) (before : Option Folder) (faults : ℕ) (spec : Spec) (q : model.Query) → OnlyGrow before mid.folder → IsStopped mid new spec q → IsStopped (with_logs mid before faults) new spec q
 stop_earlier mid new before faults spec q grow (inl same) = inl same
-stop_earlier mid new before faults spec q grow (inr front) = inr (record { logs = front.logs; plan = front.plan; runs = runs_earlier before mid.folder new.folder spec q front.logs front.plan grow front.runs; front = front.front })
+stop_earlier mid new before faults spec q grow (inr stop) = inr (record { logs = stop.logs; are_logs = logs_earlier before mid.folder new.folder q stop.logs grow stop.are_logs; front = stop.front })
+
+unplannable_earlier : (mid new : World) (before : Option Folder) (faults : ℕ) (spec : Spec) (q : model.Query) (fault : QueryFault) → OnlyGrow before mid.folder → IsUnplannable mid new spec q fault → IsUnplannable (with_logs mid before faults) new spec q fault
+unplannable_earlier mid new before faults spec q Q.TooLong grow s = absurd s
+unplannable_earlier mid new before faults spec q Q.NotUtf8 grow s = absurd s
+unplannable_earlier mid new before faults spec q (Q.Lex fault) grow s = absurd s
+unplannable_earlier mid new before faults spec q (Q.Parse fault) grow s = absurd s
+unplannable_earlier mid new before faults spec q (Q.StdinMisplaced at) grow s = absurd s
+unplannable_earlier mid new before faults spec q (Q.Plan fault) grow s =
+    record { logs = s.logs; are_logs = logs_earlier before mid.folder new.folder q s.logs grow s.are_logs; unplanned = s.unplanned; unwritten = s.unwritten }
 
 built_earlier : (mid new : World) (before : Option Folder) (faults : ℕ) (spec : Spec) (q : model.Query) (status : Status) → OnlyGrow before mid.folder → faults ≤ mid.logs_faults
     → AnswersBuilt mid new spec q status → AnswersBuilt (with_logs mid before faults) new spec q status
-built_earlier mid new before faults spec q Done grow later w = record { logs = w.logs; plan = w.plan; runs = runs_earlier before mid.folder new.folder spec q w.logs w.plan grow w.runs; counts = w.counts; written = w.written; told = w.told }
+built_earlier mid new before faults spec q Done grow later w = record { logs = w.logs; are_logs = logs_earlier before mid.folder new.folder q w.logs grow w.are_logs; counts = w.counts; written = w.written; told = w.told }
 built_earlier mid new before faults spec q Memory grow later s = stop_earlier mid new before faults spec q grow s
 built_earlier mid new before faults spec q (Clock moment) grow later s = absurd s
 built_earlier mid new before faults spec q (Usage fault) grow later s = absurd s
-built_earlier mid new before faults spec q (Query fault) grow later s = s
+built_earlier mid new before faults spec q (Query fault) grow later s = unplannable_earlier mid new before faults spec q fault grow s
 built_earlier mid new before faults spec q NotBuilt grow later s = absurd s
 built_earlier mid new before faults spec q (NoSuchLog name) grow later s = s
 built_earlier mid new before faults spec q (BadName fault) grow later s = s
 built_earlier mid new before faults spec q TooManyLogs grow later s = s
 built_earlier mid new before faults spec q LogsFault grow later s = (stop_earlier mid new before faults spec q grow s.0, rose_since faults mid.logs_faults new.logs_faults later s.1)
 built_earlier mid new before faults spec q SinkFault grow later s = (stop_earlier mid new before faults spec q grow s.0, s.1)
-built_earlier mid new before faults spec q (ParseErrors log row) grow later s = record { logs = s.logs; plan = s.plan; runs = runs_earlier before mid.folder new.folder spec q s.logs s.plan grow s.runs; exceeds = s.exceeds; front = s.front }
+built_earlier mid new before faults spec q (ParseErrors log row) grow later s = record { logs = s.logs; are_logs = logs_earlier before mid.folder new.folder q s.logs grow s.are_logs; typed = s.typed; exceeds = s.exceeds; front = s.front }
 
 query_earlier : (mid new : World) (before : Option Folder) (faults : ℕ) (spec : Spec) (q : model.Query) (status : Status) → OnlyGrow before mid.folder → faults ≤ mid.logs_faults
     → AnswersQuery mid new spec q status → AnswersQuery (with_logs mid before faults) new spec q status

@@ -15,13 +15,19 @@ use Rattle.log_reading.specs.declared.span.Span.{Span}
 use Rattle.log_reading.specs.Spans.{AllSpans, IsSpan, AreKept}
 use Rattle.checkpoint.specs.Wholes.{whole_spans}
 use Rattle.checkpoint.proofs.Spanning.{are_spans, are_kept, told_there}
-use Rattle.command_words.specs.declared.formats.InputFormat.{InputFormat}
-use Rattle.input_tables.specs.Tables.{lines_of}
-use Rattle.input_tables.proofs.Formats.{lines_start}
+use Rattle.execution.specs.Executed.{OnTable, told_table}
+use Rattle.execution.specs.Formats.{lines_in}
+use Rattle.execution.specs.declared.formats.LogFormat.{LogFormat}
+use Rattle.execution.specs.declared.formats.LogFormat.TheVariants as F
+use Rattle.execution.proofs.Formats.{lines_start}
+use Rattle.input_tables.specs.Tables.{table_of}
+use Rattle.lp_time.specs.declared.piece.Piece.{Piece}
+use Rattle.query_types.specs.declared.table.TableColumns.{TableColumns}
 use Rattle.reports.specs.declared.status.Status.TheVariants.{LogsFault}
 use Rattle.query_tree.specs.declared.query.Query.{Query, Query', out-Query}
 use Rattle.query_tree.specs.Views.{placed_all, query_of}
 use Rattle.logparser_cli.specs.Logs.{AreLogs, IsUnlisted, from_names, unlisted}
+use Rattle.logparser_cli.specs.Whole.{OnWhole}
 
 pub spans_of : (before now : Option Folder) (logs : List NameLength) (spans : List Span) → spans ≡ whole_spans logs → All (IsLength before now) logs → AllSpans spans IsSpan
 spans_of before now logs spans wholes lengths = subst (λ (s : List Span). AllSpans s IsSpan) (sym wholes) (are_spans logs (λ k d here. (lengths k d here).bounded))
@@ -37,13 +43,26 @@ there_of before now logs spans wholes lengths =
     subst (λ (s : List Span). Told now (λ files. AllSpans s (λ span. span.listed ≤ length (bytes_in files span.name)))) (sym wholes)
     (told_there now logs (most_told now logs (λ k d here. (lengths k d here).most)))
 
+-- whole logs begin as they were kept
+kept_of : (format : LogFormat) (folder : Folder) (logs : List NameLength) (spans : List Span) → spans ≡ whole_spans logs → AreKept (lines_in format) false spans folder
+kept_of format folder logs spans wholes =
+    subst (λ (s : List Span). AreKept (lines_in format) false s folder) (sym wholes) (are_kept (lines_in format) folder logs (lines_start format))
+
 -- what holds of spans that begin as their logs were kept holds of whole logs
-pub whole_told : (told : Option Folder) (format : InputFormat) (logs : List NameLength) (spans : List Span) (P : List Span → Folder → Type 0) → spans ≡ whole_spans logs
-    → Told told (λ folder. AreKept (lines_of format) false spans folder → P spans folder) → Told told (P (whole_spans logs))
+pub whole_told : (told : Option Folder) (format : LogFormat) (logs : List NameLength) (spans : List Span) (P : List Span → Folder → Type 0) → spans ≡ whole_spans logs
+    → Told told (λ folder. AreKept (lines_in format) false spans folder → P spans folder) → Told told (P (whole_spans logs))
 whole_told None format logs spans P wholes h = tt
 whole_told (Some folder) format logs spans P wholes h =
-    let kept : AreKept (lines_of format) false spans folder = subst (λ (s : List Span). AreKept (lines_of format) false s folder) (sym wholes) (are_kept (lines_of format) folder logs (lines_start format)) in
-    subst (λ (s : List Span). P s folder) wholes (h kept)
+    subst (λ (s : List Span). P s folder) wholes (h (kept_of format folder logs spans wholes))
+
+-- the same of the table of a run
+pub on_whole : (told : Option Folder) (format : LogFormat) (pattern : List Piece) (logs : List NameLength) (spans : List Span) (P Q : TableColumns → Type 0) → spans ≡ whole_spans logs
+    → ((table : TableColumns) → P table → Q table) → OnTable format pattern told spans P → OnWhole format pattern told logs Q
+on_whole told (F.Tabled format) pattern logs spans P Q wholes so h = so (table_of format) h
+on_whole None (F.Sampled options limit) pattern logs spans P Q wholes so h = tt
+on_whole (Some folder) (F.Sampled options limit) pattern logs spans P Q wholes so h =
+    subst (λ (s : List Span). Q (told_table options limit pattern folder s)) wholes
+    (so (told_table options limit pattern folder spans) (h (kept_of (F.Sampled options limit) folder logs spans wholes)))
 
 length_later : (before mid now : Option Folder) → OnlyGrow mid now → (log : NameLength) → IsLength before mid log → IsLength before now log
 length_later before mid now grow log is = record { least = is.least; most = there_grown mid now log.name log.length grow is.most; bounded = is.bounded }

@@ -4,7 +4,7 @@ use Rattle.grammar.specs.Trees as model
 use Rattle.lp_model.specs.Outside.{Rose}
 use Rattle.command_words.specs.declared.spec.Spec.{Spec}
 use Rattle.execution.specs.Built.{all_built}
-use Rattle.execution.specs.Executed.{IsMoment, IsUnplanned}
+use Rattle.execution.specs.Executed.{IsMoment}
 use Rattle.log_reading.specs.Spans.{bad_line}
 use Rattle.query_text.specs.declared.fault.QueryFault.{QueryFault}
 use Rattle.query_text.specs.declared.fault.QueryFault.TheVariants as Q
@@ -16,20 +16,20 @@ use Rattle.requests.specs.declared.fault.RequestFault.TheVariants as R
 use Rattle.execution.specs.declared.fault.RunFault.{RunFault}
 use Rattle.execution.specs.declared.fault.RunFault.TheVariants as X
 use Rattle.logparser_cli.specs.Logs.{IsUnlisted}
-use Rattle.logparser_cli.specs.Whole.{World, IsWhole, HoldsFront, IsParseError, IsUnwritten}
+use Rattle.logparser_cli.specs.Whole.{World, IsWhole, IsHalted, IsParseError, IsUnplanned, IsUnwritten}
 
 -- the query's fault is one of its plan
-abbrev pub IsUnplannable : Spec → model.Query → QueryFault → Type 0
-IsUnplannable spec q Q.TooLong = ⊥
-IsUnplannable spec q Q.NotUtf8 = ⊥
-IsUnplannable spec q (Q.Lex fault) = ⊥
-IsUnplannable spec q (Q.Parse fault) = ⊥
-IsUnplannable spec q (Q.StdinMisplaced at) = ⊥
-IsUnplannable spec q (Q.Plan fault) = IsUnplanned spec q fault
+abbrev pub IsUnplannable : World → World → Spec → model.Query → QueryFault → Type 0
+IsUnplannable old new spec q Q.TooLong = ⊥
+IsUnplannable old new spec q Q.NotUtf8 = ⊥
+IsUnplannable old new spec q (Q.Lex fault) = ⊥
+IsUnplannable old new spec q (Q.Parse fault) = ⊥
+IsUnplannable old new spec q (Q.StdinMisplaced at) = ⊥
+IsUnplannable old new spec q (Q.Plan fault) = IsUnplanned old.folder new.folder old.out new.out spec q fault
 
 -- the run stopped before it wrote anything, or while it wrote
 abbrev pub IsStopped : World → World → Spec → model.Query → Type 0
-IsStopped old new spec q = IsUnwritten old new ⊎ HoldsFront old.folder new.folder old.out new.out spec q
+IsStopped old new spec q = IsUnwritten old new ⊎ IsHalted old.folder new.folder old.out new.out spec q
 
 -- what an answer says of a query that is built
 abbrev pub AnswersBuilt : World → World → Spec → model.Query → Status → Type 0
@@ -37,7 +37,7 @@ AnswersBuilt old new spec q Done = IsWhole old new spec q
 AnswersBuilt old new spec q Memory = IsStopped old new spec q
 AnswersBuilt old new spec q (Clock moment) = ⊥
 AnswersBuilt old new spec q (Usage fault) = ⊥
-AnswersBuilt old new spec q (Query fault) = IsUnplannable spec q fault × IsUnwritten old new
+AnswersBuilt old new spec q (Query fault) = IsUnplannable old new spec q fault
 AnswersBuilt old new spec q NotBuilt = ⊥
 AnswersBuilt old new spec q (NoSuchLog name) = IsUnlisted new.folder q (NoSuchLog name) × IsUnwritten old new
 AnswersBuilt old new spec q (BadName fault) = IsUnlisted new.folder q (BadName fault) × IsUnwritten old new

@@ -1,19 +1,23 @@
 -- What a run writes.
-use Rattle.std.specs.Prelude.{◌≡◌, ◌⊎◌, ℕ, Bool, true, false, List, [], Option}
+use Rattle.std.specs.Prelude.{◌≡◌, ◌⊎◌, ℕ, Bool, true, false, List, [], Option, Ok, Err}
 use Rattle.grammar.specs.Trees as model
 use Rattle.lp_model.specs.Outside.{Folder, Told, Gains, GainsSome, Rose}
 use Rattle.lp_model.specs.Report.{statistics}
+use Rattle.lp_time.specs.declared.piece.Piece.{Piece}
 use Rattle.command_words.specs.declared.spec.Spec.{Spec}
 use Rattle.checkpoint.specs.Wholes.{whole_spans}
-use Rattle.execution.specs.Executed.{Writes, IsPlanned, rows_in}
-use Rattle.execution.specs.Formats.{input_of}
-use Rattle.input_tables.specs.Tables.{lines_of}
+use Rattle.execution.specs.Executed.{IsTyped, Writes, text_in, told_table}
+use Rattle.execution.specs.Formats.{lines_in, log_format}
+use Rattle.execution.specs.declared.formats.LogFormat.{LogFormat}
+use Rattle.execution.specs.declared.formats.LogFormat.TheVariants as F
+use Rattle.input_tables.specs.Tables.{table_of}
 use Rattle.log_listing.specs.declared.lengths.NameLength.{NameLength}
 use Rattle.log_reading.specs.Page.{IsTooMany}
 use Rattle.log_reading.specs.Spans.{BadLine, spans_bad_lines}
-use Rattle.output_formats.specs.Headers.{csv_of}
 use Rattle.query_run.specs.declared.executing.Counts.{Counts}
-use Rattle.query_types.specs.Planned.{Planned}
+use Rattle.query_types.specs.declared.fault.TypeFault.{TypeFault}
+use Rattle.query_types.specs.declared.table.TableColumns.{TableColumns}
+use Rattle.query_types.specs.Planned.{Planned, plan_of}
 use Rattle.logparser_cli.specs.Logs.{AreLogs}
 
 -- what is known of the outside at one moment: the logs' files, what the two outputs have, and how often each has failed
@@ -25,10 +29,10 @@ pub record World : Type 0 where
   pub err : Option (List ℕ)
   pub err_faults : ℕ
 
--- a query is run over these logs by this plan
-pub record Runs (before now : Option Folder) (spec : Spec) (q : model.Query) (logs : List NameLength) (plan : Planned) : Type 0 where
-  pub are_logs : AreLogs before now q logs
-  pub is_planned : IsPlanned spec q plan
+-- a fact on the table of a run over whole logs; one that the logs tell is known where these tell their bytes
+abbrev pub OnWhole : LogFormat → List Piece → Option Folder → List NameLength → (TableColumns → Type 0) → Type 0
+OnWhole (F.Tabled format) pattern told logs P = P (table_of format)
+OnWhole (F.Sampled options limit) pattern told logs P = Told told (λ folder. P (told_table options limit pattern folder (whole_spans logs)))
 
 -- an output gains a text, or the front of it where its faults rose
 abbrev pub Tells : Option (List ℕ) → Option (List ℕ) → List ℕ → Type 0 → Type 0
@@ -39,29 +43,50 @@ abbrev pub told_statistics : Bool → Counts → List ℕ
 told_statistics true counts = statistics counts.processed counts.output counts.bad
 told_statistics false counts = []
 
+-- the output gains the text of the rows of the query's plan over a table
+pub record WritesAll (told : Option Folder) (before now : Option (List ℕ)) (spec : Spec) (q : model.Query) (logs : List NameLength) (counts : Counts) (table : TableColumns) : Type 0 where
+  pub plan : Planned
+  pub is_planned : plan_of table q ≡ Ok plan
+  pub written : Told told (Writes before now spec (log_format spec q) plan (whole_spans logs) counts)
+
 -- a whole run: the output gains the text of the query's rows over the whole logs, and the other output the statistics
 pub record IsWhole (old new : World) (spec : Spec) (q : model.Query) : Type 0 where
   pub logs : List NameLength
-  pub plan : Planned
-  pub runs : Runs old.folder new.folder spec q logs plan
+  pub are_logs : AreLogs old.folder new.folder q logs
   pub counts : Counts
-  pub written : Told new.folder (Writes old.out new.out spec (input_of spec q) plan (whole_spans logs) counts)
+  pub written : OnWhole (log_format spec q) spec.ts_format new.folder logs (WritesAll new.folder old.out new.out spec q logs counts)
   pub told : Tells old.err new.err (told_statistics spec.stats counts) (Rose old.err_faults new.err_faults)
 
 -- the output holds the front of that text
-pub record HoldsFront (before now : Option Folder) (out_before out_now : Option (List ℕ)) (spec : Spec) (q : model.Query) : Type 0 where
-  pub logs : List NameLength
+pub record HoldsFront (told : Option Folder) (before now : Option (List ℕ)) (spec : Spec) (q : model.Query) (logs : List NameLength) (table : TableColumns) : Type 0 where
   pub plan : Planned
-  pub runs : Runs before now spec q logs plan
-  pub front : Told now (λ folder. GainsSome out_before out_now (csv_of spec.headers true plan.names (rows_in (input_of spec q) plan folder (whole_spans logs))))
+  pub is_planned : plan_of table q ≡ Ok plan
+  pub front : Told told (λ folder. GainsSome before now (text_in spec (log_format spec q) plan folder (whole_spans logs)))
 
--- of the bad lines of the whole logs, in order, this is the first that is one too many; the output holds the front of the text
+-- nothing was written, or the front of the text
+abbrev pub IsFront : Option Folder → Option (List ℕ) → Option (List ℕ) → Spec → model.Query → List NameLength → Type 0
+IsFront told before now spec q logs = OnWhole (log_format spec q) spec.ts_format told logs (λ table. (now ≡ before) ⊎ HoldsFront told before now spec q logs table)
+
+-- a run over logs stopped
+pub record IsHalted (before now : Option Folder) (out_before out_now : Option (List ℕ)) (spec : Spec) (q : model.Query) : Type 0 where
+  pub logs : List NameLength
+  pub are_logs : AreLogs before now q logs
+  pub front : IsFront now out_before out_now spec q logs
+
+-- of the bad lines of the whole logs, in order, this is the first that is one too many
 pub record IsParseError (before now : Option Folder) (out_before out_now : Option (List ℕ)) (spec : Spec) (q : model.Query) (line : BadLine) : Type 0 where
   pub logs : List NameLength
-  pub plan : Planned
-  pub runs : Runs before now spec q logs plan
-  pub exceeds : Told now (λ folder. IsTooMany spec.errors 0 (spans_bad_lines (lines_of (input_of spec q)) false folder (whole_spans logs)) line)
-  pub front : Told now (λ folder. GainsSome out_before out_now (csv_of spec.headers true plan.names (rows_in (input_of spec q) plan folder (whole_spans logs))))
+  pub are_logs : AreLogs before now q logs
+  pub typed : IsTyped (log_format spec q) q
+  pub exceeds : Told now (λ folder. IsTooMany spec.errors 0 (spans_bad_lines (lines_in (log_format spec q)) false folder (whole_spans logs)) line)
+  pub front : IsFront now out_before out_now spec q logs
+
+-- the query has no plan, by this fault, and nothing was written
+pub record IsUnplanned (before now : Option Folder) (out_before out_now : Option (List ℕ)) (spec : Spec) (q : model.Query) (fault : TypeFault) : Type 0 where
+  pub logs : List NameLength
+  pub are_logs : AreLogs before now q logs
+  pub unplanned : OnWhole (log_format spec q) spec.ts_format now logs (λ table. plan_of table q ≡ Err fault)
+  pub unwritten : OnWhole (log_format spec q) spec.ts_format now logs (λ table. out_now ≡ out_before)
 
 -- nothing was written
 abbrev pub IsUnwritten : World → World → Type 0

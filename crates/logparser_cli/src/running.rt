@@ -1,6 +1,7 @@
 // The run.
 ghost use Rattle.std.specs.Prelude.{◌≡◌, ◌≤◌, ℕ, ℤ, true};
 ghost use Rattle.lp_model.specs.Outside.{Rose, OnlyGrow};
+ghost use Rattle.command_words.specs.Table.{IsInRange};
 ghost use Rattle.query_tree.specs.Views.{query_of};
 ghost use Rattle.execution.specs.Built.{all_built};
 ghost use Rattle.execution.specs.Executed.{IsMoment};
@@ -85,6 +86,7 @@ fn run_built<L: Logs, I: Source, S: Sink, E: Sink>(
     err: &mut E,
 ) -> Status
     requires moment { IsMoment moment }
+    requires range { IsInRange spec.now }
     requires built { all_built spec.now (query_of query.now) ≡ true }
     ensures grows { OnlyGrow (L.folder logs.old) (L.folder logs.new) }
     ensures later { L.faults logs.old ≤ L.faults logs.new }
@@ -120,6 +122,7 @@ fn run_query<L: Logs, I: Source, S: Sink, E: Sink>(
     err: &mut E,
 ) -> Status
     requires moment { IsMoment moment }
+    requires range { IsInRange spec.now }
     ensures grows { OnlyGrow (L.folder logs.old) (L.folder logs.new) }
     ensures later { L.faults logs.old ≤ L.faults logs.new }
     ensures answers { AnswersQuery

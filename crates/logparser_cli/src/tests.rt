@@ -67,7 +67,7 @@ const W3C: &[u8] =
 const NCSA: &[u8] = b"10.0.0.1 - frank [10/Oct/2000:13:55:36 -0700] \"GET /a HTTP/1.0\" 200 -\n";
 
 // Cases whose expected texts were written by hand.
-const CASES: [Case; 17] = [
+const CASES: [Case; 24] = [
     Case {
         name: "e.log",
         log: b"",
@@ -179,6 +179,62 @@ const CASES: [Case; 17] = [
         code: 3,
         out: b"",
         err: b"logparser: query: at 25: syntax\n",
+    },
+    Case {
+        name: "k.csv",
+        log: b"n\n1\n2\nx\n",
+        words: &["-dtLines:2", "-o:CSV", "SELECT n, RowNumber FROM k.csv"],
+        code: 0,
+        out: b"n,RowNumber\n1,2\n2,3\n,4\n",
+        err: b"Statistics:\n-----------\nElements processed: 3\nElements output:    3\n",
+    },
+    Case {
+        name: "g.csv",
+        log: b"k,v\na,1\n,2\na,3\n",
+        words: &["-o:CSV", "SELECT v FROM g.csv WHERE k <> 'b'"],
+        code: 0,
+        out: b"v\n1\n3\n",
+        err: b"Statistics:\n-----------\nElements processed: 3\nElements output:    2\n",
+    },
+    Case {
+        name: "z.csv",
+        log: b"",
+        words: &["-o:CSV", "SELECT a, b FROM z.csv"],
+        code: 0,
+        out: b"a,b\n",
+        err: b"Statistics:\n-----------\nElements processed: 0\nElements output:    0\n",
+    },
+    Case {
+        name: "t.tsv",
+        log: b"a|b\n\"x\"|1\n\n|2|3\n",
+        words: &["-iSeparator:|", "-o:CSV", "SELECT * FROM t.tsv"],
+        code: 0,
+        out: b"Filename,RowNumber,a,b\nt.tsv,2,\"\"\"x\"\"\",1\n",
+        err: b"Statistics:\n-----------\nElements processed: 1\nElements output:    1\nLines not read:     1\n",
+    },
+    Case {
+        name: "t.csv",
+        log: b"u,h\na,5\n",
+        words: &["-o:CSV", "SELECT x FROM t.csv"],
+        code: 3,
+        out: b"",
+        err: b"logparser: query: at 7: unknown field\n",
+    },
+    Case {
+        name: "s.csv",
+        log: b"a\n1,2\n",
+        words: &["-e:0", "-o:CSV", "SELECT x FROM s.csv"],
+        code: 8,
+        out: b"",
+        err: b"logparser: parse errors: s.csv row 2\n",
+    },
+    Case {
+        name: "r.log",
+        log: b"2001-01-01 00:00:01 /a\n",
+        words: &["-i:IISW3C", "-e:0", "-o:CSV", "SELECT * FROM r.log"],
+        code: 8,
+        out: b"",
+        err: b"logparser: parse errors: r.log row 1\n",
     },
     Case {
         name: "q.sql",

@@ -5,13 +5,13 @@ use Rattle.log_reading.specs.declared.span.Span.{Span}
 use Rattle.log_reading.specs.Spans.{AreKept}
 use Rattle.output_formats.specs.declared.csv.Headers.{Headers}
 use Rattle.output_formats.specs.Headers.{csv_of}
-use Rattle.command_words.specs.declared.formats.InputFormat.{InputFormat}
 use Rattle.slot_reading.specs.declared.reading.Reading.{Reading}
 use Rattle.query_types.specs.Planned.{Planned}
+use Rattle.input_tables.specs.declared.format.TableFormat.{TableFormat}
 use Rattle.input_tables.specs.Tables.{lines_of}
 use Rattle.plan_run.specs.Rows.{plan_rows}
 
-pub text_for : {T E : Type 0} (r : Result T E) (told : Option Folder) (format : InputFormat) (spans : List Span) (before now : Option (List ℕ)) (names : List (List ℕ)) (plan : Planned) (shape headers : Headers) (readings read : List Reading)
+pub text_for : {T E : Type 0} (r : Result T E) (told : Option Folder) (format : TableFormat) (spans : List Span) (before now : Option (List ℕ)) (names : List (List ℕ)) (plan : Planned) (shape headers : Headers) (readings read : List Reading)
     → shape ≡ headers → readings ≡ read
     → OnOk r (Told told (λ folder. AreKept (lines_of format) false spans folder → Gains before now (csv_of shape true names (plan_rows readings plan (lines_of format) folder spans))))
     → OnOk r (Told told (λ folder. AreKept (lines_of format) false spans folder → Gains before now (csv_of headers true names (plan_rows read plan (lines_of format) folder spans))))

@@ -10,8 +10,7 @@ ghost use Rattle.input_tables.specs.Tables.{lines_of, columns_of, readings_of};
 ghost use Rattle.plan_run.specs.Rows.{plan_rows};
 
 use crate::running::run_reader;
-use command_words::InputFormat;
-use input_tables::readings_of;
+use input_tables::{TableFormat, readings_of};
 use line_input::{TextLines, TextWords};
 use log_reading::{RunFault, Span};
 use lp_outside::{Logs, Stage};
@@ -25,7 +24,7 @@ use w3c_input::IisW3c;
 /// Writes the CSV text of a plan's rows over the records of spans, which are read in a format and joined in order.
 pub fn run_plan<L: Logs, G: Stage>(
     alloc: Global,
-    format: InputFormat,
+    format: TableFormat,
     headers: Headers,
     plan: Plan,
     logs: &mut L,
@@ -66,16 +65,16 @@ pub fn run_plan<L: Logs, G: Stage>(
     };
     let shape = CsvOut::new(alloc, headers);
     match format {
-        InputFormat::IisW3c => run_reader(
+        TableFormat::IisW3c => run_reader(
             alloc, &IisW3c, format, readings, plan, logs, spans, shape, target, most_bad, stage,
         ),
-        InputFormat::Ncsa => run_reader(
+        TableFormat::Ncsa => run_reader(
             alloc, &Ncsa, format, readings, plan, logs, spans, shape, target, most_bad, stage,
         ),
-        InputFormat::TextWord => run_reader(
+        TableFormat::TextWord => run_reader(
             alloc, &TextWords, format, readings, plan, logs, spans, shape, target, most_bad, stage,
         ),
-        InputFormat::Csv | InputFormat::Tsv | InputFormat::TextLine => run_reader(
+        TableFormat::TextLine => run_reader(
             alloc, &TextLines, format, readings, plan, logs, spans, shape, target, most_bad, stage,
         ),
     }

@@ -8,7 +8,7 @@ ghost use Rattle.query_types.specs.Planned.{Covers, planned_in};
 ghost use Rattle.input_tables.specs.Tables.{lines_of};
 ghost use Rattle.plan_run.specs.Rows.{plan_rows};
 
-use command_words::InputFormat;
+use input_tables::TableFormat;
 use line_input::LineReader;
 use log_reading::{RunFault, Span, TookList};
 use lp_outside::{Logs, Stage};
@@ -23,7 +23,7 @@ use std::alloc::Global;
 pub fn run_reader<R: LineReader, L: Logs, F: Shape + Drop, G: Stage>(
     alloc: Global,
     reader: &R,
-    format: InputFormat,
+    format: TableFormat,
     readings: ReadingList,
     plan: Plan,
     logs: &mut L,

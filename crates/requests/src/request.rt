@@ -1,7 +1,7 @@
 // What the words ask for.
 ghost use Rattle.std.specs.Prelude.{◌≡◌, ◌≤◌, OnOk, IfOk, IfErr, IsErrOf};
 ghost use Rattle.lp_model.specs.Outside.{OnlyGrow, Rose};
-ghost use Rattle.command_words.specs.Table.{IsAsked};
+ghost use Rattle.command_words.specs.Table.{IsAsked, IsInRange};
 ghost use Rattle.command_words.specs.Usage.{AreFine};
 ghost use Rattle.query_tree.specs.Views.{query_of};
 ghost use Rattle.requests.specs.Texts.{HoldsQuery};
@@ -28,6 +28,7 @@ pub struct Request {
 // The options of the words.
 fn read_spec(alloc: Global, words: &TextList) -> Result<Spec, RequestFault>
     ensures asked { IfOk result (IsAsked words.now) }
+    ensures in_range { IfOk result IsInRange }
     ensures fine { OnOk result (AreFine words.now) }
     ensures refused { IfErr result (IsWordsFault words.now) }
 {
@@ -61,6 +62,7 @@ pub fn read_request<L: Logs>(
     logs: &mut L,
 ) -> Result<Request, RequestFault>
     ensures grows { OnlyGrow (L.folder logs.old) (L.folder logs.new) }
+    ensures in_range { IfOk result (λ request. IsInRange request.spec) }
     ensures asks { IfOk result (λ request. Asks (L.folder logs.old) (L.folder logs.new) words.now request.spec (query_of request.query)) }
     ensures refused { IfErr result (IsRefused (L.folder logs.old) (L.folder logs.new) words.now) }
     ensures later { L.faults logs.old ≤ L.faults logs.new }

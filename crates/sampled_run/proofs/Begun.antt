@@ -23,7 +23,7 @@ use Rattle.sampled_table.specs.Picks.{sampled_picks}
 use Rattle.sampled_table.specs.declared.judging.Judged.{Judged}
 use Rattle.sampled_table.specs.declared.picking.SampledPicker.{SampledPicker}
 use Rattle.sampled_run.specs.Past.{Past, Later, Rules, plan_at, rows_at, rows_with, text_at, told_at}
-use Rattle.sampled_run.specs.Holds.{Asks, Begun, Gathers, Holds, IsFront, IsRefused, IsTold, IsWithin, IsWritten, PhaseHolds}
+use Rattle.sampled_run.specs.Holds.{Asks, Begun, Gathers, Holds, IsFront, IsRefused, IsTold, IsWithin, IsWritten, PhaseHolds, WritesOn}
 use Rattle.sampled_run.specs.Laws.{told_stays}
 use Rattle.sampled_run.specs.declared.phase.Phase.{Phase}
 use Rattle.sampled_run.specs.declared.phase.Phase.TheVariants as P
@@ -131,20 +131,20 @@ failed_begun rules start later F.Failed v within = inr within
 
 -- ---- the turn from keeping records to writing
 
-pub turned : {F : Type 0} (text : TextOf F) (has_text : HasTextOf F) (old : Sampling F) (gathering : Gathering F) (writer : Writer F SampledPicker) (u v : Option (List ℕ)) → old.phase ≡ P.Gathering gathering
-    → ((rules : Rules) (start : Option (List ℕ)) (past : Past) → Asks old.limit old.pattern.now (query_of old.query.now) rules → Gathers text rules start past gathering u → Begun text has_text rules start past writer v)
-    → (rules : Rules) (start : Option (List ℕ)) (past : Past) → Holds text has_text rules start past old u → IsTold rules past → Holds text has_text rules start past (record old { phase = P.Writing writer }) v
-turned {F = F} text has_text old gathering writer u v is begun rules start past holds told =
+pub turned : {F : Type 0} (text : TextOf F) (has_text : HasTextOf F) (limit : ℕ) (pattern : List Piece) (query : Query) (phase : Phase F) (gathering : Gathering F) (writer : Writer F SampledPicker) (u v : Option (List ℕ)) → phase ≡ P.Gathering gathering
+    → ((rules : Rules) (start : Option (List ℕ)) (past : Past) → Asks limit pattern query rules → Gathers text rules start past gathering u → Begun text has_text rules start past writer v)
+    → (rules : Rules) (start : Option (List ℕ)) (past : Past) → Asks limit pattern query rules → PhaseHolds text has_text rules start past phase u → IsTold rules past → WritesOn text has_text rules start past writer v
+turned {F = F} text has_text limit pattern query phase gathering writer u v is begun rules start past asks holds told =
     let Of : Phase F → Type 0 = λ p. PhaseHolds text has_text rules start past p u in
-    record { asks = holds.asks; phase = record { told = told; begun = begun rules start past holds.asks (subst Of is holds.phase) } }
+    record { told = told; begun = begun rules start past asks (subst Of is holds) }
 
 -- the same, where it stopped
-pub turn_stopped : {F : Type 0} (text : TextOf F) (has_text : HasTextOf F) (old : Sampling F) (gathering : Gathering F) (stop : Stop) (u v : Option (List ℕ)) → old.phase ≡ P.Gathering gathering
-    → ((rules : Rules) (start : Option (List ℕ)) (past later : Past) → Asks old.limit old.pattern.now (query_of old.query.now) rules → Gathers text rules start past gathering u → Later past later → told_at rules later ≡ told_at rules past → IsStop rules start later stop v)
-    → (rules : Rules) (start : Option (List ℕ)) (past later : Past) → Holds text has_text rules start past old u → IsTold rules past → Later past later → IsStop rules start later stop v
-turn_stopped {F = F} text has_text old gathering stop u v is stopped rules start past later holds told follows =
+pub turn_stopped : {F : Type 0} (text : TextOf F) (has_text : HasTextOf F) (limit : ℕ) (pattern : List Piece) (query : Query) (phase : Phase F) (gathering : Gathering F) (stop : Stop) (u v : Option (List ℕ)) → phase ≡ P.Gathering gathering
+    → ((rules : Rules) (start : Option (List ℕ)) (past later : Past) → Asks limit pattern query rules → Gathers text rules start past gathering u → Later past later → told_at rules later ≡ told_at rules past → IsStop rules start later stop v)
+    → (rules : Rules) (start : Option (List ℕ)) (past later : Past) → Asks limit pattern query rules → PhaseHolds text has_text rules start past phase u → IsTold rules past → Later past later → IsStop rules start later stop v
+turn_stopped {F = F} text has_text limit pattern query phase gathering stop u v is stopped rules start past later asks holds told follows =
     let Of : Phase F → Type 0 = λ p. PhaseHolds text has_text rules start past p u in
-    stopped rules start past later holds.asks (subst Of is holds.phase) follows (told_stays rules past later told follows)
+    stopped rules start past later asks (subst Of is holds) follows (told_stays rules past later told follows)
 
 -- ---- the end of a run
 

@@ -11,6 +11,7 @@ use Rattle.query_run.specs.Writer.{Writes}
 use Rattle.query_run.specs.Writer.{Halts as WriterHalts}
 use Rattle.query_run.specs.Writing.{TextOf, HasTextOf}
 use Rattle.query_run.specs.declared.writer.Writer.{Writer}
+use Rattle.query_tree.specs.Views.{query_of}
 use Rattle.query_types.specs.Conditions.{filter_of}
 use Rattle.query_types.specs.Planned.{plan_of, planned_in}
 use Rattle.sampled_table.specs.Judged.{table_of}
@@ -172,26 +173,26 @@ halts_gathering text has_text old first last u founds is = record {
 }
 
 -- the record with which the columns are told
-pub samples_turning : {F : Type 0} (text : TextOf F) (has_text : HasTextOf F) (old new : Sampling F) (first last : Gathering F) (u v : Option (List ℕ)) (found : Found)
+pub samples_turning : {F : Type 0} (text : TextOf F) (has_text : HasTextOf F) (old : Sampling F) (new : Phase F) (first last : Gathering F) (u v : Option (List ℕ)) (found : Found)
     → old.phase ≡ P.Gathering first → last.first ≡ first_seen first.first (found ∷ []) → map found_in last.rows ≡ map found_in first.rows ++ found ∷ [] → last.shape ≡ first.shape → old.limit ≤ length last.rows
-    → ((rules : Rules) (start : Option (List ℕ)) (past : Past) → Holds text has_text rules start past (at_phase old (P.Gathering last)) u → IsTold rules past → Holds text has_text rules start past new v)
-    → Samples text has_text old u (found ∷ []) new v
+    → ((rules : Rules) (start : Option (List ℕ)) (past : Past) → Asks old.limit old.pattern.now (query_of old.query.now) rules → Gathers text rules start past last u → IsTold rules past → PhaseHolds text has_text rules start past new v)
+    → Samples text has_text old u (found ∷ []) (at_phase old new) v
 samples_turning text has_text old new first last u v found is log rows shape enough turned = record {
   along = λ rules start past holds.
       let gathers = gathers_more text rules start u past first last found log rows shape (phase_is text has_text rules start u past old (P.Gathering first) is holds) in
       let limit = holds.asks.limit in
-      turned rules start (past_with past (found ∷ [])) (record { asks = holds.asks; phase = gathers }) (told_now text rules start u past last found (omega arith) gathers);
+      record { asks = holds.asks; phase = turned rules start (past_with past (found ∷ [])) holds.asks gathers (told_now text rules start u past last found (omega arith) gathers) };
 }
 
-pub halts_turning : {F : Type 0} (text : TextOf F) (has_text : HasTextOf F) (old new : Sampling F) (first last : Gathering F) (u v : Option (List ℕ)) (found : Found)
+pub halts_turning : {F : Type 0} (text : TextOf F) (has_text : HasTextOf F) (old : Sampling F) (new : Phase F) (first last : Gathering F) (u v : Option (List ℕ)) (found : Found)
     → old.phase ≡ P.Gathering first → last.first ≡ first_seen first.first (found ∷ []) → map found_in last.rows ≡ map found_in first.rows ++ found ∷ [] → last.shape ≡ first.shape → old.limit ≤ length last.rows
-    → ((rules : Rules) (start : Option (List ℕ)) (past later : Past) → Holds text has_text rules start past (at_phase old (P.Gathering last)) u → IsTold rules past → Later past later → PhaseStopped rules start later new.phase v)
-    → Halts text has_text old u (found ∷ []) new v
+    → ((rules : Rules) (start : Option (List ℕ)) (past later : Past) → Asks old.limit old.pattern.now (query_of old.query.now) rules → Gathers text rules start past last u → IsTold rules past → Later past later → PhaseStopped rules start later new v)
+    → Halts text has_text old u (found ∷ []) (at_phase old new) v
 halts_turning text has_text old new first last u v found is log rows shape enough stopped = record {
   within = λ rules start past holds later follows.
       let gathers = gathers_more text rules start u past first last found log rows shape (phase_is text has_text rules start u past old (P.Gathering first) is holds) in
       let limit = holds.asks.limit in
-      stopped rules start (past_with past (found ∷ [])) later (record { asks = holds.asks; phase = gathers }) (told_now text rules start u past last found (omega arith) gathers) follows;
+      stopped rules start (past_with past (found ∷ [])) later holds.asks gathers (told_now text rules start u past last found (omega arith) gathers) follows;
 }
 
 -- nothing is taken behind a refusal

@@ -103,7 +103,7 @@ phase_stopped text has_text begins rules start now past later (P.Writing writer)
 phase_stopped text has_text begins rules start now past later (P.Refused fault) follows holds = absurd holds
 phase_stopped text has_text begins rules start now past later P.Lost follows holds = absurd holds
 
-phase_front : {F : Type 0} (text : TextOf F) (has_text : HasTextOf F) (begins : BeginsOf F text has_text) (rules : Rules) (start now : Option (List ℕ)) (past later : Past) (phase : Phase F)
+pub phase_front : {F : Type 0} (text : TextOf F) (has_text : HasTextOf F) (begins : BeginsOf F text has_text) (rules : Rules) (start now : Option (List ℕ)) (past later : Past) (phase : Phase F)
     → Later past later → PhaseHolds text has_text rules start past phase now → IsFront rules start later now
 phase_front text has_text begins rules start now past later (P.Gathering gathering) follows holds = inl holds.nothing
 phase_front text has_text begins rules start now past later (P.Writing writer) follows holds = inr (within_later text has_text begins rules start now past later writer (told_stays rules past later holds.told follows) follows holds.begun)
@@ -114,10 +114,6 @@ phase_front text has_text begins rules start now past later P.Lost follows holds
 pub stopped_between : {F : Type 0} (text : TextOf F) (has_text : HasTextOf F) (begins : BeginsOf F text has_text) (rules : Rules) (start now : Option (List ℕ)) (past later : Past) (sampling : Sampling F)
     → Later past later → Holds text has_text rules start past sampling now → PhaseStopped rules start later sampling.phase now
 stopped_between text has_text begins rules start now past later sampling follows holds = phase_stopped text has_text begins rules start now past later sampling.phase follows holds.phase
-
-pub front_between : {F : Type 0} (text : TextOf F) (has_text : HasTextOf F) (begins : BeginsOf F text has_text) (rules : Rules) (start now : Option (List ℕ)) (past later : Past) (sampling : Sampling F)
-    → Later past later → Holds text has_text rules start past sampling now → IsFront rules start later now
-front_between text has_text begins rules start now past later sampling follows holds = phase_front text has_text begins rules start now past later sampling.phase follows holds.phase
 
 -- ---- the laws of a taker
 

@@ -1,7 +1,8 @@
 // How far a run has come.
-ghost use Rattle.std.specs.Prelude.{◌≡◌, true};
+ghost use Rattle.std.specs.Prelude.{◌≡◌, ◌<◌, max, true};
 ghost use Rattle.query_tree.specs.Views.{query_of};
 ghost use Rattle.query_types.specs.Built.{is_built};
+ghost use Rattle.sampled_run.specs.Counts.{kept_in};
 
 use lp_time::Pattern;
 use query_run::{Target, Writer};
@@ -31,7 +32,7 @@ pub enum Phase<'a, F> {
     Lost,
 }
 
-/// Takes the records of a run, whose columns they tell.
+/// Takes the records of a run, whose columns they tell. Between two records it keeps fewer than `limit`, or none.
 #[derive(Drop)]
 pub struct Sampling<'a, F> {
     /// From how many records kinds are judged.
@@ -41,4 +42,5 @@ pub struct Sampling<'a, F> {
     pub query: &'a Query,
     pub phase: Phase<'a, F>,
     ghost built: { is_built (query_of query.now) ≡ true },
+    ghost few: { kept_in phase < max 1 limit },
 }

@@ -1,5 +1,5 @@
 // How a run takes records.
-ghost use Rattle.std.specs.Prelude.{◌≡◌, ◌≤◌, ◌<◌, ◌+◌, ◌^◌, ◌++◌, ◌∷◌, [], ℕ, List, Option, map, length, OnOk, OnErr, IfOk, IsErrOf, IsTrue};
+ghost use Rattle.std.specs.Prelude.{◌≡◌, ◌≤◌, ◌<◌, ◌↔◌, ◌+◌, ◌^◌, ◌++◌, ◌∷◌, [], ℕ, List, Option, map, length, OnOk, OnErr, IfOk, IsErrOf, IsTrue};
 ghost use Rattle.lp_model.specs.Outside.{Rose};
 ghost use Rattle.line_input.specs.Taken.{slots_of};
 ghost use Rattle.log_reading.specs.Found.{Found};
@@ -61,6 +61,7 @@ fn keep<F>(
     ensures kept { OnOk result (let found : Found = record { identity = identity.now; row = record { number = number; slots = slots_of line.now fields.now; columns = columns.now } } in
         (gathering.new.first ≡ first_seen gathering.old.first (found ∷ [])) × (map found_in gathering.new.rows ≡ map found_in gathering.old.rows ++ found ∷ [])) }
     ensures count { OnOk result (length gathering.new.rows ≡ length gathering.old.rows + 1) }
+    ensures err { OnErr result (gathering.new.rows ≡ gathering.old.rows) }
     ensures shape { gathering.new.shape ≡ gathering.old.shape }
 {
     see_first(alloc, identity, columns, gathering)?;
@@ -84,7 +85,8 @@ fn gather<F>(
     ensures kept { OnOk result (let found : Found = record { identity = identity.now; row = record { number = number; slots = slots_of line.now fields.now; columns = columns.now } } in
         (gathering.new.first ≡ first_seen gathering.old.first (found ∷ [])) × (map found_in gathering.new.rows ≡ map found_in gathering.old.rows ++ found ∷ [])) }
     ensures count { OnOk result (length gathering.new.rows ≡ length gathering.old.rows + 1) }
-    ensures enough { IfOk result (λ enough. IsTrue enough → limit ≤ length gathering.new.rows) }
+    ensures enough { IfOk result (λ enough. IsTrue enough ↔ (limit ≤ length gathering.new.rows)) }
+    ensures err { OnErr result (gathering.new.rows ≡ gathering.old.rows) }
     ensures shape { gathering.new.shape ≡ gathering.old.shape }
 {
     keep(alloc, identity, number, columns, line, fields, gathering)?;
@@ -120,7 +122,14 @@ impl<'a, F: Shape + Drop, G: Stage> Taker<G> for Sampling<'a, F> {
                 match gather(
                     alloc, identity, number, columns, line, fields, self.limit, gathering,
                 ) {
-                    Ok(true) => turn(alloc, self, stage),
+                    Ok(true) => turn(
+                        alloc,
+                        self.limit,
+                        self.pattern,
+                        self.query,
+                        &mut self.phase,
+                        stage,
+                    ),
                     Ok(false) => Ok(()),
                     Err(_) => Err(TakeFault::Memory),
                 }

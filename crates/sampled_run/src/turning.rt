@@ -1,15 +1,19 @@
 // The turn from keeping records to writing rows.
-ghost use Rattle.std.specs.Prelude.{◌≡◌, ◌≤◌, List, ℕ, Option, OnOk, OnErr, IfSome, IsErrOf};
+ghost use Rattle.std.specs.Prelude.{◌≡◌, ◌≤◌, true, List, ℕ, Option, OnOk, OnErr, IfSome, IsErrOf};
 ghost use Rattle.lp_model.specs.Outside.{Rose};
-ghost use Rattle.sampled_run.specs.Counts.{IsRefusedIn, taken_in};
+ghost use Rattle.query_tree.specs.Views.{query_of};
+ghost use Rattle.query_types.specs.Built.{is_built};
+ghost use Rattle.sampled_run.specs.Counts.{IsRefusedIn, kept_in, taken_in};
 ghost use Rattle.sampled_run.specs.Past.{Past, Later, Rules};
-ghost use Rattle.sampled_run.specs.Holds.{Holds, IsTold, PhaseStopped};
+ghost use Rattle.sampled_run.specs.Holds.{Asks, IsTold, PhaseHolds, PhaseStopped};
 
 use crate::beginning::begin;
-use crate::{Gathering, Phase, Sampling, Stop};
+use crate::{Gathering, Phase, Stop};
 use log_reading::TakeFault;
 use lp_outside::Stage;
+use lp_time::Pattern;
 use output_formats::Shape;
+use query_tree::Query;
 use std::alloc::Global;
 use std::mem::replace;
 
@@ -31,38 +35,36 @@ fn set_phase<'a, F: Shape + Drop>(place: &mut Phase<'a, F>, phase: Phase<'a, F>)
     *place = phase;
 }
 
-/// Begins to write, once the records tell the columns.
+/// Begins to write, once the records tell the columns; from then on none is kept.
 pub(crate) fn turn<'a, F: Shape + Drop, G: Stage>(
     alloc: Global,
-    sampling: &mut Sampling<'a, F>,
+    limit: u32,
+    pattern: &'a Pattern,
+    query: &'a Query,
+    phase: &mut Phase<'a, F>,
     stage: &mut G,
 ) -> Result<(), TakeFault>
-    ensures turned { OnOk result ((rules : Rules) (start : Option (List ℕ)) (past : Past) → Holds F.text F.has_text rules start past sampling.old (G.state stage.old).written → IsTold rules past
-        → Holds F.text F.has_text rules start past sampling.new (G.state stage.new).written) }
-    ensures stopped { OnErr result ((rules : Rules) (start : Option (List ℕ)) (past later : Past) → Holds F.text F.has_text rules start past sampling.old (G.state stage.old).written → IsTold rules past → Later past later
-        → PhaseStopped rules start later sampling.new.phase (G.state stage.new).written) }
-    ensures count { OnOk result (taken_in sampling.new.phase ≡ taken_in sampling.old.phase) }
+    requires { is_built (query_of query.now) ≡ true }
+    ensures turned { OnOk result ((rules : Rules) (start : Option (List ℕ)) (past : Past) → Asks limit pattern.now (query_of query.now) rules → PhaseHolds F.text F.has_text rules start past phase.old (G.state stage.old).written → IsTold rules past
+        → PhaseHolds F.text F.has_text rules start past phase.new (G.state stage.new).written) }
+    ensures stopped { OnErr result ((rules : Rules) (start : Option (List ℕ)) (past later : Past) → Asks limit pattern.now (query_of query.now) rules → PhaseHolds F.text F.has_text rules start past phase.old (G.state stage.old).written → IsTold rules past → Later past later
+        → PhaseStopped rules start later phase.new (G.state stage.new).written) }
+    ensures count { OnOk result (taken_in phase.new ≡ taken_in phase.old) }
+    ensures few { kept_in phase.new ≡ 0 }
     ensures later { G.faults stage.old ≤ G.faults stage.new }
     ensures failed { IsErrOf result TakeFault.Failed → Rose (G.faults stage.old) (G.faults stage.new) }
-    ensures refused { IsErrOf result TakeFault.Stopped → IsRefusedIn sampling.new.phase }
+    ensures refused { IsErrOf result TakeFault.Stopped → IsRefusedIn phase.new }
 {
-    let Some(gathering) = take_gathering(&mut sampling.phase) else {
+    let Some(gathering) = take_gathering(phase) else {
         return Err(TakeFault::Memory);
     };
-    match begin(
-        alloc,
-        sampling.limit,
-        sampling.pattern,
-        sampling.query,
-        gathering,
-        stage,
-    ) {
+    match begin(alloc, limit, pattern, query, gathering, stage) {
         Ok(writer) => {
-            set_phase(&mut sampling.phase, Phase::Writing(writer));
+            set_phase(phase, Phase::Writing(writer));
             Ok(())
         }
         Err(Stop::Plan(fault)) => {
-            set_phase(&mut sampling.phase, Phase::Refused(fault));
+            set_phase(phase, Phase::Refused(fault));
             Err(TakeFault::Stopped)
         }
         Err(Stop::Output) => Err(TakeFault::Failed),

@@ -28,7 +28,7 @@ returns-in-TextWord-clause-text g c =
     text_for c.run_reader-in-TextWord.result (g.L.Logs.folder c.run_reader-in-TextWord.new.logs) c.args.format c.args.spans.now (g.G.Stage.state c.args.stage.now).written (g.G.Stage.state c.run_reader-in-TextWord.new.stage).written
     c.args.plan.names (planned_in c.args.plan) c.new-shape.result c.args.headers c.in-Ok.readings (readings_of c.args.format) c.new-shape.ensures c.in-Ok.ensures c.run_reader-in-TextWord.ensures.text
 
-pub returns-in-Csv-clause-text : goal.returns-in-Csv-clause-text
-returns-in-Csv-clause-text g c =
-    text_for c.run_reader-in-Csv.result (g.L.Logs.folder c.run_reader-in-Csv.new.logs) c.args.format c.args.spans.now (g.G.Stage.state c.args.stage.now).written (g.G.Stage.state c.run_reader-in-Csv.new.stage).written
-    c.args.plan.names (planned_in c.args.plan) c.new-shape.result c.args.headers c.in-Ok.readings (readings_of c.args.format) c.new-shape.ensures c.in-Ok.ensures c.run_reader-in-Csv.ensures.text
+pub returns-in-TextLine-clause-text : goal.returns-in-TextLine-clause-text
+returns-in-TextLine-clause-text g c =
+    text_for c.run_reader-in-TextLine.result (g.L.Logs.folder c.run_reader-in-TextLine.new.logs) c.args.format c.args.spans.now (g.G.Stage.state c.args.stage.now).written (g.G.Stage.state c.run_reader-in-TextLine.new.stage).written
+    c.args.plan.names (planned_in c.args.plan) c.new-shape.result c.args.headers c.in-Ok.readings (readings_of c.args.format) c.new-shape.ensures c.in-Ok.ensures c.run_reader-in-TextLine.ensures.text

@@ -29,9 +29,12 @@ returns-in-Ok-true-clause-takes g c =
     let v = (g.G.Stage.state c.turn.new.stage).written in
     let found : Found = record { identity = c.args.identity.now; row = record { number = c.args.number; slots = slots_of c.args.line.now c.args.fields.now; columns = c.args.columns.now } } in
     let kept = c.in-Ok-true.ensures.kept in
-    ok_so c.turn.result c.turn.ensures.turned (λ turned.
-    samples_turning g.F.Shape.text g.F.Shape.has_text c.args.self.now c.turn.new.sampling c.in-Gathering.gathering c.gather.new.gathering u v found c.in-Gathering.is kept.0 kept.1 c.gather.ensures.shape (c.in-Ok-true.ensures.enough c.in-Ok-true.field-0-test)
-    (λ rules start past holds told. turned rules start past (record { asks = holds.asks; phase = holds.phase }) told))
+    ok_so c.turn.result c.turn.ensures.turned (λ turned. record {
+      along = λ rules start past holds.
+          let done = (samples_turning g.F.Shape.text g.F.Shape.has_text c.args.self.now c.turn.new.phase c.in-Gathering.gathering c.gather.new.gathering u v found c.in-Gathering.is kept.0 kept.1 c.gather.ensures.shape (c.in-Ok-true.ensures.enough.0 c.in-Ok-true.field-0-test)
+          (λ rules start past asks gathers told. turned rules start past asks gathers told)).along rules start past holds in
+          record { asks = done.asks; phase = done.phase };
+    })
 
 pub returns-in-Ok-true-clause-stops : goal.returns-in-Ok-true-clause-stops
 returns-in-Ok-true-clause-stops g c =
@@ -39,9 +42,10 @@ returns-in-Ok-true-clause-stops g c =
     let v = (g.G.Stage.state c.turn.new.stage).written in
     let found : Found = record { identity = c.args.identity.now; row = record { number = c.args.number; slots = slots_of c.args.line.now c.args.fields.now; columns = c.args.columns.now } } in
     let kept = c.in-Ok-true.ensures.kept in
-    err_so c.turn.result c.turn.ensures.stopped (λ stopped.
-    halts_turning g.F.Shape.text g.F.Shape.has_text c.args.self.now c.turn.new.sampling c.in-Gathering.gathering c.gather.new.gathering u v found c.in-Gathering.is kept.0 kept.1 c.gather.ensures.shape (c.in-Ok-true.ensures.enough c.in-Ok-true.field-0-test)
-    (λ rules start past later holds told follows. stopped rules start past later (record { asks = holds.asks; phase = holds.phase }) told follows))
+    err_so c.turn.result c.turn.ensures.stopped (λ stopped. record {
+      within = (halts_turning g.F.Shape.text g.F.Shape.has_text c.args.self.now c.turn.new.phase c.in-Gathering.gathering c.gather.new.gathering u v found c.in-Gathering.is kept.0 kept.1 c.gather.ensures.shape (c.in-Ok-true.ensures.enough.0 c.in-Ok-true.field-0-test)
+          (λ rules start past later asks gathers told follows. stopped rules start past later asks gathers told follows)).within;
+    })
 
 pub returns-in-Ok-false-clause-takes : goal.returns-in-Ok-false-clause-takes
 returns-in-Ok-false-clause-takes g c =

@@ -1,0 +1,84 @@
+// A query over logs of a format that has a table.
+ghost use Rattle.std.specs.Prelude.{◌≡◌, ◌≤◌, ◌+◌, true, length, IfOk, OnErr, IsErrOf};
+ghost use Rattle.lp_model.specs.Outside.{Rose, OnlyGrow, Told, bytes_in};
+ghost use Rattle.log_reading.specs.Spans.{AllSpans, IsSpan, spans_size};
+ghost use Rattle.query_tree.specs.Views.{query_of};
+ghost use Rattle.query_types.specs.Built.{is_built};
+ghost use Rattle.execution.specs.Executed.{IsExecuted, IsParseError, IsStopped, IsUnplanned, IsUntouched};
+ghost use Rattle.execution.specs.Faults.{IfParse, IfPlan, unplanned};
+ghost use Rattle.execution.specs.declared.formats.LogFormat.TheVariants as F;
+
+use crate::errors::most_bad;
+use crate::planning::plan_over;
+use crate::{Ran, RunFault};
+use checkpoint::Spans;
+use command_words::Spec;
+use input_tables::TableFormat;
+use log_reading::RunFault as ReadFault;
+use lp_outside::{Logs, Stage};
+use plan_run::run_plan;
+use query_run::Target;
+use query_tree::Query;
+use query_types::TypeFault;
+use std::alloc::Global;
+
+// Why a plan isn't made.
+fn unplanned(fault: TypeFault) -> RunFault
+    ensures { result ≡ unplanned fault }
+{
+    match fault {
+        TypeFault::Memory => RunFault::Memory,
+        fault => RunFault::Plan(fault),
+    }
+}
+
+/// Runs a query over spans of logs that are read in a format with a table.
+pub(crate) fn execute_tabled<L: Logs, G: Stage>(
+    alloc: Global,
+    spec: &Spec,
+    format: TableFormat,
+    query: &Query,
+    logs: &mut L,
+    spans: &Spans,
+    target: Target,
+    stage: &mut G,
+) -> Result<Ran, RunFault>
+    requires built { is_built (query_of query.now) ≡ true }
+    requires few { length spans.now ≤ 100000 }
+    requires spans { AllSpans spans.now IsSpan }
+    requires there { Told (L.folder logs.old) (λ folder. AllSpans spans.now (λ span. span.listed ≤ length (bytes_in folder span.name))) }
+    ensures grows { OnlyGrow (L.folder logs.old) (L.folder logs.new) }
+    ensures ran { IfOk result (λ ran. IsExecuted (F.Tabled format) (L.folder logs.new) (G.state stage.old).written (G.state stage.new).written spec.now (query_of query.now) spans.now ran.counts) }
+    ensures stopped { OnErr result (IsStopped (F.Tabled format) (L.folder logs.new) (G.state stage.old).written (G.state stage.new).written spec.now (query_of query.now) spans.now) }
+    ensures plan { IfPlan result (IsUnplanned (F.Tabled format) (L.folder logs.new) spec.now (query_of query.now) spans.now) }
+    ensures before { IfPlan result (λ fault. IsUntouched (F.Tabled format) (L.folder logs.new) (G.state stage.old).written (G.state stage.new).written spec.now spans.now) }
+    ensures parse { IfParse result (IsParseError (F.Tabled format) (L.folder logs.new) spec.now (query_of query.now) spans.now) }
+    ensures given { L.given logs.new ≤ L.given logs.old + spans_size spans.now }
+    ensures later_logs { L.faults logs.old ≤ L.faults logs.new }
+    ensures logs { IsErrOf result RunFault.LogsFault → Rose (L.faults logs.old) (L.faults logs.new) }
+    ensures later { G.faults stage.old ≤ G.faults stage.new }
+    ensures stage { IsErrOf result RunFault.StageFault → Rose (G.faults stage.old) (G.faults stage.new) }
+{
+    let plan = match plan_over(alloc, format, query) {
+        Ok(plan) => plan,
+        Err(fault) => return Err(unplanned(fault)),
+    };
+    match run_plan(
+        alloc,
+        format,
+        spec.headers,
+        plan,
+        logs,
+        spans.as_slice(),
+        target,
+        most_bad(spec.errors),
+        stage,
+    ) {
+        Ok(counts) => Ok(Ran { counts }),
+        Err(ReadFault::Memory) => Err(RunFault::Memory),
+        Err(ReadFault::Logs) => Err(RunFault::LogsFault),
+        Err(ReadFault::Output) => Err(RunFault::StageFault),
+        Err(ReadFault::Stopped) => unreachable!(),
+        Err(ReadFault::Bad { log, row }) => Err(RunFault::ParseErrors { log, row }),
+    }
+}
