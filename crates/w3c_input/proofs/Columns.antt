@@ -14,8 +14,8 @@ use Rattle.lp_model.specs.Reading.{Slots, rows}
 use Rattle.slot_reading.specs.Names.{is_same_name}
 use Rattle.w3c_input.specs.Lines.{Column, fields_in, field_named, slots_of, row_reading}
 use Rattle.w3c_input.specs.Places.{place_of, no_extent, extent_field, with_part, HoldsFields}
-use Rattle.w3c_input.specs.Table.{logged_names}
-use Rattle.w3c_input.proofs.TableLemmas.{place_of-named, place_of-some, length-logged_names}
+use Rattle.iis_fields.specs.Table.{logged_names}
+use Rattle.iis_fields.proofs.TableLemmas.{place_of-named, place_of-some, length-logged_names}
 
 -- ---- one column more
 

@@ -2,7 +2,7 @@ use Rattle.std.proofs.Common.{map, sym, ap, ◌∙◌}
 use Rattle.std.specs.Char.{to_ascii_lowercase}
 use Rattle.std.specs.Cmp.Lexicographic.{same_text}
 use Rattle.slot_reading.proofs.NameLemmas.{is_same_name-spelled}
-use Rattle.w3c_input.proofs.table.is.Goals as goal
+use Rattle.iis_fields.proofs.table.is.Goals as goal
 
 pub returns-then-eq : goal.returns-then-eq
 returns-then-eq c =

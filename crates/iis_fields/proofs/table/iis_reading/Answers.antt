@@ -1,6 +1,6 @@
 use Rattle.std.proofs.Common.{sym, ◌∙◌}
-use Rattle.w3c_input.proofs.TableLemmas.{log_reading, row_reading, reading_of-some, reading_of-none}
-use Rattle.w3c_input.proofs.table.iis_reading.Goals as goal
+use Rattle.iis_fields.proofs.TableLemmas.{log_reading, row_reading, reading_of-some, reading_of-none}
+use Rattle.iis_fields.proofs.table.iis_reading.Goals as goal
 
 pub returns-then-is_same_name : goal.returns-then-is_same_name
 returns-then-is_same_name c = log_reading c.args.name.now (sym c.is_same_name.ensures ∙ c.if-is_same_name.true)

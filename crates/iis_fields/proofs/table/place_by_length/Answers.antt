@@ -1,7 +1,7 @@
 use Rattle.std.proofs.Common.{ap, sym, length, arith}
-use Rattle.w3c_input.specs.Places.{place_among}
-use Rattle.w3c_input.proofs.TableLemmas.{no_place}
-use Rattle.w3c_input.proofs.table.place_by_length.Goals as goal
+use Rattle.iis_fields.specs.Places.{place_among}
+use Rattle.iis_fields.proofs.TableLemmas.{no_place}
+use Rattle.iis_fields.proofs.table.place_by_length.Goals as goal
 
 pub returns-in_default : goal.returns-in_default
 returns-in_default c =

@@ -10,8 +10,8 @@ use Rattle.slot_reading.proofs.NameLemmas.{same_spelling, is_same_name-spelled, 
 use Rattle.lp_time.specs.Patterns.{pieces_from}
 use Rattle.slot_reading.specs.declared.reading.Reading.{Reading}
 use Rattle.slot_reading.specs.declared.reading.Reading.TheVariants as R
-use Rattle.w3c_input.specs.Table.{Field, logged_fields, logged_names, reading_of}
-use Rattle.w3c_input.specs.Places.{Place, places, place_among, place_of, places_of_length, reading_at, reading_by}
+use Rattle.iis_fields.specs.Table.{Field, logged_fields, logged_names, reading_of}
+use Rattle.iis_fields.specs.Places.{Place, places, place_among, place_of, places_of_length, reading_at, reading_by}
 
 -- ---- the places of names of one length
 
@@ -101,12 +101,6 @@ place_of-named name k within same =
     let zero_sum : 0 + k ≡ k = omega arith in
     place_of-spelled name (get_or logged_names k []) (same_spelling name (get_or logged_names k []) same)
     ∙ is_at-some k (place_of (get_or logged_names k [])) (subst (λ (n : ℕ). is_at n (place_of (get_or logged_names k [])) ≡ true) zero_sum (numbered_at 0 logged_names all_numbered k within))
-
--- a name that is spelled as the one at a place
-pub place_of-at : (name : List ℕ) (place k : ℕ) → place ≡ k → k < 22 → name ≡ get_or logged_names k [] → place_of name ≡ Some place
-unfolding logged_names
-place_of-at name place k is within spelled =
-    subst (λ (n : ℕ). place_of name ≡ Some n) (sym is) (place_of-named name k within (is_same_name-spelled name (get_or logged_names k []) (ap (map to_ascii_lowercase) spelled)))
 
 -- what a name that is found is
 pub place_of-some : (name : List ℕ) (place : ℕ) → place_of name ≡ Some place → (place < length logged_names) × (is_same_name name (get_or logged_names place []) ≡ true)

@@ -1,14 +1,14 @@
 // The fields of IIS logs.
-ghost use Rattle.std.specs.Prelude.{◌≡◌, ◌<◌, map, IfSome, IsTrue, length, slice_get, Some};
+ghost use Rattle.std.specs.Prelude.{◌≡◌, ◌<◌, map, IfSome, length, slice_get};
 ghost use Rattle.slot_reading.specs.Names.{is_same_name};
-ghost use Rattle.w3c_input.specs.Table.{Field, iis_fields, logged_names, reading_of, pattern_of};
-ghost use Rattle.w3c_input.specs.Places.{place_of, place_among, places_of_length, reading_at, reading_by};
+ghost use Rattle.iis_fields.specs.Table.{Field, iis_fields, logged_names, reading_of, pattern_of};
+ghost use Rattle.iis_fields.specs.Places.{place_of, place_among, places_of_length, reading_at, reading_by};
 
 use lp_time::Pattern;
 use slot_reading::{Reading, is_same_name};
 
 /// The number of fields that a log may have.
-pub(crate) const LOGGED: usize = 22;
+pub const LOGGED: usize = 22;
 
 /// The names of all fields of a row, in order.
 pub fn iis_names() -> [&'static str; 24]
@@ -42,66 +42,6 @@ pub fn iis_names() -> [&'static str; 24]
     ]
 }
 
-// The places of the fields in the order in which IIS writes them.
-const WRITTEN: [usize; LOGGED] = [
-    0, 1, 4, 5, 6, 8, 9, 10, 7, 3, 2, 17, 19, 20, 21, 18, 11, 12, 13, 14, 15, 16,
-];
-
-// Whether two names are spelled alike.
-#[inline]
-fn is_spelled(name: &str, known: &str) -> bool
-    ensures { IsTrue result → name.now ≡ known.now }
-{
-    name == known
-}
-
-// Whether a name is spelled as the one at a place.
-fn is_at(name: &str, place: usize) -> bool
-    ensures { IsTrue result → place_of name.now ≡ Some place }
-{
-    match place {
-        0 => is_spelled(name, "date"),
-        1 => is_spelled(name, "time"),
-        2 => is_spelled(name, "c-ip"),
-        3 => is_spelled(name, "cs-username"),
-        4 => is_spelled(name, "s-sitename"),
-        5 => is_spelled(name, "s-computername"),
-        6 => is_spelled(name, "s-ip"),
-        7 => is_spelled(name, "s-port"),
-        8 => is_spelled(name, "cs-method"),
-        9 => is_spelled(name, "cs-uri-stem"),
-        10 => is_spelled(name, "cs-uri-query"),
-        11 => is_spelled(name, "sc-status"),
-        12 => is_spelled(name, "sc-substatus"),
-        13 => is_spelled(name, "sc-win32-status"),
-        14 => is_spelled(name, "sc-bytes"),
-        15 => is_spelled(name, "cs-bytes"),
-        16 => is_spelled(name, "time-taken"),
-        17 => is_spelled(name, "cs-version"),
-        18 => is_spelled(name, "cs-host"),
-        19 => is_spelled(name, "cs(User-Agent)"),
-        20 => is_spelled(name, "cs(Cookie)"),
-        21 => is_spelled(name, "cs(Referer)"),
-        _ => false,
-    }
-}
-
-/// The place of the next name of a log. Most logs name their fields in the order in which IIS writes them, so the search goes on
-/// where the last one ended, and a log's names take one walk along the table.
-pub(crate) fn next_place(name: &str, walked: &mut usize) -> Option<usize>
-    ensures place { result ≡ place_of name.now }
-    ensures within { IfSome result (λ place. place < 22) }
-{
-    for ahead in *walked..LOGGED {
-        let place = WRITTEN[ahead];
-        if is_at(name, place) {
-            *walked = ahead + 1;
-            return Some(place);
-        }
-    }
-    place_of(name)
-}
-
 // Whether a name is one of the table, which most often is spelled as there.
 #[inline]
 fn is(name: &str, known: &str) -> bool
@@ -111,7 +51,7 @@ fn is(name: &str, known: &str) -> bool
 }
 
 /// The place of a field among those that a log may have, by its name, whatever the name's case.
-pub(crate) fn place_of(name: &str) -> Option<usize>
+pub fn place_of(name: &str) -> Option<usize>
     ensures place { result ≡ place_of name.now }
     ensures within { IfSome result (λ place. place < 22) }
 {

@@ -1,6 +1,6 @@
 use Rattle.std.proofs.Common.{Option, IfSome, ◌<◌, sym, ◌∙◌, subst, ℕ}
-use Rattle.w3c_input.proofs.TableLemmas.{place_of-within, place_of-length}
-use Rattle.w3c_input.proofs.table.place_of.Goals as goal
+use Rattle.iis_fields.proofs.TableLemmas.{place_of-within, place_of-length}
+use Rattle.iis_fields.proofs.table.place_of.Goals as goal
 
 pub returns-clause-place : goal.returns-clause-place
 returns-clause-place c = c.place_by_length.ensures ∙ sym (place_of-length c.args.name.now)
