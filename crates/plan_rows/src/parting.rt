@@ -1,13 +1,24 @@
-// Texts that wait: those that WHERE doesn't ask are read only for the records that it keeps.
-ghost use Rattle.std.specs.Prelude.{◌≡◌, false, length, option_map, IfOk, IsTrue};
+// A plan's columns in two parts: those that WHERE asks, and those that can wait until it keeps a record.
+ghost use Rattle.std.specs.Prelude.{◌≡◌, length, option_map, IfOk};
 ghost use Rattle.query_types.specs.Conditions.{filter_of, is_column, are_column, mentions};
 ghost use Rattle.query_types.specs.Planned.{Covers, is_mentioned};
-ghost use Rattle.plan_rows.specs.Picks.{Tests};
+ghost use Rattle.plan_rows.specs.Picks.{Parted};
 
-use crate::ReadingList;
-use query_types::{Condition, Meaning, MeaningList, Plan, UsedList};
-use slot_reading::Reading;
+use lp_values::ListOf;
+use query_types::{Condition, Meaning, MeaningList, Plan};
 use std::alloc::{AllocError, Global};
+
+/// Places in a table's row.
+pub(crate) type PlaceList = ListOf<usize>;
+
+/// The columns that a plan uses.
+#[derive(Drop)]
+pub(crate) struct Parts {
+    /// Those that WHERE asks.
+    pub(crate) asked: PlaceList,
+    /// The others.
+    pub(crate) rest: PlaceList,
+}
 
 fn is_column(column: usize, meaning: &Meaning) -> bool
     ensures { result ≡ is_column column meaning.now }
@@ -56,52 +67,33 @@ fn mentions(column: usize, condition: &Condition) -> bool
     }
 }
 
-// Whether a column of the table is a text.
-fn is_text(readings: &ReadingList, column: usize) -> bool {
-    column >= 2 && matches!(readings.get(column - 2), Some(Reading::Text))
-}
-
-// Whether a column may wait.
-fn may_wait(readings: &ReadingList, condition: &Option<Condition>, column: usize) -> bool
-    ensures { IsTrue result → is_mentioned column (option_map filter_of condition.now) ≡ false }
+// Whether WHERE asks a column.
+fn is_asked(column: usize, condition: &Option<Condition>) -> bool
+    ensures { result ≡ is_mentioned column (option_map filter_of condition.now) }
 {
     match condition {
         None => false,
-        Some(condition) => is_text(readings, column) && !mentions(column, condition),
+        Some(condition) => mentions(column, condition),
     }
-}
-
-// Whether a column that is used is read at once.
-fn is_first(used: bool, waits: bool) -> bool
-    ensures { IsTrue used → waits ≡ false → IsTrue result }
-{
-    used && !waits
-}
-
-/// The columns that are read before WHERE is asked, and whether others wait.
-#[derive(Drop)]
-pub(crate) struct First {
-    pub(crate) columns: UsedList,
-    pub(crate) others: bool,
 }
 
 /// Parts the columns that a plan uses.
-pub(crate) fn first_columns(
-    alloc: Global,
-    plan: &Plan,
-    readings: &ReadingList,
-) -> Result<First, AllocError>
+pub(crate) fn part_columns(alloc: Global, plan: &Plan) -> Result<Parts, AllocError>
     requires { Covers plan.now.used plan.now.items (option_map filter_of plan.now.condition) }
-    ensures { IfOk result (λ first. Tests (length plan.now.used) first.columns (option_map filter_of plan.now.condition)) }
+    ensures { IfOk result (λ parts. Parted (length plan.now.used) parts.asked parts.rest plan.now.items (option_map filter_of plan.now.condition)) }
 {
-    let mut columns = UsedList::new(alloc);
-    let mut others = false;
+    let mut asked = PlaceList::new(alloc);
+    let mut rest = PlaceList::new(alloc);
     let mut column = 0;
     for used in plan.used.as_slice() {
-        let waits = *used && may_wait(readings, &plan.condition, column);
-        columns.push(is_first(*used, waits))?;
-        others = others || waits;
+        if *used {
+            if is_asked(column, &plan.condition) {
+                asked.push(column)?;
+            } else {
+                rest.push(column)?;
+            }
+        }
         column += 1;
     }
-    Ok(First { columns, others })
+    Ok(Parts { asked, rest })
 }
