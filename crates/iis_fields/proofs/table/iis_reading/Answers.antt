@@ -1,16 +1,15 @@
-use Rattle.std.proofs.Common.{sym, ◌∙◌}
-use Rattle.iis_fields.proofs.TableLemmas.{log_reading, row_reading, reading_of-some, reading_of-none}
+use Rattle.std.proofs.Common.{List, ℕ, sym, ◌∙◌, ap}
+use Rattle.std.specs.List.{position}
+use Rattle.slot_reading.specs.Names.{is_same_name}
+use Rattle.iis_fields.proofs.TableLemmas.{reading_of-some, reading_of-none}
 use Rattle.iis_fields.proofs.table.iis_reading.Goals as goal
 
-pub returns-then-is_same_name : goal.returns-then-is_same_name
-returns-then-is_same_name c = log_reading c.args.name.now (sym c.is_same_name.ensures ∙ c.if-is_same_name.true)
+pub returns-in_err-place : goal.returns-in_err-place
+returns-in_err-place c =
+    let there = ap (λ (names : List (List ℕ)). position (is_same_name c.args.name.now) names) (sym c.iis_names.ensures) in
+    c.from_residual.ensures ∙ reading_of-none c.args.name.now (there ∙ sym c.in_err-place.ensures)
 
-pub returns-then-is_same_name-2 : goal.returns-then-is_same_name-2
-returns-then-is_same_name-2 c = row_reading c.args.name.now (sym c.is_same_name.ensures ∙ c.if-is_same_name.false) (sym c.is_same_name-2.ensures ∙ c.if-is_same_name-2.true)
-
-pub returns-in-Some : goal.returns-in-Some
-returns-in-Some c =
-    c.reading_at.ensures ∙ reading_of-some c.args.name.now c.in-Some.place (sym c.is_same_name.ensures ∙ c.if-is_same_name.false) (sym c.is_same_name-2.ensures ∙ c.if-is_same_name-2.false) c.in-Some.ensures.place
-
-pub returns-in-None : goal.returns-in-None
-returns-in-None c = reading_of-none c.args.name.now (sym c.is_same_name.ensures ∙ c.if-is_same_name.false) (sym c.is_same_name-2.ensures ∙ c.if-is_same_name-2.false) c.in-None.ensures.place
+pub returns : goal.returns
+returns c =
+    let there = ap (λ (names : List (List ℕ)). position (is_same_name c.args.name.now) names) (sym c.iis_names.ensures) in
+    c.reading_at.ensures ∙ reading_of-some c.args.name.now c.in_ok-place.place (there ∙ sym c.in_ok-place.ensures)
