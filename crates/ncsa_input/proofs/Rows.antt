@@ -115,11 +115,6 @@ unfolding fields_behind
 read_past line at parts slots read past =
     read.rest ∙ ap (λ s. option_map (λ fields. read.done ++ fields) (fields_behind parts s (drop at line))) (drop_all parts shapes past)
 
--- what the end of a line gave
-pub mapped_end : (b : Bool) (line : List ℕ) (fields : List Slot) → option_map (slots_of line) (cond b (Some fields) None) ≡ cond b (Some (slots_of line fields)) None
-mapped_end true line fields = refl
-mapped_end false line fields = refl
-
 pub parts_read : (line : List ℕ) (at parts : ℕ) (fields new : List Slot) (slot : Slot) → ReadTo line at parts (slots_of line fields) → new ≡ fields ++ slot ∷ [] → length new ≡ parts + 1
 parts_read line at parts fields new slot read e =
     let many : length (slots_of line fields) ≡ parts = read.many in
