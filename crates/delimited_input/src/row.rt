@@ -35,10 +35,9 @@ pub(crate) fn take_row(
     ensures { IfOk result (λ taken. reading_in line.now row.new taken ≡ row_reading many (fields_in options line.now)) }
 {
     let cut = cut_line(alloc, options, shape, line, many)?;
-    if cut.whole {
-        *row = padded(cut.fields, many)?;
-        Ok(Taken::Row)
-    } else {
-        Ok(Taken::Bad)
+    if !cut.whole {
+        return Ok(Taken::Bad);
     }
+    *row = padded(cut.fields, many)?;
+    Ok(Taken::Row)
 }

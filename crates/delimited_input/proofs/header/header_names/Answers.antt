@@ -14,7 +14,7 @@ loop-place-preserved c =
     let size : length texts ≡ length c.args.fields.now = length-map c.args.fields.now (text_of c.args.line.now) in
     let slots : length c.as_slice-slots.result.now ≡ length c.args.fields.now = ap length c.as_slice-slots.ensures in
     let within : place < length texts = omega (arith, size, slots, c.loop-place-test.true) in
-    c.in_ok-push.ensures.ok
+    (c.in_ok-push.ensures.ok ∙ ap (λ (name : List ℕ). c.loop-place.names ++ name ∷ []) c.new.ensures)
     ∙ (ap (λ (names : Columns). names ++ c.in_ok-header_name.field-0 ∷ []) c.loop-place.invariant
     ∙ (ap (λ name. names_up_to texts place ++ name ∷ []) (c.in_ok-header_name.ensures ∙ ap (λ (all : List Slot). header_name (take place (texts_of c.args.line.now all)) (place + 1) (get_or (texts_of c.args.line.now all) place [])) c.as_slice-slots.ensures)
     ∙ sym (names_more texts place within)))
