@@ -31,6 +31,14 @@ fields_read-none [] slots at k e = refl
 fields_read-none (first ∷ readings) slots at zero e = absurd cc
 fields_read-none (first ∷ readings) slots at (suc k) e = fields_read-none readings slots (at + 1) k e
 
+-- the value of the field at a place
+pub field_read : (readings : List Reading) (line : List ℕ) (fields : List Slot) (index : ℕ) (reading : Reading) (slot : Option Slot) → slice_get readings index ≡ Some reading → slot ≡ slice_get fields index
+    → value_of reading (held (option_map (slot_bytes line) slot)) ≡ get_or (fields_read readings (slots_of line fields) 0) index Null
+field_read readings line fields index reading slot there here =
+    let sum : index ≡ 0 + index = omega arith in
+    ap (λ s. value_of reading (held (option_map (slot_bytes line) s))) here
+    ∙ (ap (value_of reading) (sym (field_at line fields index)) ∙ (ap (λ n. value_of reading (slot_at (slots_of line fields) n)) sum ∙ sym (fields_read-at readings (slots_of line fields) 0 index reading there)))
+
 pub fields_length : (readings : List Reading) (slots : Slots) (at : ℕ) → length (fields_read readings slots at) ≡ length readings
 fields_length [] slots at = refl
 fields_length (reading ∷ readings) slots at = ap suc (fields_length readings slots (at + 1))

@@ -1,6 +1,6 @@
 pub mod Agreeing
 pub mod Masking
 pub mod Fields
-mod Putting
-mod Picking
-mod Parting
+mod PutLemmas
+mod Picked
+mod PartedLemmas

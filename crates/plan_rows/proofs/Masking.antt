@@ -20,10 +20,13 @@ masked_at used (v ∷ vs) at (suc k) is =
     let e : at + suc k ≡ at + 1 + k = omega arith in
     masked_at used vs (at + 1) k (λ within. subst (λ (n : ℕ). get_or used n false ≡ true) e (is (omega arith)))
 
+masked_from : (used : List Bool) (row : List Value) (k : ℕ) → (k < length row → get_or used k false ≡ true) → get_or (masked used row 0) k Null ≡ get_or row k Null
+masked_from used row k is = let e : k ≡ 0 + k = omega arith in masked_at used row 0 k (λ within. subst (λ (n : ℕ). get_or used n false ≡ true) e (is within))
+
 pub keeps_masked : (used : List Bool) (row : List Value) (condition : Option Filter) → length row ≤ length used → ((k : ℕ) → k < length used → is_mentioned k condition ≡ true → get_or used k false ≡ true)
     → keeps condition (masked used row 0) ≡ keeps condition row
-keeps_masked used row condition fits mentioned = keeps_same (masked used row 0) row condition (λ k h. masked_at used row 0 k (λ within. mentioned k (omega arith) h))
+keeps_masked used row condition fits mentioned = keeps_same (masked used row 0) row condition (λ k h. masked_from used row k (λ within. mentioned k (omega arith) h))
 
 pub items_masked : (used : List Bool) (row : List Value) (items : List Meaning) (condition : Option Filter) → length row ≤ length used → Covers used items condition
     → selected_in (masked used row 0) items ≡ selected_in row items
-items_masked used row items condition fits c = selected_same (masked used row 0) row items (λ k h. masked_at used row 0 k (λ within. c.item k (omega arith) h))
+items_masked used row items condition fits c = selected_same (masked used row 0) row items (λ k h. masked_from used row k (λ within. c.item k (omega arith) h))

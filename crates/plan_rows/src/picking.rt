@@ -59,7 +59,7 @@ impl Picker for PlanPicker {
         values: &mut ValueList,
         row: &mut ValueList,
     ) -> Result<bool, AllocError> {
-        make_room(values, self.readings.len() + 2)?;
+        make_room(values, self.plan.used.len())?;
         read_columns(
             alloc,
             &self.columns.asked,

@@ -1,5 +1,5 @@
 // The row of a record, as far as it is read.
-ghost use Rattle.std.specs.Prelude.{◌≡◌, ◌<◌, ◌+◌, ◌^◌, ◌∷◌, length, get_or, pos, OnOk, IfOk};
+ghost use Rattle.std.specs.Prelude.{◌≡◌, ◌<◌, ◌≤◌, ◌+◌, ◌^◌, ◌∷◌, length, get_or, pos, OnOk, IfOk};
 ghost use Rattle.line_input.specs.Taken.{slots_of};
 ghost use Rattle.plan_rows.specs.Picks.{Put, fields_read};
 ghost use Rattle.lp_values.specs.declared.value.Value.TheVariants as V;
@@ -77,7 +77,7 @@ pub(crate) fn read_columns(
     values: &mut ValueList,
 ) -> Result<(), AllocError>
     requires number { number < 2 ^ 63 }
-    requires room { length values.old ≡ length readings.now + 2 }
+    requires room { length readings.now + 2 ≤ length values.old }
     ensures { OnOk result (Put columns.now (V.Text identity.now ∷ V.Int (pos number) ∷ fields_read readings.now (slots_of line.now fields.now) 0) values.old values.new) }
 {
     for column in columns.as_slice() {

@@ -1,5 +1,5 @@
 -- Values that are put at the places of columns.
-use Rattle.std.proofs.Common.{◌≡◌, ℕ, ◌+◌, ◌<◌, ◌≤◌, Bool, true, false, ◌||◌, ◌==◌, List, [], ◌∷◌, ◌++◌, length, take, get_or, slice_set, ⊥, inl, inr, refl, sym, ◌∙◌, ap, subst, arith, rules, tests}
+use Rattle.std.proofs.Common.{◌≡◌, ℕ, ◌+◌, ◌<◌, ◌≤◌, Bool, true, false, ◌||◌, ◌==◌, List, [], ◌∷◌, ◌++◌, length, take, get_or, slice_set, inl, inr, refl, sym, ◌∙◌, ap, subst, arith, rules, tests}
 use Rattle.std.proofs.lemmas.Bool.{cases_eq}
 use Rattle.std.proofs.lemmas.List.{length-set, get_or-set_other, get_or_past, take_more}
 use Rattle.std.proofs.lemmas.Grind.{get_or-set_at}
@@ -23,15 +23,13 @@ among_other (c ∷ columns) column k other = ap (λ b. (c == k) || b) (among_oth
 pub put_none : (row old : List Value) → Put [] row old old
 put_none row old = record { size = refl; put = λ k h. absurd cc; kept = λ k h. refl }
 
-one_more : (columns : List ℕ) (i column : ℕ) → i < length columns → column ≡ get_or columns i column → take (i + 1) columns ≡ take i columns ++ column ∷ []
-one_more columns i column here e = take_more columns i column here ∙ ap (λ c. take i columns ++ c ∷ []) (sym e)
-
-pub put_more : (columns : List ℕ) (i column : ℕ) (row old values : List Value) (value : Value) → i < length columns → column ≡ get_or columns i column → column < length values → value ≡ get_or row column Null
-    → Put (take i columns) row old values → Put (take (i + 1) columns) row old (slice_set values column value)
-put_more columns i column row old values value here e within is so_far =
+pub put_more : (columns : List ℕ) (i : ℕ) (row old values : List Value) (value : Value) → i < length columns → get_or columns i 0 < length values → value ≡ get_or row (get_or columns i 0) Null
+    → Put (take i columns) row old values → Put (take (i + 1) columns) row old (slice_set values (get_or columns i 0) value)
+put_more columns i row old values value here within is so_far =
+    let column = get_or columns i 0 in
     let now : List Value = slice_set values column value in
     let Of : List ℕ → Type 0 = λ cs. Put cs row old now in
-    subst Of (sym (one_more columns i column here e)) (record {
+    subst Of (sym (take_more columns i 0 here)) (record {
       size = length-set values column value ∙ so_far.size;
       put = λ k h. elim (cases_eq column k) [
         | inl there ↦ get_or-set_at values column k value Null (sym there) within ∙ is ∙ ap (λ n. get_or row n Null) there
@@ -43,12 +41,13 @@ put_more columns i column row old values value here e within is so_far =
       ];
     })
 
-pub put_past : (columns : List ℕ) (i column : ℕ) (row old values : List Value) → i < length columns → column ≡ get_or columns i column → length values ≤ column → length row ≡ length old
+pub put_past : (columns : List ℕ) (i : ℕ) (row old values : List Value) → i < length columns → length values ≤ get_or columns i 0 → length row ≤ length old
     → Put (take i columns) row old values → Put (take (i + 1) columns) row old values
-put_past columns i column row old values here e past size so_far =
+put_past columns i row old values here past size so_far =
+    let column = get_or columns i 0 in
     let Of : List ℕ → Type 0 = λ cs. Put cs row old values in
     let many = so_far.size in
-    subst Of (sym (one_more columns i column here e)) (record {
+    subst Of (sym (take_more columns i 0 here)) (record {
       size = so_far.size;
       put = λ k h. elim (cases_eq column k) [
         | inl there ↦ get_or_past values k Null (omega arith) ∙ sym (get_or_past row k Null (omega arith))
