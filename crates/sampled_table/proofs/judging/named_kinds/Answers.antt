@@ -17,7 +17,7 @@ loop-column-preserved c =
     let i = c.loop-column.column-index in
     let name = c.column-item.result in
     let same = c.loop-column.invariant.at in
-    let made = ap₂ named c.in_ok-name.ensures (c.kind_at-kind.ensures ∙ ap (λ n. get_or kinds n K.Any) same) in
+    let made = ap₂ named (c.in_ok-name.ensures ∙ c.name.ensures) (c.kind_at-kind.ensures ∙ ap (λ n. get_or kinds n K.Any) same) in
     record {
       at = ap (λ n. n + 1) same;
       columns = c.loop-column.invariant.columns

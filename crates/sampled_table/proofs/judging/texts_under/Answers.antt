@@ -13,7 +13,7 @@ loop-column-preserved c =
     let i = c.loop-column.column-index in
     let name = c.column-item.result in
     let same = c.loop-column.invariant.at in
-    let made = c.in_ok-text.ensures
+    let made = (c.in_ok-text.ensures ∙ ap (λ (t : List ℕ). text_of (field_in (found_in row).row.slots (place_for c.is-is_of_first.result row.columns c.loop-column.at t))) c.name.ensures)
     ∙ (ap (λ b. text_of (field_in (found_in row).row.slots (place_for b row.columns c.loop-column.at name))) c.is-is_of_first.ensures
     ∙ ap (λ n. make n name) same) in
     record {
