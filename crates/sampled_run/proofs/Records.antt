@@ -23,7 +23,7 @@ use Rattle.sampled_table.specs.declared.picking.SampledPicker.{SampledPicker}
 use Rattle.sampled_run.specs.Past.{Past, Later, Rules, first_seen, log_of, past_with, plan_at, rows_at, rows_with, text_at, told_at}
 use Rattle.sampled_run.specs.Holds.{Asks, Begun, Gathers, Holds, IsFront, IsTold, IsWithin, PhaseHolds, PhaseStopped, WritesOn}
 use Rattle.query_types.specs.declared.fault.TypeFault.{TypeFault}
-use Rattle.sampled_run.specs.Laws.{Samples, Halts, later_with, rows_more, told_stays}
+use Rattle.sampled_run.specs.Laws.{Halts, later_with, rows_more, told_stays}
 use Rattle.sampled_run.specs.declared.phase.Gathering.{Gathering}
 use Rattle.sampled_run.specs.declared.phase.Phase.{Phase}
 use Rattle.sampled_run.specs.declared.phase.Phase.TheVariants as P
@@ -131,8 +131,15 @@ halts_front text has_text rules start u v past later old founds halts on follows
 
 -- ---- the phases of a run
 
-abbrev pub at_phase : {F : Type 0} → Sampling F → Phase F → Sampling F
-at_phase sampling phase = record sampling { phase = phase }
+-- whatever the records before, the phase stands for these too
+abbrev pub SamplesTo : {F : Type 0} → TextOf F → HasTextOf F → Sampling F → Option (List ℕ) → List Found → Phase F → Option (List ℕ) → Type 0
+SamplesTo text has_text old before founds phase now =
+    (rules : Rules) (start : Option (List ℕ)) (past : Past) → Holds text has_text rules start past old before → PhaseHolds text has_text rules start (past_with past founds) phase now
+
+-- whatever the records before and those that follow, a run has stopped within these
+abbrev pub HaltsAt : {F : Type 0} → TextOf F → HasTextOf F → Sampling F → Option (List ℕ) → List Found → Phase F → Option (List ℕ) → Type 0
+HaltsAt text has_text old before founds phase now =
+    (rules : Rules) (start : Option (List ℕ)) (past : Past) → Holds text has_text rules start past old before → (later : Past) → Later (past_with past founds) later → PhaseStopped rules start later phase now
 
 phase_is : {F : Type 0} (text : TextOf F) (has_text : HasTextOf F) (rules : Rules) (start now : Option (List ℕ)) (past : Past) (old : Sampling F) (phase : Phase F) → old.phase ≡ phase → Holds text has_text rules start past old now → PhaseHolds text has_text rules start past phase now
 phase_is {F = F} text has_text rules start now past old phase is holds =
@@ -140,60 +147,45 @@ phase_is {F = F} text has_text rules start now past old phase is holds =
     subst Of is holds.phase
 
 pub samples_writing : {F : Type 0} (text : TextOf F) (has_text : HasTextOf F) (old : Sampling F) (first last : Writer F SampledPicker) (u v : Option (List ℕ)) (founds : List Found)
-    → old.phase ≡ P.Writing first → Writes text has_text picks_of first u founds last v → Samples text has_text old u founds (at_phase old (P.Writing last)) v
-samples_writing text has_text old first last u v founds is writes = record {
-  along = λ rules start past holds. record {
-    asks = holds.asks;
-    phase = writes_more text has_text rules start u v past first last founds writes (phase_is text has_text rules start u past old (P.Writing first) is holds);
-  };
-}
+    → old.phase ≡ P.Writing first → Writes text has_text picks_of first u founds last v → SamplesTo text has_text old u founds (P.Writing last) v
+samples_writing text has_text old first last u v founds is writes = λ rules start past holds.
+    writes_more text has_text rules start u v past first last founds writes (phase_is text has_text rules start u past old (P.Writing first) is holds)
 
 pub halts_writing : {F : Type 0} (text : TextOf F) (has_text : HasTextOf F) (old : Sampling F) (first last : Writer F SampledPicker) (u v : Option (List ℕ)) (founds : List Found)
-    → old.phase ≡ P.Writing first → WriterHalts text has_text picks_of first u founds v → Halts text has_text old u founds (at_phase old (P.Writing last)) v
-halts_writing text has_text old first last u v founds is halts = record {
-  within = λ rules start past holds later follows.
-      halts_front text has_text rules start u v past later first founds halts (phase_is text has_text rules start u past old (P.Writing first) is holds) follows;
-}
+    → old.phase ≡ P.Writing first → WriterHalts text has_text picks_of first u founds v → HaltsAt text has_text old u founds (P.Writing last) v
+halts_writing text has_text old first last u v founds is halts = λ rules start past holds later follows.
+    halts_front text has_text rules start u v past later first founds halts (phase_is text has_text rules start u past old (P.Writing first) is holds) follows
 
 pub samples_gathering : {F : Type 0} (text : TextOf F) (has_text : HasTextOf F) (old : Sampling F) (first last : Gathering F) (u : Option (List ℕ)) (found : Found)
     → old.phase ≡ P.Gathering first → last.first ≡ first_seen first.first (found ∷ []) → map found_in last.rows ≡ map found_in first.rows ++ found ∷ [] → last.shape ≡ first.shape
-    → Samples text has_text old u (found ∷ []) (at_phase old (P.Gathering last)) u
-samples_gathering text has_text old first last u found is log rows shape = record {
-  along = λ rules start past holds. record {
-    asks = holds.asks;
-    phase = gathers_more text rules start u past first last found log rows shape (phase_is text has_text rules start u past old (P.Gathering first) is holds);
-  };
-}
+    → SamplesTo text has_text old u (found ∷ []) (P.Gathering last) u
+samples_gathering text has_text old first last u found is log rows shape = λ rules start past holds.
+    gathers_more text rules start u past first last found log rows shape (phase_is text has_text rules start u past old (P.Gathering first) is holds)
 
 -- a record that couldn't be kept
 pub halts_gathering : {F : Type 0} (text : TextOf F) (has_text : HasTextOf F) (old : Sampling F) (first last : Gathering F) (u : Option (List ℕ)) (founds : List Found)
-    → old.phase ≡ P.Gathering first → Halts text has_text old u founds (at_phase old (P.Gathering last)) u
-halts_gathering text has_text old first last u founds is = record {
-  within = λ rules start past holds later follows. inl (phase_is text has_text rules start u past old (P.Gathering first) is holds).nothing;
-}
+    → old.phase ≡ P.Gathering first → HaltsAt text has_text old u founds (P.Gathering last) u
+halts_gathering text has_text old first last u founds is = λ rules start past holds later follows.
+    inl (phase_is text has_text rules start u past old (P.Gathering first) is holds).nothing
 
 -- the record with which the columns are told
 pub samples_turning : {F : Type 0} (text : TextOf F) (has_text : HasTextOf F) (old : Sampling F) (new : Phase F) (first last : Gathering F) (u v : Option (List ℕ)) (found : Found)
     → old.phase ≡ P.Gathering first → last.first ≡ first_seen first.first (found ∷ []) → map found_in last.rows ≡ map found_in first.rows ++ found ∷ [] → last.shape ≡ first.shape → old.limit ≤ length last.rows
     → ((rules : Rules) (start : Option (List ℕ)) (past : Past) → Asks old.limit old.pattern.now (query_of old.query.now) rules → Gathers text rules start past last u → IsTold rules past → PhaseHolds text has_text rules start past new v)
-    → Samples text has_text old u (found ∷ []) (at_phase old new) v
-samples_turning text has_text old new first last u v found is log rows shape enough turned = record {
-  along = λ rules start past holds.
-      let gathers = gathers_more text rules start u past first last found log rows shape (phase_is text has_text rules start u past old (P.Gathering first) is holds) in
-      let limit = holds.asks.limit in
-      record { asks = holds.asks; phase = turned rules start (past_with past (found ∷ [])) holds.asks gathers (told_now text rules start u past last found (omega arith) gathers) };
-}
+    → SamplesTo text has_text old u (found ∷ []) new v
+samples_turning text has_text old new first last u v found is log rows shape enough turned = λ rules start past holds.
+    let gathers = gathers_more text rules start u past first last found log rows shape (phase_is text has_text rules start u past old (P.Gathering first) is holds) in
+    let limit = holds.asks.limit in
+    turned rules start (past_with past (found ∷ [])) holds.asks gathers (told_now text rules start u past last found (omega arith) gathers)
 
 pub halts_turning : {F : Type 0} (text : TextOf F) (has_text : HasTextOf F) (old : Sampling F) (new : Phase F) (first last : Gathering F) (u v : Option (List ℕ)) (found : Found)
     → old.phase ≡ P.Gathering first → last.first ≡ first_seen first.first (found ∷ []) → map found_in last.rows ≡ map found_in first.rows ++ found ∷ [] → last.shape ≡ first.shape → old.limit ≤ length last.rows
     → ((rules : Rules) (start : Option (List ℕ)) (past later : Past) → Asks old.limit old.pattern.now (query_of old.query.now) rules → Gathers text rules start past last u → IsTold rules past → Later past later → PhaseStopped rules start later new v)
-    → Halts text has_text old u (found ∷ []) (at_phase old new) v
-halts_turning text has_text old new first last u v found is log rows shape enough stopped = record {
-  within = λ rules start past holds later follows.
-      let gathers = gathers_more text rules start u past first last found log rows shape (phase_is text has_text rules start u past old (P.Gathering first) is holds) in
-      let limit = holds.asks.limit in
-      stopped rules start (past_with past (found ∷ [])) later holds.asks gathers (told_now text rules start u past last found (omega arith) gathers) follows;
-}
+    → HaltsAt text has_text old u (found ∷ []) new v
+halts_turning text has_text old new first last u v found is log rows shape enough stopped = λ rules start past holds later follows.
+    let gathers = gathers_more text rules start u past first last found log rows shape (phase_is text has_text rules start u past old (P.Gathering first) is holds) in
+    let limit = holds.asks.limit in
+    stopped rules start (past_with past (found ∷ [])) later holds.asks gathers (told_now text rules start u past last found (omega arith) gathers) follows
 
 -- nothing is taken behind a refusal
 pub halts_refused : {F : Type 0} (text : TextOf F) (has_text : HasTextOf F) (old new : Sampling F) (u v : Option (List ℕ)) (founds : List Found) (plan : TypeFault) → old.phase ≡ P.Refused plan → Halts text has_text old u founds new v
