@@ -19,7 +19,7 @@ use Rattle.execution.specs.Executed.{OnTable, told_table}
 use Rattle.execution.specs.Formats.{lines_in}
 use Rattle.execution.specs.declared.formats.LogFormat.{LogFormat}
 use Rattle.execution.specs.declared.formats.LogFormat.TheVariants as F
-use Rattle.execution.proofs.Formats.{lines_start}
+use Rattle.execution.proofs.FormatLemmas.{lines_start}
 use Rattle.input_tables.specs.Tables.{table_of}
 use Rattle.lp_time.specs.declared.piece.Piece.{Piece}
 use Rattle.query_types.specs.declared.table.TableColumns.{TableColumns}

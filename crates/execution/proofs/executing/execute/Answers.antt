@@ -7,7 +7,7 @@ use Rattle.execution.specs.declared.formats.LogFormat.{LogFormat}
 use Rattle.execution.specs.Executed.{IsExecuted, IsParseError, IsStopped, IsUnplanned, IsUntouched}
 use Rattle.execution.specs.Faults.{IfParse, IfPlan}
 use Rattle.execution.specs.Formats.{input_of}
-use Rattle.execution.proofs.Formats.{separated}
+use Rattle.execution.proofs.FormatLemmas.{separated}
 use Rattle.execution.proofs.executing.execute.Goals as goal
 
 pub execute_sampled-requires-clause-separator : goal.execute_sampled-requires-clause-separator

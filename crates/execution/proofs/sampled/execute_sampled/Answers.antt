@@ -1,5 +1,5 @@
 use Rattle.query_tree.specs.Views.{query_of}
-use Rattle.execution.proofs.Sampled.{executed, stopped, unplanned, untouched, refused_stopped, parse_error}
+use Rattle.execution.proofs.SampledRuns.{executed, stopped, unplanned, untouched, refused_stopped, parse_error}
 use Rattle.execution.proofs.sampled.execute_sampled.Goals as goal
 
 pub returns-in-Ok-clause-ran : goal.returns-in-Ok-clause-ran
@@ -15,17 +15,17 @@ returns-in-Err-Bad-clause-stopped g c =
 pub returns-in-Err-Logs-clause-stopped : goal.returns-in-Err-Logs-clause-stopped
 returns-in-Err-Logs-clause-stopped g c =
     stopped (g.L.Logs.folder c.run_sampled.new.logs) (g.G.Stage.state c.args.stage.now).written (g.G.Stage.state c.run_sampled.new.stage).written c.args.spec.now (query_of c.args.query.now)
-    c.args.options c.args.limit c.as_slice.result.now c.args.spans.now c.as_slice.ensures c.in-Err-Logs.ensures.stopped
+    c.args.options c.args.limit c.as_slice.result.now c.args.spans.now c.as_slice.ensures (rw c.in-Err-Logs.field-0-is at c.in-Err-Logs.ensures.stopped)
 
 pub returns-in-Err-Output-clause-stopped : goal.returns-in-Err-Output-clause-stopped
 returns-in-Err-Output-clause-stopped g c =
     stopped (g.L.Logs.folder c.run_sampled.new.logs) (g.G.Stage.state c.args.stage.now).written (g.G.Stage.state c.run_sampled.new.stage).written c.args.spec.now (query_of c.args.query.now)
-    c.args.options c.args.limit c.as_slice.result.now c.args.spans.now c.as_slice.ensures c.in-Err-Output.ensures.stopped
+    c.args.options c.args.limit c.as_slice.result.now c.args.spans.now c.as_slice.ensures (rw c.in-Err-Output.field-0-is at c.in-Err-Output.ensures.stopped)
 
 pub returns-in-Err-Memory-clause-stopped : goal.returns-in-Err-Memory-clause-stopped
 returns-in-Err-Memory-clause-stopped g c =
     stopped (g.L.Logs.folder c.run_sampled.new.logs) (g.G.Stage.state c.args.stage.now).written (g.G.Stage.state c.run_sampled.new.stage).written c.args.spec.now (query_of c.args.query.now)
-    c.args.options c.args.limit c.as_slice.result.now c.args.spans.now c.as_slice.ensures c.in-Err-Memory.ensures.stopped
+    c.args.options c.args.limit c.as_slice.result.now c.args.spans.now c.as_slice.ensures (rw c.in-Err-Memory.field-0-is at c.in-Err-Memory.ensures.stopped)
 
 pub returns-in-Err-Plan-clause-stopped : goal.returns-in-Err-Plan-clause-stopped
 returns-in-Err-Plan-clause-stopped g c =

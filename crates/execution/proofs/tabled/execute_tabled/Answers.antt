@@ -2,7 +2,7 @@ use Rattle.std.proofs.Common.{inr}
 use Rattle.lp_model.proofs.Growing.{OnlyGrow-refl}
 use Rattle.query_tree.specs.Views.{query_of}
 use Rattle.query_types.specs.Planned.{planned_in}
-use Rattle.execution.proofs.Tabled.{executed, front, parse_error}
+use Rattle.execution.proofs.TabledRuns.{executed, front, parse_error}
 use Rattle.execution.proofs.tabled.execute_tabled.Goals as goal
 
 pub returns-in-Err-clause-grows : goal.returns-in-Err-clause-grows

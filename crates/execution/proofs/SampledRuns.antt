@@ -1,5 +1,5 @@
 -- What a run over sampled columns says of its query.
-use Rattle.std.proofs.Common.{◌≡◌, ◌⊎◌, true, false, List, ℕ, length, Option, Some, None, Ok, Err, inl, inr, subst, ⊤}
+use Rattle.std.proofs.Common.{◌≡◌, ◌⊎◌, true, false, List, ℕ, length, Option, Some, None, Ok, Err, inl, inr, subst}
 use Rattle.grammar.specs.Trees as model
 use Rattle.lp_model.specs.Outside.{Folder, Told}
 use Rattle.command_words.specs.declared.spec.Spec.{Spec}
