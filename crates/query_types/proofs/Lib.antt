@@ -1,4 +1,5 @@
 mod Answering
+mod Forms
 mod Lists
 mod Parts
 mod Steps

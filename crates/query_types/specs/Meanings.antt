@@ -226,6 +226,10 @@ if_fits columns kind at term = where_it_is (fits kind (kind_meant columns term))
 abbrev pub if_agrees : List NamedKind → Kind → ℕ → Term → Result Term TypeFault
 if_agrees columns kind at term = where_it_is (agree kind (kind_meant columns term)) (F.KindMismatch at) term
 
+-- a CASE whose ELSE means this
+abbrev pub case_ended : List NamedKind → Term → List Term → ℕ → Term → Result Term TypeFault
+case_ended columns subject parts at last = followed (if_agrees columns (case_kind columns K.Any parts) at last) (λ x. Ok (case_means columns subject (parts ++ x ∷ [])))
+
 abbrev mutual
   -- what an expression means in a run of this moment where these aliases are in force, or its first fault
   pub meant : TableColumns → ℤ → List Alias → Tree → Result Term TypeFault
@@ -241,26 +245,22 @@ abbrev mutual
   meant table moment aliases (tree.PropCountAll at) = Err (F.UnknownFunction at)
   meant table moment aliases (tree.Case at subject branches otherwise) =
       followed (meant table moment aliases subject) (λ x.
-      followed (parts_meant table moment aliases (kind_meant table.columns x) K.Any branches otherwise) (λ parts. Ok (case_means table.columns x parts)))
+      followed (branches_meant table moment aliases (kind_meant table.columns x) K.Any branches) (λ parts.
+      followed (else_meant table moment aliases (case_kind table.columns K.Any parts) otherwise) (λ last. Ok (case_means table.columns x (parts ++ last)))))
 
   pub all_meant : TableColumns → ℤ → List Alias → Trees → Result (List Term) TypeFault
   all_meant table moment aliases no_trees = Ok []
   all_meant table moment aliases (more_trees e es) = added (meant table moment aliases e) (all_meant table moment aliases es)
 
-  -- each WHEN, whose kind has to fit the subject's, and its THEN, whose kind has to agree with those before; then ELSE
-  pub parts_meant : TableColumns → ℤ → List Alias → Kind → Kind → Whens → Otherwise → Result (List Term) TypeFault
-  parts_meant table moment aliases subject kind no_whens otherwise = else_meant table moment aliases kind otherwise
-  parts_meant table moment aliases subject kind (more_whens test value branches) otherwise =
+  -- each WHEN, whose kind has to fit the subject's, and its THEN, whose kind has to agree with those before
+  pub branches_meant : TableColumns → ℤ → List Alias → Kind → Kind → Whens → Result (List Term) TypeFault
+  branches_meant table moment aliases subject kind no_whens = Ok []
+  branches_meant table moment aliases subject kind (more_whens test value branches) =
       followed (followed (meant table moment aliases test) (if_fits table.columns subject (place_of test))) (λ x.
       followed (followed (meant table moment aliases value) (if_agrees table.columns kind (place_of value))) (λ y.
-      branch_added x y (parts_meant table moment aliases subject (sharper kind (kind_meant table.columns y)) branches otherwise)))
+      branch_added x y (branches_meant table moment aliases subject (sharper kind (kind_meant table.columns y)) branches)))
 
+  -- ELSE, where it stands, whose kind has to agree with those before
   pub else_meant : TableColumns → ℤ → List Alias → Kind → Otherwise → Result (List Term) TypeFault
   else_meant table moment aliases kind no_else = Ok []
-  else_meant table moment aliases kind (an_else value) = added (followed (meant table moment aliases value) (if_agrees table.columns kind (place_of value))) (Ok [])
-
--- a WHEN and its THEN
-abbrev pub branch_meant : TableColumns → ℤ → List Alias → Kind → Kind → Tree × Tree → Result (Term × Term) TypeFault
-branch_meant table moment aliases subject kind branch =
-    followed (followed (meant table moment aliases branch.0) (if_fits table.columns subject (place_of branch.0))) (λ x.
-    followed (followed (meant table moment aliases branch.1) (if_agrees table.columns kind (place_of branch.1))) (λ y. Ok (x, y)))
+  else_meant table moment aliases kind (an_else value) = followed (followed (meant table moment aliases value) (if_agrees table.columns kind (place_of value))) (λ x. Ok (x ∷ []))

@@ -67,14 +67,11 @@ fn is_plain(expr: &Expr) -> bool
             at: _,
             subject,
             branches,
-            otherwise: Some(value),
-        } => is_plain(subject) && are_plain_branches(branches) && is_plain(value),
-        Expr::Case {
-            at: _,
-            subject,
-            branches,
-            otherwise: None,
-        } => is_plain(subject) && are_plain_branches(branches),
+            otherwise,
+        } => match otherwise {
+            None => is_plain(subject) && are_plain_branches(branches),
+            Some(value) => { is_plain(subject) && are_plain_branches(branches) && is_plain(value) }
+        },
     }
 }
 

@@ -1,12 +1,11 @@
 // What expressions mean where aliases are in force.
-ghost use Rattle.std.specs.Prelude.{◌≡◌, map, option_map, option_copied};
+ghost use Rattle.std.specs.Prelude.{◌≡◌, IfOk, map};
 ghost use Rattle.grammar.specs.Trees.{Tree as tree};
-ghost use Rattle.grammar.specs.Trees.{otherwise_of};
 ghost use Rattle.grammar.specs.Trees.{trees_of as listed};
 ghost use Rattle.grammar.specs.Trees.{whens_of as branched};
 ghost use Rattle.lp_values.specs.declared.kind.Kind.TheVariants.{Any};
-ghost use Rattle.query_tree.specs.Views.{tree_of, trees_of, when_of, whens_of};
-ghost use Rattle.query_types.specs.Meanings.{Answers, all_meant, branch_meant, case_means, meant, parts_meant, word_means};
+ghost use Rattle.query_tree.specs.Views.{tree_of, trees_of, whens_of};
+ghost use Rattle.query_types.specs.Meanings.{Answers, branches_meant, case_ended, case_means, meant, parts_meant, word_means};
 ghost use Rattle.query_types.specs.Terms.{term_of};
 
 use crate::alias::{Alias, find_alias};
@@ -18,7 +17,7 @@ use crate::kinds::case_kind;
 use crate::stamps::stamp_means;
 use crate::{Meaning, TableColumns, TypeFault};
 use lp_values::{Kind, Text, Value};
-use query_tree::{Expr, ExprList, When, WhenList};
+use query_tree::{Expr, ExprList, WhenList};
 use std::alloc::{AllocError, Global};
 
 // What a word means: a column, an alias, or a column that the table doesn't list.
@@ -59,23 +58,22 @@ fn case_means(
     Ok(Meaning::new(made(kind, Operation::Case, all)))
 }
 
-// The arguments of a call.
-#[cycle(meanings)]
-fn all_meant(
+// A CASE whose ELSE means this, where its kind agrees.
+fn case_ended(
     alloc: Global,
     table: &TableColumns,
-    moment: i64,
-    aliases: &[Alias],
-    items: &ExprList,
-) -> Result<Vec<Form>, TypeFault>
-    ensures { Answers (λ forms. map term_of forms.items) result (all_meant table.now moment aliases.now (listed (trees_of items.now))) }
+    subject: Meaning,
+    parts: Vec<Form>,
+    at: u32,
+    last: Meaning,
+) -> Result<Meaning, TypeFault>
+    ensures { Answers (λ meaning. meaning) result (case_ended table.now.columns subject (map term_of parts.items) at last) }
 {
-    let mut forms = Vec::new(alloc);
-    for item in &items.items {
-        let meaning = meant(alloc, table, moment, aliases, item)?;
-        forms.push(meaning.into_form())?;
-    }
-    Ok(forms)
+    let kind = case_kind(table, parts.as_slice());
+    let last = if_agrees(table, kind, at, last)?;
+    let mut parts = parts;
+    parts.push(last.into_form())?;
+    Ok(case_means(alloc, table, subject, parts)?)
 }
 
 // A call.
@@ -92,76 +90,38 @@ fn call_meant(
     ensures { Answers (λ meaning. meaning) result (meant table.now moment aliases.now (tree.Call at name.now (listed (trees_of arguments.now)))) }
 {
     let callee = known(at, arguments.len(), Callee::of(name.as_str()))?;
-    let forms = all_meant(alloc, table, moment, aliases, arguments)?;
+    let mut forms = Vec::new(alloc);
+    for argument in &arguments.items {
+        let meaning = meant(alloc, table, moment, aliases, argument)?;
+        forms.push(meaning.into_form())?;
+    }
     call_means(alloc, table, moment, at, callee, arguments, forms)
 }
 
-// A WHEN, whose kind has to fit, and its THEN, whose kind has to agree.
+// The branches of a CASE whose subject has this kind.
 #[cycle(meanings)]
-fn branch_meant(
-    alloc: Global,
-    table: &TableColumns,
-    moment: i64,
-    aliases: &[Alias],
-    subject: Kind,
-    kind: Kind,
-    branch: &When,
-) -> Result<(Meaning, Meaning), TypeFault>
-    ensures { Answers (λ both. both) result (branch_meant table.now moment aliases.now subject kind (when_of branch.now)) }
-{
-    let test = meant(alloc, table, moment, aliases, &branch.test)?;
-    let test = if_fits(table, subject, branch.test.place(), test)?;
-    let value = meant(alloc, table, moment, aliases, &branch.value)?;
-    let value = if_agrees(table, kind, branch.value.place(), value)?;
-    Ok((test, value))
-}
-
-// What stands behind a CASE's subject.
-#[cycle(meanings)]
-fn parts_meant(
+fn branches_meant(
     alloc: Global,
     table: &TableColumns,
     moment: i64,
     aliases: &[Alias],
     subject: Kind,
     branches: &WhenList,
-    otherwise: Option<&Expr>,
 ) -> Result<Vec<Form>, TypeFault>
-    ensures { Answers (λ forms. map term_of forms.items) result (parts_meant table.now moment aliases.now subject Any (branched (whens_of branches.now)) (otherwise_of (option_map tree_of (option_copied otherwise.entry)))) }
+    ensures { Answers (λ forms. map term_of forms.items) result (branches_meant table.now moment aliases.now subject Any (branched (whens_of branches.now))) }
 {
     let mut kind = Kind::Any;
     let mut parts = Vec::new(alloc);
     for branch in &branches.items {
-        let (test, value) = branch_meant(alloc, table, moment, aliases, subject, kind, branch)?;
+        let test = meant(alloc, table, moment, aliases, &branch.test)?;
+        let test = if_fits(table, subject, branch.test.place(), test)?;
+        let value = meant(alloc, table, moment, aliases, &branch.value)?;
+        let value = if_agrees(table, kind, branch.value.place(), value)?;
         kind = sharper(kind, value.kind(table));
         parts.push(test.into_form())?;
         parts.push(value.into_form())?;
     }
-    if let Some(value) = otherwise {
-        let meaning = meant(alloc, table, moment, aliases, value)?;
-        let meaning = if_agrees(table, kind, value.place(), meaning)?;
-        parts.push(meaning.into_form())?;
-    }
     Ok(parts)
-}
-
-// A CASE.
-#[cycle(meanings)]
-fn case_meant(
-    alloc: Global,
-    table: &TableColumns,
-    moment: i64,
-    aliases: &[Alias],
-    subject: &Expr,
-    branches: &WhenList,
-    otherwise: Option<&Expr>,
-) -> Result<Meaning, TypeFault>
-    ensures { Answers (λ meaning. meaning) result (meant table.now moment aliases.now (tree.Case 0 (tree_of subject.now) (branched (whens_of branches.now)) (otherwise_of (option_map tree_of (option_copied otherwise.entry))))) }
-{
-    let subject = meant(alloc, table, moment, aliases, subject)?;
-    let kind = subject.kind(table);
-    let parts = parts_meant(alloc, table, moment, aliases, kind, branches, otherwise)?;
-    Ok(case_means(alloc, table, subject, parts)?)
 }
 
 /// What an expression means in a run of this moment, or its first fault.
@@ -197,21 +157,18 @@ pub fn meant(
             at: _,
             subject,
             branches,
-            otherwise: Some(value),
-        } => case_meant(
-            alloc,
-            table,
-            moment,
-            aliases,
-            subject,
-            branches,
-            Some(value),
-        ),
-        Expr::Case {
-            at: _,
-            subject,
-            branches,
-            otherwise: None,
-        } => case_meant(alloc, table, moment, aliases, subject, branches, None),
+            otherwise,
+        } => {
+            let subject = meant(alloc, table, moment, aliases, subject)?;
+            let kind = subject.kind(table);
+            let parts = branches_meant(alloc, table, moment, aliases, kind, branches)?;
+            match otherwise {
+                None => Ok(case_means(alloc, table, subject, parts)?),
+                Some(value) => {
+                    let last = meant(alloc, table, moment, aliases, value)?;
+                    case_ended(alloc, table, subject, parts, value.place(), last)
+                }
+            }
+        }
     }
 }

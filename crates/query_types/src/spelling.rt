@@ -1,15 +1,14 @@
 // Expressions as names of columns.
-ghost use Rattle.std.specs.Prelude.{◌≡◌, ◌++◌, [], OnOk, map, option_map, option_copied};
+ghost use Rattle.std.specs.Prelude.{◌≡◌, ◌++◌, OnOk, map, option_map};
 ghost use Rattle.std.specs.Char.{to_ascii_uppercase};
 ghost use Rattle.std.specs.List.{find};
 ghost use Rattle.std.specs.Str.{str_eq_ignore_ascii_case};
 ghost use Rattle.grammar.specs.Trees.{Tree as tree};
-ghost use Rattle.grammar.specs.Trees.{otherwise_of};
 ghost use Rattle.grammar.specs.Trees.{trees_of as listed};
 ghost use Rattle.grammar.specs.Trees.{whens_of as branched};
 ghost use Rattle.query_tree.specs.Views.{placed_of, tree_of, trees_of, whens_of};
 ghost use Rattle.lp_values.specs.Printed.{printed};
-ghost use Rattle.query_types.specs.Names.{all_spelled, branches_spelled, else_spelled, quoted, spelled, stamp_spelled, word_spelled};
+ghost use Rattle.query_types.specs.Names.{branches_spelled, quoted, spelled, stamp_spelled, word_spelled};
 
 use crate::alias::{Alias, find_alias};
 use crate::{NamedKind, TableColumns};
@@ -87,23 +86,26 @@ fn spell_stamp(value: &Placed, pattern: &Placed, to: &mut Bytes) -> Result<(), A
     spell(")", to)
 }
 
-// Expressions, each but the first behind a comma and a space.
+// A call.
 #[cycle(spelling)]
-fn spell_all(
+fn spell_call(
     table: &TableColumns,
     aliases: &[Alias],
-    items: &ExprList,
+    name: &Text,
+    arguments: &ExprList,
     to: &mut Bytes,
 ) -> Result<(), AllocError>
-    ensures { OnOk result (to.new ≡ to.old ++ all_spelled table.now aliases.now [] (listed (trees_of items.now))) }
+    ensures { OnOk result (to.new ≡ to.old ++ spelled table.now aliases.now (tree.Call 0 name.now (listed (trees_of arguments.now)))) }
 {
+    spell_capitals(name.as_str(), to)?;
+    spell("(", to)?;
     let mut separator = "";
-    for item in &items.items {
+    for argument in &arguments.items {
         spell(separator, to)?;
-        spell_expression(table, aliases, item, to)?;
+        spell_expression(table, aliases, argument, to)?;
         separator = ", ";
     }
-    Ok(())
+    spell(")", to)
 }
 
 // The branches of a CASE.
@@ -123,61 +125,6 @@ fn spell_branches(
         spell_expression(table, aliases, &branch.value, to)?;
     }
     Ok(())
-}
-
-// ELSE, where it stands.
-#[cycle(spelling)]
-fn spell_else(
-    table: &TableColumns,
-    aliases: &[Alias],
-    otherwise: Option<&Expr>,
-    to: &mut Bytes,
-) -> Result<(), AllocError>
-    ensures { OnOk result (to.new ≡ to.old ++ else_spelled table.now aliases.now (otherwise_of (option_map tree_of (option_copied otherwise.entry)))) }
-{
-    match otherwise {
-        None => Ok(()),
-        Some(value) => {
-            spell(" ELSE ", to)?;
-            spell_expression(table, aliases, value, to)
-        }
-    }
-}
-
-// A CASE.
-#[cycle(spelling)]
-fn spell_case(
-    table: &TableColumns,
-    aliases: &[Alias],
-    subject: &Expr,
-    branches: &WhenList,
-    otherwise: Option<&Expr>,
-    to: &mut Bytes,
-) -> Result<(), AllocError>
-    ensures { OnOk result (to.new ≡ to.old ++ spelled table.now aliases.now (tree.Case 0 (tree_of subject.now) (branched (whens_of branches.now)) (otherwise_of (option_map tree_of (option_copied otherwise.entry))))) }
-{
-    spell("CASE ", to)?;
-    spell_expression(table, aliases, subject, to)?;
-    spell_branches(table, aliases, branches, to)?;
-    spell_else(table, aliases, otherwise, to)?;
-    spell(" END", to)
-}
-
-// A call.
-#[cycle(spelling)]
-fn spell_call(
-    table: &TableColumns,
-    aliases: &[Alias],
-    name: &Text,
-    arguments: &ExprList,
-    to: &mut Bytes,
-) -> Result<(), AllocError>
-    ensures { OnOk result (to.new ≡ to.old ++ spelled table.now aliases.now (tree.Call 0 name.now (listed (trees_of arguments.now)))) }
-{
-    spell_capitals(name.as_str(), to)?;
-    spell("(", to)?;
-    spell_all(table, aliases, arguments, to)?;
-    spell(")", to)
 }
 
 /// Adds an expression as the name of its column.
@@ -212,13 +159,19 @@ pub(crate) fn spell_expression(
             at: _,
             subject,
             branches,
-            otherwise: Some(value),
-        } => spell_case(table, aliases, subject, branches, Some(value), to),
-        Expr::Case {
-            at: _,
-            subject,
-            branches,
-            otherwise: None,
-        } => spell_case(table, aliases, subject, branches, None, to),
+            otherwise,
+        } => {
+            spell("CASE ", to)?;
+            spell_expression(table, aliases, subject, to)?;
+            spell_branches(table, aliases, branches, to)?;
+            match otherwise {
+                None => spell(" END", to),
+                Some(value) => {
+                    spell(" ELSE ", to)?;
+                    spell_expression(table, aliases, value, to)?;
+                    spell(" END", to)
+                }
+            }
+        }
     }
 }
