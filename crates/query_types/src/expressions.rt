@@ -5,7 +5,7 @@ ghost use Rattle.grammar.specs.Trees.{trees_of as listed};
 ghost use Rattle.grammar.specs.Trees.{whens_of as branched};
 ghost use Rattle.lp_values.specs.declared.kind.Kind.TheVariants.{Any};
 ghost use Rattle.query_tree.specs.Views.{tree_of, trees_of, whens_of};
-ghost use Rattle.query_types.specs.Meanings.{Answers, branches_meant, case_ended, case_means, meant, parts_meant, word_means};
+ghost use Rattle.query_types.specs.Meanings.{Answers, branches_meant, case_ended, case_means, meant, word_means};
 ghost use Rattle.query_types.specs.Terms.{term_of};
 
 use crate::alias::{Alias, find_alias};

@@ -1,6 +1,7 @@
 // Stamps that a query names.
-ghost use Rattle.std.specs.Prelude.{◌≡◌};
+ghost use Rattle.std.specs.Prelude.{◌≡◌, Some};
 ghost use Rattle.query_tree.specs.Views.{placed_of};
+ghost use Rattle.lp_time.specs.Readings.{part_of, seconds_in};
 ghost use Rattle.slot_reading.specs.Stamps.{stamp_value};
 ghost use Rattle.lp_values.specs.declared.part.Part.TheVariants.{Both};
 ghost use Rattle.query_types.specs.Meanings.{Answers, moment_as, pattern_of, stamp_means, stamp_read};
