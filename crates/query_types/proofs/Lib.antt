@@ -1,7 +1,7 @@
 mod Answering
 mod Arguments
 mod Existing
-mod Forms
+pub mod Forms
 mod Lists
 mod Meant
 mod Parts

@@ -45,7 +45,7 @@ impl<'a> Seen<'a> {
 
     /// The value as one's own.
     pub fn into_value(self, alloc: Global) -> Result<Value, AllocError>
-        ensures { IfOk result (λ value. value ≡ seen_value self) }
+        ensures { IfOk result (λ value. value ≡ seen_value self.entry) }
     {
         match self {
             Seen::There(value) => value.copy(alloc),
