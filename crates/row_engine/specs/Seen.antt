@@ -1,10 +1,8 @@
 -- A value where it stands, or as it was made.
 use Rattle.lp_values.specs.declared.value.Value.{Value}
-use Rattle.lp_values.specs.declared.value.Value.TheVariants as V
 use Rattle.row_engine.specs.declared.seen.Seen.{Seen}
-use Rattle.row_engine.specs.declared.seen.Seen.TheVariants.{Null, There, Made}
+use Rattle.row_engine.specs.declared.seen.Seen.TheVariants.{There, Made}
 
 abbrev pub seen_value : Seen → Value
-seen_value Null = V.Null
 seen_value (There value) = value.now
 seen_value (Made value) = value

@@ -1,7 +1,6 @@
 // The truth of conditions in a row.
-ghost use Rattle.std.specs.Prelude.{◌≡◌, ◌↔◌, ℕ, List, IsTrue, IfOk, option_map, unwrap_or, option_copied};
+ghost use Rattle.std.specs.Prelude.{◌≡◌, ◌↔◌, ℕ, List, IsTrue, IfOk, option_map};
 ghost use Rattle.std.specs.Str.{chars};
-ghost use Rattle.lp_values.specs.declared.value.Value.TheVariants.{Null};
 ghost use Rattle.lp_values.specs.Comparing.{truth_of};
 ghost use Rattle.lp_values.specs.Comparing.{compared as comparison};
 ghost use Rattle.lp_values.specs.Truths.{both};
@@ -9,10 +8,10 @@ ghost use Rattle.query_types.specs.Conditions.{filter_of};
 ghost use Rattle.query_types.specs.Conditions.{Filter as filter};
 ghost use Rattle.text_functions.specs.Likes.{Likes};
 ghost use Rattle.row_engine.specs.Likeness.{is_like};
-ghost use Rattle.row_engine.specs.Rows.{among, is_yes, keeps, likeness, truth_in, turned};
+ghost use Rattle.row_engine.specs.Rows.{among, is_null, keeps, likeness, truth_in, turned};
 
-use crate::values::{compared, is_null, value};
-use lp_values::{Compare, Text, Truth, Value, ValueList, and, not, or};
+use crate::values::value;
+use lp_values::{Compare, Text, Truth, Value, ValueList, and, compare, not, or};
 use query_types::{Condition, Meaning, MeaningList, Plan};
 use std::alloc::{AllocError, Global};
 use text_functions::like;
@@ -22,6 +21,15 @@ fn turned(negated: bool, truth: Truth) -> Truth
     ensures { result ≡ turned negated truth }
 {
     if negated { not(truth) } else { truth }
+}
+
+fn is_null(value: &Value) -> bool
+    ensures { result ≡ is_null value.now }
+{
+    match value {
+        Value::Null => true,
+        Value::Int(_) | Value::Real(_) | Value::Text(_) | Value::Stamp(_) => false,
+    }
 }
 
 fn truth_of(test: bool) -> Truth
@@ -39,12 +47,12 @@ fn is_like(text: &str, pattern: &str) -> bool
 
 // Whether a value is like a pattern.
 #[tactic(auto, using(crate::proofs::Likeness::tells))]
-fn likeness(value: Option<&Value>, pattern: &str) -> Truth
-    ensures value { result ≡ likeness (unwrap_or (option_copied value.entry) Null) pattern.now }
+fn likeness(value: &Value, pattern: &str) -> Truth
+    ensures value { result ≡ likeness value.now pattern.now }
     ensures law { (pattern text : List ℕ) → IsTrue (is_like pattern text) ↔ Likes pattern text }
 {
     match value {
-        Some(Value::Text(text)) => truth_of(is_like(text.as_str(), pattern)),
+        Value::Text(text) => truth_of(is_like(text.as_str(), pattern)),
         _ => Truth::Unknown,
     }
 }
@@ -53,26 +61,26 @@ fn likeness(value: Option<&Value>, pattern: &str) -> Truth
 fn among(
     alloc: Global,
     row: &ValueList,
-    sought: Option<&Value>,
+    sought: &Value,
     items: &MeaningList,
 ) -> Result<Truth, AllocError>
-    ensures { IfOk result (λ truth. truth ≡ among row.now (unwrap_or (option_copied sought.entry) Null) items.now) }
+    ensures { IfOk result (λ truth. truth ≡ among row.now sought.now items.now) }
 {
     let mut truth = Truth::No;
     for item in items.as_slice() {
         let item = value(alloc, row, item)?;
-        truth = or(truth, compared(Compare::Equal, sought, item.get()));
+        truth = or(truth, compare(Compare::Equal, sought, item.get()));
     }
     Ok(truth)
 }
 
 // Whether a value lies between two others.
-fn between(value: Option<&Value>, low: Option<&Value>, high: Option<&Value>) -> Truth
-    ensures { let v = unwrap_or (option_copied value.entry) Null in result ≡ both (comparison Compare.MoreEqual v (unwrap_or (option_copied low.entry) Null)) (comparison Compare.LessEqual v (unwrap_or (option_copied high.entry) Null)) }
+fn between(value: &Value, low: &Value, high: &Value) -> Truth
+    ensures { result ≡ both (comparison Compare.MoreEqual value.now low.now) (comparison Compare.LessEqual value.now high.now) }
 {
     and(
-        compared(Compare::MoreEqual, value, low),
-        compared(Compare::LessEqual, value, high),
+        compare(Compare::MoreEqual, value, low),
+        compare(Compare::LessEqual, value, high),
     )
 }
 
@@ -89,7 +97,7 @@ fn compared_truth(
 {
     let left = value(alloc, row, left)?;
     let right = value(alloc, row, right)?;
-    Ok(compared(how, left.get(), right.get()))
+    Ok(compare(how, left.get(), right.get()))
 }
 
 // The truth of IS NULL.

@@ -1,31 +1,21 @@
 // What is made of values.
-ghost use Rattle.std.specs.Prelude.{◌≡◌, ◌∷◌, [], IfOk, map, unwrap_or, option_copied};
-ghost use Rattle.lp_values.specs.declared.value.Value.TheVariants.{Null};
-ghost use Rattle.lp_functions.specs.Applied.{applied};
-ghost use Rattle.query_types.specs.Terms.{maker_of};
-ghost use Rattle.row_engine.specs.Rows.{branch_of, case_of, first_of, made_by, is_yes};
+ghost use Rattle.std.specs.Prelude.{◌≡◌, IfOk, map};
 ghost use Rattle.lp_values.specs.Comparing.{compared as comparison};
+ghost use Rattle.lp_functions.specs.Applied.{applied};
+ghost use Rattle.lp_functions.specs.Moments.{read_as};
+ghost use Rattle.lp_functions.specs.Texts.{written_as};
+ghost use Rattle.query_types.specs.Terms.{maker_of};
+ghost use Rattle.row_engine.specs.Rows.{branch_of, first_of, made_by, is_yes};
 ghost use Rattle.row_engine.specs.Seen.{seen_value};
 
 use crate::seen::Seen;
-use crate::values::compared;
-use lp_functions::{Function, apply, apply_to_one, apply_to_three, apply_to_two, read_as, write_as};
+use lp_functions::{
+    Function, apply, apply_to_one, apply_to_three, apply_to_two, read_as, write_as,
+};
 use lp_time::Pattern;
-use lp_values::{Compare, Truth, Value, ValueList};
+use lp_values::{Compare, Truth, Value, ValueList, compare};
 use query_types::Operation;
 use std::alloc::{AllocError, Global};
-
-// NULL, which `None` stands for.
-const NULL: Value = Value::Null;
-
-fn held<'b>(value: &'b Seen<'_>) -> &'b Value
-    ensures { result.now ≡ seen_value value.now }
-{
-    match value.get() {
-        None => &NULL,
-        Some(value) => value,
-    }
-}
 
 // The value of a function over more arguments.
 fn called_with_many(
@@ -37,7 +27,7 @@ fn called_with_many(
 {
     let mut values = ValueList::new(alloc);
     for part in parts {
-        values.push(held(part).copy(alloc)?)?;
+        values.push(part.get().copy(alloc)?)?;
     }
     apply(alloc, function, &values)
 }
@@ -47,9 +37,9 @@ fn called(alloc: Global, function: Function, parts: &[Seen<'_>]) -> Result<Value
     ensures { IfOk result (λ value. value ≡ applied function (map seen_value parts.now)) }
 {
     match parts {
-        [a] => apply_to_one(alloc, function, held(a)),
-        [a, b] => apply_to_two(alloc, function, held(a), held(b)),
-        [a, b, c] => apply_to_three(alloc, function, held(a), held(b), held(c)),
+        [a] => apply_to_one(alloc, function, a.get()),
+        [a, b] => apply_to_two(alloc, function, a.get(), b.get()),
+        [a, b, c] => apply_to_three(alloc, function, a.get(), b.get(), c.get()),
         _ => called_with_many(alloc, function, parts),
     }
 }
@@ -58,7 +48,7 @@ fn called(alloc: Global, function: Function, parts: &[Seen<'_>]) -> Result<Value
 fn is_equal(left: &Seen<'_>, right: &Seen<'_>) -> bool
     ensures { result ≡ is_yes (comparison Compare.Equal (seen_value left.now) (seen_value right.now)) }
 {
-    compared(Compare::Equal, left.get(), right.get()) == Truth::Yes
+    compare(Compare::Equal, left.get(), right.get()) == Truth::Yes
 }
 
 // What a CASE takes of what stands behind its subject.
@@ -78,7 +68,7 @@ fn branched<'a>(
     }
     match rest {
         [otherwise] => otherwise.again(alloc),
-        _ => Ok(Seen::Null),
+        _ => Ok(Seen::Made(Value::Null)),
     }
 }
 
@@ -88,7 +78,7 @@ fn written(alloc: Global, pattern: &Pattern, parts: &[Seen<'_>]) -> Result<Value
 {
     match parts {
         [] => Ok(Value::Null),
-        [stamp, ..] => write_as(alloc, pattern, held(stamp)),
+        [stamp, ..] => write_as(alloc, pattern, stamp.get()),
     }
 }
 
@@ -98,7 +88,7 @@ fn read(pattern: &Pattern, parts: &[Seen<'_>]) -> Value
 {
     match parts {
         [] => Value::Null,
-        [text, ..] => read_as(pattern, held(text)),
+        [text, ..] => read_as(pattern, text.get()),
     }
 }
 
@@ -113,7 +103,7 @@ pub(crate) fn made_by<'a>(
     match by {
         Operation::Call(function) => Ok(Seen::Made(called(alloc, *function, parts)?)),
         Operation::Case => match parts {
-            [] => Ok(Seen::Null),
+            [] => Ok(Seen::Made(Value::Null)),
             [subject, behind @ ..] => branched(alloc, subject, behind),
         },
         Operation::Write(pattern) => Ok(Seen::Made(written(alloc, pattern, parts)?)),

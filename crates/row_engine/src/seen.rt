@@ -9,30 +9,27 @@ use std::alloc::{AllocError, Global};
 /// A value in a row. What stands there isn't copied.
 #[derive(Drop)]
 pub enum Seen<'a> {
-    Null,
     There(&'a Value),
     Made(Value),
 }
 
 impl<'a> Seen<'a> {
-    /// The value that stands there; `None` stands for NULL.
+    /// The value that stands there, or NULL.
     pub fn of(value: Option<&'a Value>) -> Seen<'a>
-        ensures { seen_value result ≡ unwrap_or (option_copied value) Null }
+        ensures { seen_value result ≡ unwrap_or (option_copied value.entry) Null }
     {
         match value {
-            None => Seen::Null,
+            None => Seen::Made(Value::Null),
             Some(value) => Seen::There(value),
         }
     }
 
-    /// The value; `None` stands for NULL.
-    pub fn get(&self) -> Option<&Value>
-        ensures { unwrap_or (option_copied result) Null ≡ seen_value self.now }
+    pub fn get(&self) -> &Value
+        ensures { result.now ≡ seen_value self.now }
     {
         match self {
-            Seen::Null => None,
-            Seen::There(value) => Some(*value),
-            Seen::Made(value) => Some(value),
+            Seen::There(value) => *value,
+            Seen::Made(value) => value,
         }
     }
 
@@ -41,7 +38,6 @@ impl<'a> Seen<'a> {
         ensures { IfOk result (λ seen. seen_value seen ≡ seen_value self.now) }
     {
         match self {
-            Seen::Null => Ok(Seen::Null),
             Seen::There(value) => Ok(Seen::There(*value)),
             Seen::Made(value) => Ok(Seen::Made(value.copy(alloc)?)),
         }
@@ -52,7 +48,6 @@ impl<'a> Seen<'a> {
         ensures { IfOk result (λ value. value ≡ seen_value self) }
     {
         match self {
-            Seen::Null => Ok(Value::Null),
             Seen::There(value) => value.copy(alloc),
             Seen::Made(value) => Ok(value),
         }

@@ -1,28 +1,22 @@
 // The value of a meaning in a row.
-ghost use Rattle.std.specs.Prelude.{◌≡◌, unwrap_or, option_copied, IfOk, map};
-ghost use Rattle.lp_values.specs.declared.value.Value.TheVariants.{Null};
-ghost use Rattle.lp_values.specs.Comparing.{compared};
-ghost use Rattle.query_types.specs.Terms.{maker_of, term_of};
-ghost use Rattle.row_engine.specs.Rows.{made_by, value_in, is_null};
-ghost use Rattle.row_engine.specs.Seen.{seen_value, seen_in};
+ghost use Rattle.std.specs.Prelude.{◌≡◌, IfOk};
+ghost use Rattle.query_types.specs.Terms.{term_of};
+ghost use Rattle.row_engine.specs.Rows.{value_in};
+ghost use Rattle.row_engine.specs.Seen.{seen_value};
 
 use crate::making::made_by;
 use crate::seen::Seen;
-use lp_values::{Compare, Truth, Value, ValueList, compare};
+use lp_values::{Value, ValueList};
 use query_types::{Form, Meaning};
 use std::alloc::{AllocError, Global};
 
 // A form's value in a row: where it stands, or as it was made.
-fn form_value<'a>(
-    alloc: Global,
-    row: &'a ValueList,
-    form: &'a Form,
-) -> Result<Seen<'a>, AllocError>
+fn form_value<'a>(alloc: Global, row: &'a ValueList, form: &'a Form) -> Result<Seen<'a>, AllocError>
     ensures { IfOk result (λ seen. seen_value seen ≡ value_in row.now (term_of form.now)) }
 {
     match form {
         Form::Column(index) => Ok(Seen::of(row.get(*index))),
-        Form::Other => Ok(Seen::Null),
+        Form::Other => Ok(Seen::Made(Value::Null)),
         Form::Constant(value) => Ok(Seen::There(value)),
         Form::Made { kind: _, by, of } => {
             let mut parts = Vec::with_capacity(alloc, of.len())?;
@@ -50,24 +44,4 @@ pub fn copied(alloc: Global, row: &ValueList, meaning: &Meaning) -> Result<Value
     ensures { IfOk result (λ copy. copy ≡ value_in row.now meaning.now) }
 {
     value(alloc, row, meaning)?.into_value(alloc)
-}
-
-/// Compares two values, of which `None` stands for NULL.
-pub fn compared(how: Compare, left: Option<&Value>, right: Option<&Value>) -> Truth
-    ensures { result ≡ compared how (unwrap_or (option_copied left.entry) Null) (unwrap_or (option_copied right.entry) Null) }
-{
-    match (left, right) {
-        (Some(left), Some(right)) => compare(how, left, right),
-        _ => Truth::Unknown,
-    }
-}
-
-/// Whether a value is NULL, for which `None` stands too.
-pub fn is_null(value: Option<&Value>) -> bool
-    ensures { result ≡ is_null (unwrap_or (option_copied value.entry) Null) }
-{
-    match value {
-        None | Some(Value::Null) => true,
-        Some(_) => false,
-    }
 }
