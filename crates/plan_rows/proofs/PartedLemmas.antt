@@ -1,5 +1,5 @@
 -- The parting of a plan's columns.
-use Rattle.std.proofs.Common.{◌≡◌, ℕ, ◌+◌, ◌<◌, ◌≤◌, Bool, true, false, ◌||◌, List, length, get_or, Option, inl, inr, refl, sym, ◌∙◌, arith}
+use Rattle.std.proofs.Common.{◌≡◌, ℕ, ◌<◌, ◌≤◌, Bool, true, false, ◌||◌, List, length, get_or, Option, inl, inr, refl, arith}
 use Rattle.std.proofs.lemmas.Bool.{cases_Bool}
 use Rattle.query_types.specs.Terms.{Term}
 use Rattle.query_types.specs.Conditions.{Filter}
@@ -27,6 +27,7 @@ parted_all used at asked rest items condition all covers parted = record {
   where
     or_left : (a b : Bool) → a ≡ true → (a || b) ≡ true
     or_left a b is = rw is refl
+
     or_right : (a b : Bool) → b ≡ true → (a || b) ≡ true
     or_right true b is = refl
     or_right false b is = is

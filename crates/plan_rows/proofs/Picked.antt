@@ -1,5 +1,5 @@
 -- A plan of which the columns are read in two parts picks what it picks of the whole row.
-use Rattle.std.proofs.Common.{◌≡◌, ℕ, ◌+◌, ◌<◌, ◌≤◌, Bool, true, false, ◌||◌, List, length, get_or, Option, Some, None, inl, inr, sym, ◌∙◌, ap, arith}
+use Rattle.std.proofs.Common.{◌≡◌, ℕ, ◌+◌, ◌≤◌, Bool, true, false, List, length, get_or, Option, Some, None, inl, inr, sym, ◌∙◌, ap, arith}
 use Rattle.std.proofs.lemmas.Bool.{cases_Bool, cases_lt, or_cases}
 use Rattle.std.proofs.lemmas.List.{get_or_past}
 use Rattle.lp_values.specs.declared.value.Value.{Value}
@@ -26,23 +26,23 @@ agree_past values row k many size fits past = get_or_past values k Null (omega a
 asked_agree : (many : ℕ) (asked rest : List ℕ) (items : List Term) (condition : Option Filter) (row old values : List Value) → length row ≤ many → length old ≡ many → Parted many asked rest items condition → Put asked row old values
     → Agree values row (λ k. is_mentioned k condition)
 asked_agree many asked rest items condition row old values fits size parted put = λ k h. elim (cases_lt k many) [
-      | inl within ↦ put.put k (parted.mentioned k within h)
-      | inr past ↦ agree_past values row k many (put.size ∙ size) fits past
-    ]
+  | inl within ↦ put.put k (parted.mentioned k within h)
+  | inr past ↦ agree_past values row k many (put.size ∙ size) fits past
+]
 
 -- once the others are read too, SELECT takes of them what it takes of the whole row
 items_agree : (many : ℕ) (asked rest : List ℕ) (items : List Term) (condition : Option Filter) (row old values all : List Value) → length row ≤ many → length old ≡ many → Parted many asked rest items condition → Put asked row old values → Put rest row values all
     → Agree all row (λ k. any_has_column k items)
 items_agree many asked rest items condition row old values all fits size parted first second = λ k h. elim (cases_lt k many) [
-      | inr past ↦ agree_past all row k many (second.size ∙ (first.size ∙ size)) fits past
-      | inl within ↦ elim (cases_Bool (is_among k rest)) [
-          | inl waited ↦ second.put k waited
-          | inr here ↦ elim (or_cases (is_among k asked) (is_among k rest) (parted.item k within h)) [
-              | inl there ↦ second.kept k here ∙ first.put k there
-              | inr waited ↦ absurd cc
-            ]
-        ]
+  | inr past ↦ agree_past all row k many (second.size ∙ (first.size ∙ size)) fits past
+  | inl within ↦ elim (cases_Bool (is_among k rest)) [
+    | inl waited ↦ second.put k waited
+    | inr here ↦ elim (or_cases (is_among k asked) (is_among k rest) (parted.item k within h)) [
+      | inl there ↦ second.kept k here ∙ first.put k there
+      | inr waited ↦ absurd cc
     ]
+  ]
+]
 
 -- a record whose row isn't kept
 pub picks_none : (many : ℕ) (asked rest : List ℕ) (readings : List Reading) (items : List Term) (condition : Option Filter) (found : Found) (old values : List Value)

@@ -1,4 +1,4 @@
-use Rattle.std.proofs.Common.{◌≡◌, List, ℕ, map, take, drop, sym, ap, ◌∙◌}
+use Rattle.std.proofs.Common.{List, ℕ, take, drop, sym, ap, ◌∙◌}
 use Rattle.std.proofs.lemmas.List.{take-map, drop-map}
 use Rattle.std.specs.List.{position}
 use Rattle.slot_reading.specs.Names.{is_same_name}

@@ -1,4 +1,4 @@
-use Rattle.std.proofs.Common.{◌++◌, ◌∷◌, [], None, Some, cond, get_or, refl, sym, ap, ◌∙◌, length, option_map, map}
+use Rattle.std.proofs.Common.{◌++◌, ◌∷◌, [], None, Some, cond, get_or, refl, sym, ap, ◌∙◌, option_map, map}
 use Rattle.std.proofs.lemmas.List.{map-append}
 use Rattle.line_input.specs.Parts.{field_of}
 use Rattle.line_input.specs.Taken.{slot_bytes, slots_of}

@@ -1,4 +1,4 @@
-use Rattle.std.proofs.Common.{◌≡◌, ◌≤◌, ◌∷◌, ◌∙◌, ◌+◌, List, pos, take, length, sym, ap, subst, arith}
+use Rattle.std.proofs.Common.{◌≤◌, ◌∷◌, ◌+◌, List, pos, take, length, sym, subst, arith}
 use Rattle.line_input.specs.Taken.{slots_of}
 use Rattle.lp_values.specs.declared.value.Value.{Value}
 use Rattle.lp_values.specs.declared.value.Value.TheVariants as V

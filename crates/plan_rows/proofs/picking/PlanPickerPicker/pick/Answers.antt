@@ -1,4 +1,4 @@
-use Rattle.std.proofs.Common.{◌≡◌, ◌∙◌, sym, length, option_map}
+use Rattle.std.proofs.Common.{◌∙◌, sym, length, option_map}
 use Rattle.line_input.specs.Taken.{slots_of}
 use Rattle.log_reading.specs.Found.{Found}
 use Rattle.query_types.specs.Conditions.{filter_of}
