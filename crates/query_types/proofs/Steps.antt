@@ -1,10 +1,11 @@
 -- Steps along lists.
-use Rattle.std.proofs.Common.{◌≡◌, ℕ, ℤ, zero, suc, ◌+◌, ◌<◌, ◌≤◌, Bool, List, [], ◌∷◌, ◌++◌, length, take, drop, get_or, map, Option, Some, None, Ok, Err, refl, sym, ◌∙◌, ap, arith, add-one, append_assoc, length-append}
+use Rattle.std.proofs.Common.{◌≡◌, ℕ, zero, suc, ◌+◌, ◌<◌, ◌≤◌, Bool, List, [], ◌∷◌, ◌++◌, length, take, drop, get_or, map, Option, Some, None, Ok, Err, refl, sym, ◌∙◌, ap, arith, add-one, append_assoc, length-append}
 use Rattle.std.proofs.Math.Seq.{drop-cons, take-length}
 use Rattle.std.proofs.lemmas.List.{take-append-le, length-take-le, append-nil}
 use Rattle.grammar.specs.Trees.{Tree, Item}
 use Rattle.grammar.specs.Trees.{trees_of as listed}
 use Rattle.lp_values.specs.declared.kind.Kind.{Kind}
+use Rattle.lp_values.specs.declared.value.Value.{Value}
 use Rattle.query_tree.specs.Views.{tree_of, item_of}
 use Rattle.query_tree.specs.declared.expression.Expr.{Expr}
 use Rattle.query_tree.specs.declared.query.Item.{Item as Given}
@@ -47,23 +48,23 @@ used_step columns i front aliased items filter u here one =
     ∙ sym (append_assoc front (u ∷ []) (used_from (i + 1) (drop (i + 1) columns) aliased items filter))
 
 -- the values of an IN stop at one that has a fault
-pub fitting_stops : (table : TableColumns) (moment : ℤ) (aliases : List Alias) (kind : Kind) (front : List Term) (items : List Expr) (i : ℕ) (item : Expr) (fault : TypeFault)
+pub fitting_stops : (table : TableColumns) (moment : Value) (aliases : List Alias) (kind : Kind) (front : List Term) (items : List Expr) (i : ℕ) (item : Expr) (fault : TypeFault)
     → i < length items → item ≡ get_or items i item → fitting table moment aliases kind (tree_of item) ≡ Err fault
     → joined front (all_fitting table moment aliases kind (listed (map tree_of (drop i items)))) ≡ Err fault
 fitting_stops table moment aliases kind front items i item fault here is found =
     ap (λ rest. joined front (all_fitting table moment aliases kind (listed (map tree_of rest)))) (dropped items i item here is)
     ∙ ap (λ r. joined front (added r (all_fitting table moment aliases kind (listed (map tree_of (drop (i + 1) items)))))) found
 
-alias_length : (table : TableColumns) (moment : ℤ) (before : List Alias) (alias : Option (List ℕ)) (value : Tree) → length (with_alias table moment before alias value) ≡ length before + count_alias alias
+alias_length : (table : TableColumns) (moment : Value) (before : List Alias) (alias : Option (List ℕ)) (value : Tree) → length (with_alias table moment before alias value) ≡ length before + count_alias alias
 alias_length table moment before None value = omega arith
 alias_length table moment before (Some name) value = length-append before _
 
-alias_extends : (table : TableColumns) (moment : ℤ) (before : List Alias) (alias : Option (List ℕ)) (value : Tree) → (more : List Alias) × (with_alias table moment before alias value ≡ before ++ more)
+alias_extends : (table : TableColumns) (moment : Value) (before : List Alias) (alias : Option (List ℕ)) (value : Tree) → (more : List Alias) × (with_alias table moment before alias value ≡ before ++ more)
 alias_extends table moment before None value = ([], sym (append-nil before))
 alias_extends table moment before (Some name) value = (record { name = name; meaning = meant table moment before value } ∷ [], refl)
 
 -- further aliases stand behind
-extended : (table : TableColumns) (moment : ℤ) (before : List Alias) (items : List Item) → (more : List Alias) × (with_aliases table moment before items ≡ before ++ more)
+extended : (table : TableColumns) (moment : Value) (before : List Alias) (items : List Item) → (more : List Alias) × (with_aliases table moment before items ≡ before ++ more)
 extended table moment before [] = ([], sym (append-nil before))
 extended table moment before (item ∷ items) =
     let one = alias_extends table moment before item.alias item.value in
@@ -74,7 +75,7 @@ front_of : {A : Type 0} (xs ys : List A) → take (length xs) (xs ++ ys) ≡ xs
 front_of {A} xs ys = let fits : length xs ≤ length xs = omega arith in take-append-le (length xs) xs ys fits ∙ take-length xs
 
 -- the aliases that were there stand in front of all
-pub kept_front : (table : TableColumns) (moment : ℤ) (using all : List Alias) (items : List Item) → all ≡ with_aliases table moment using items
+pub kept_front : (table : TableColumns) (moment : Value) (using all : List Alias) (items : List Item) → all ≡ with_aliases table moment using items
     → (length using ≤ length all) × (take (length using) all ≡ using)
 kept_front table moment using all items is =
     let past = extended table moment using items in
@@ -83,15 +84,15 @@ kept_front table moment using all items is =
     (omega arith, ap (take (length using)) split ∙ front_of using past.0)
 
 -- what stands behind one item more
-pub record Steps (table : TableColumns) (moment : ℤ) (all : List Alias) (front : List Term) (b : ℕ) (items : List Given) (i : ℕ) (item : Given) (m : Term) : Type 0 where
+pub record Steps (table : TableColumns) (moment : Value) (all : List Alias) (front : List Term) (b : ℕ) (items : List Given) (i : ℕ) (item : Given) (m : Term) : Type 0 where
   pub fits : b + count_alias item.alias ≤ length all
   pub behind : all ≡ with_aliases table moment (take (b + count_alias item.alias) all) (map item_of (drop (i + 1) items))
   pub found : joined front (selected table moment (take b all) all (map item_of (drop i items)))
       ≡ joined (front ++ m ∷ []) (selected table moment (take (b + count_alias item.alias) all) all (map item_of (drop (i + 1) items)))
 
-pub selected_step : (table : TableColumns) (moment : ℤ) (all : List Alias) (front : List Term) (b : ℕ) (items : List Given) (i : ℕ) (item : Given) (m : Term)
+pub selected_step : (table : TableColumns) (moment : Value) (all : List Alias) (front : List Term) (b : ℕ) (items : List Given) (i : ℕ) (item : Given) (m : Term)
     → i < length items → item ≡ get_or items i item → b ≤ length all → all ≡ with_aliases table moment (take b all) (map item_of (drop i items))
-    → meant table (in_force item.alias (take b all) all) (tree_of item.value) ≡ Ok m → Steps table moment all front b items i item m
+    → meant table moment (in_force item.alias (take b all) all) (tree_of item.value) ≡ Ok m → Steps table moment all front b items i item m
 selected_step table moment all front b items i item m here is fits all_is m_is =
     let count = count_alias item.alias in
     let old = take b all in

@@ -1,7 +1,7 @@
 -- The columns that are told as used.
 use Rattle.std.proofs.Common.{◌≡◌, ℕ, zero, suc, ◌+◌, ◌<◌, Bool, true, false, ◌||◌, List, [], ◌∷◌, length, get_or, Option, refl, ◌∙◌, ap, subst, arith}
-use Rattle.query_types.specs.Terms.{Term}
-use Rattle.query_types.specs.Conditions.{Filter, any_has_column}
+use Rattle.query_types.specs.Terms.{Term, any_has_column}
+use Rattle.query_types.specs.Conditions.{Filter}
 use Rattle.query_types.specs.Planned.{Covers, is_mentioned, used_from}
 
 pub used_length : {A : Type 0} (at : ℕ) (columns : List A) (aliased items : List Term) (filter : Option Filter) → length (used_from at columns aliased items filter) ≡ length columns

@@ -5,6 +5,7 @@ use Rattle.grammar.specs.Trees.{Test as test}
 use Rattle.lp_values.specs.declared.comparison.Compare.{Compare}
 use Rattle.lp_values.specs.declared.comparison.Compare.TheVariants as how
 use Rattle.lp_values.specs.declared.kind.Kind.{Kind}
+use Rattle.lp_values.specs.declared.value.Value.{Value}
 use Rattle.lp_values.specs.declared.kind.Kind.TheVariants as K
 use Rattle.query_types.specs.declared.table.TableColumns.{TableColumns}
 use Rattle.query_types.specs.Terms.{Term, has_column, any_has_column}
@@ -47,16 +48,16 @@ compare_of (pos (suc (suc (suc (suc (suc n)))))) = how.MoreEqual
 compare_of (negsuc n) = how.MoreEqual
 
 -- a right side, whose kind has to fit the left one's
-abbrev pub fitting : TableColumns → ℤ → List Alias → Kind → Tree → Result Term TypeFault
+abbrev pub fitting : TableColumns → Value → List Alias → Kind → Tree → Result Term TypeFault
 fitting table moment aliases kind right = followed (meant table moment aliases right) (if_fits table.columns kind (place_of right))
 
 -- the values of an IN, each of a kind that fits
-abbrev pub all_fitting : TableColumns → ℤ → List Alias → Kind → Trees → Result (List Term) TypeFault
+abbrev pub all_fitting : TableColumns → Value → List Alias → Kind → Trees → Result (List Term) TypeFault
 all_fitting table moment aliases kind no_trees = Ok []
 all_fitting table moment aliases kind (more_trees item items) = added (fitting table moment aliases kind item) (all_fitting table moment aliases kind items)
 
 -- what a condition means where these aliases are in force, or its first fault from the left; subqueries aren't built yet
-abbrev pub filtered : TableColumns → ℤ → List Alias → Test → Result Filter TypeFault
+abbrev pub filtered : TableColumns → Value → List Alias → Test → Result Filter TypeFault
 filtered table moment aliases (test.Or at a b) = followed (filtered table moment aliases a) (λ x. followed (filtered table moment aliases b) (λ y. Ok (either x y)))
 filtered table moment aliases (test.And at a b) = followed (filtered table moment aliases a) (λ x. followed (filtered table moment aliases b) (λ y. Ok (both x y)))
 filtered table moment aliases (test.Not at a) = followed (filtered table moment aliases a) (λ x. Ok (opposite x))

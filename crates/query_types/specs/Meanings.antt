@@ -155,9 +155,9 @@ moment_as Date value = to_date value
 moment_as Time value = to_time value
 
 -- a call with arguments that mean this; aggregates aren't built yet
-abbrev pub call_means : List NamedKind → ℤ → ℕ → Callee → Trees → List Term → Result Term TypeFault
+abbrev pub call_means : List NamedKind → Value → ℕ → Callee → Trees → List Term → Result Term TypeFault
 call_means columns moment at (C.Function function) es terms = function_means columns at function es terms
-call_means columns moment at (C.Now part) es terms = Ok (constant (moment_as part (stamp_value Both moment)))
+call_means columns moment at (C.Now part) es terms = Ok (constant (moment_as part moment))
 call_means columns moment at C.Aggregate es terms = Err (F.UnknownFunction at)
 call_means columns moment at C.Unknown es terms = Err (F.UnknownFunction at)
 
@@ -231,8 +231,8 @@ abbrev pub case_ended : List NamedKind → Term → List Term → ℕ → Term �
 case_ended columns subject parts at last = followed (if_agrees columns (case_kind columns K.Any parts) at last) (λ x. Ok (case_means columns subject (parts ++ x ∷ [])))
 
 abbrev mutual
-  -- what an expression means in a run of this moment where these aliases are in force, or its first fault
-  pub meant : TableColumns → ℤ → List Alias → Tree → Result Term TypeFault
+  -- what an expression means at this moment of the run where these aliases are in force, or its first fault
+  pub meant : TableColumns → Value → List Alias → Tree → Result Term TypeFault
   meant table moment aliases (tree.Integer at value) = Ok (constant (V.Int value))
   meant table moment aliases (tree.Real at value) = Ok (constant (V.Real (record { millionths = value })))
   meant table moment aliases (tree.Text at value) = Ok (constant (V.Text value))
@@ -248,12 +248,12 @@ abbrev mutual
       followed (branches_meant table moment aliases (kind_meant table.columns x) K.Any branches) (λ parts.
       followed (else_meant table moment aliases (case_kind table.columns K.Any parts) otherwise) (λ last. Ok (case_means table.columns x (parts ++ last)))))
 
-  pub all_meant : TableColumns → ℤ → List Alias → Trees → Result (List Term) TypeFault
+  pub all_meant : TableColumns → Value → List Alias → Trees → Result (List Term) TypeFault
   all_meant table moment aliases no_trees = Ok []
   all_meant table moment aliases (more_trees e es) = added (meant table moment aliases e) (all_meant table moment aliases es)
 
   -- each WHEN, whose kind has to fit the subject's, and its THEN, whose kind has to agree with those before
-  pub branches_meant : TableColumns → ℤ → List Alias → Kind → Kind → Whens → Result (List Term) TypeFault
+  pub branches_meant : TableColumns → Value → List Alias → Kind → Kind → Whens → Result (List Term) TypeFault
   branches_meant table moment aliases subject kind no_whens = Ok []
   branches_meant table moment aliases subject kind (more_whens test value branches) =
       followed (followed (meant table moment aliases test) (if_fits table.columns subject (place_of test))) (λ x.
@@ -261,6 +261,6 @@ abbrev mutual
       branch_added x y (branches_meant table moment aliases subject (sharper kind (kind_meant table.columns y)) branches)))
 
   -- ELSE, where it stands, whose kind has to agree with those before
-  pub else_meant : TableColumns → ℤ → List Alias → Kind → Otherwise → Result (List Term) TypeFault
+  pub else_meant : TableColumns → Value → List Alias → Kind → Otherwise → Result (List Term) TypeFault
   else_meant table moment aliases kind no_else = Ok []
   else_meant table moment aliases kind (an_else value) = followed (followed (meant table moment aliases value) (if_agrees table.columns kind (place_of value))) (λ x. Ok (x ∷ []))

@@ -3,6 +3,9 @@ use Rattle.std.specs.Prelude.{◌≡◌, ℕ, ℤ, ◌+◌, ◌<◌, Bool, true,
 use Rattle.grammar.specs.Trees.{Tree, Test, Item, Parts, Placed, Query}
 use Rattle.grammar.specs.Trees.{Query as query}
 use Rattle.lp_values.specs.declared.kind.Kind.{Kind}
+use Rattle.lp_values.specs.declared.part.Part.TheVariants.{Both}
+use Rattle.lp_values.specs.declared.value.Value.{Value}
+use Rattle.slot_reading.specs.Stamps.{stamp_value}
 use Rattle.query_types.specs.declared.table.TableColumns.{TableColumns}
 use Rattle.query_types.specs.Terms.{Term, column, any_has_column}
 use Rattle.query_types.specs.declared.fault.TypeFault.{TypeFault}
@@ -14,12 +17,12 @@ use Rattle.query_types.specs.Conditions.{Filter, filter_of, filtered, mentions}
 use Rattle.query_types.specs.Names.{item_name}
 
 -- these aliases, and behind them that of an item, which may use those before it
-abbrev pub with_alias : TableColumns → ℤ → List Alias → Option (List ℕ) → Tree → List Alias
+abbrev pub with_alias : TableColumns → Value → List Alias → Option (List ℕ) → Tree → List Alias
 with_alias table moment aliases None value = aliases
 with_alias table moment aliases (Some name) value = aliases ++ record { name = name; meaning = meant table moment aliases value } ∷ []
 
 -- these aliases, and behind them those of items, each of which may use those before it
-abbrev pub with_aliases : TableColumns → ℤ → List Alias → List Item → List Alias
+abbrev pub with_aliases : TableColumns → Value → List Alias → List Item → List Alias
 with_aliases table moment aliases [] = aliases
 with_aliases table moment aliases (item ∷ items) = with_aliases table moment (with_alias table moment aliases item.alias item.value) items
 
@@ -34,7 +37,7 @@ in_force None before all = all
 in_force (Some name) before all = before
 
 -- what the items mean, behind these aliases, of all those; or the first fault
-abbrev pub selected : TableColumns → ℤ → List Alias → List Alias → List Item → Result (List Term) TypeFault
+abbrev pub selected : TableColumns → Value → List Alias → List Alias → List Item → Result (List Term) TypeFault
 selected table moment before all [] = Ok []
 selected table moment before all (item ∷ items) = added (meant table moment (in_force item.alias before all) item.value)
     (selected table moment (with_alias table moment before item.alias item.value) all items)
@@ -49,7 +52,7 @@ columns_from at [] = []
 columns_from at (c ∷ cs) = column at ∷ columns_from (at + 1) cs
 
 -- what is selected: the items, or under `*` each column
-abbrev pub list_meant : TableColumns → ℤ → List Alias → List Alias → Option ℕ → List Item → Result (List Term) TypeFault
+abbrev pub list_meant : TableColumns → Value → List Alias → List Alias → Option ℕ → List Item → Result (List Term) TypeFault
 list_meant table moment before all (Some star) items = Ok (columns_from 0 table.columns)
 list_meant table moment before all None items = selected table moment before all items
 
@@ -58,7 +61,7 @@ list_names table all (Some star) items = map (λ c. c.name) table.columns
 list_names table all None items = names_of table all items
 
 -- WHERE, where it stands
-abbrev pub where_meant : TableColumns → ℤ → List Alias → Option Test → Result (Option Filter) TypeFault
+abbrev pub where_meant : TableColumns → Value → List Alias → Option Test → Result (Option Filter) TypeFault
 where_meant table moment aliases None = Ok None
 where_meant table moment aliases (Some condition) = followed (filtered table moment aliases condition) (λ filter. Ok (Some filter))
 
@@ -108,18 +111,18 @@ plan_with table all parts aliased items filter = record {
 }
 
 -- SELECT, WHERE and INTO in this order: the first fault, or the plan
-abbrev pub plan_behind : TableColumns → ℤ → List Alias → List Alias → Parts → List Term → Result Planned TypeFault
+abbrev pub plan_behind : TableColumns → Value → List Alias → List Alias → Parts → List Term → Result Planned TypeFault
 plan_behind table moment using all parts aliased =
     followed (list_meant table moment using all parts.star parts.items) (λ items.
     followed (where_meant table moment all parts.condition) (λ filter.
     if has_too_few (length items) parts.into then Err (F.TooFewColumns (place_in parts.into)) else Ok (plan_with table all parts aliased items filter)))
 
 -- the same behind USING, with the aliases of USING and of SELECT
-abbrev pub plan_of_parts : TableColumns → ℤ → Parts → Result Planned TypeFault
+abbrev pub plan_of_parts : TableColumns → Value → Parts → Result Planned TypeFault
 plan_of_parts table moment parts =
     let using = with_aliases table moment [] parts.aliases in
     followed (selected table moment [] using parts.aliases) (plan_behind table moment using (with_aliases table moment using parts.items) parts)
 
 -- the plan of a query in a run of this moment, or its first fault
 abbrev pub plan_of : TableColumns → ℤ → Query → Result Planned TypeFault
-plan_of table moment (query.query parts subqueries) = plan_of_parts table moment parts
+plan_of table moment (query.query parts subqueries) = plan_of_parts table (stamp_value Both moment) parts

@@ -37,7 +37,10 @@ fn are_plain_branches(branches: &WhenList) -> bool
     ensures { result ≡ are_plain_branches (branched (whens_of branches.now)) }
 {
     for branch in &branches.items {
-        if !is_plain(&branch.test) || !is_plain(&branch.value) {
+        if !is_plain(&branch.test) {
+            return false;
+        }
+        if !is_plain(&branch.value) {
             return false;
         }
     }
@@ -60,7 +63,12 @@ fn is_plain(expr: &Expr) -> bool
             at: _,
             name,
             arguments,
-        } => !is_grouping(name, arguments) && are_plain(arguments),
+        } => {
+            if is_grouping(name, arguments) {
+                return false;
+            }
+            are_plain(arguments)
+        }
         Expr::CountAll { .. } => false,
         Expr::PropCountAll { .. } => false,
         Expr::Case {
@@ -68,10 +76,18 @@ fn is_plain(expr: &Expr) -> bool
             subject,
             branches,
             otherwise,
-        } => match otherwise {
-            None => is_plain(subject) && are_plain_branches(branches),
-            Some(value) => { is_plain(subject) && are_plain_branches(branches) && is_plain(value) }
-        },
+        } => {
+            if !is_plain(subject) {
+                return false;
+            }
+            if !are_plain_branches(branches) {
+                return false;
+            }
+            match otherwise {
+                None => true,
+                Some(value) => is_plain(value),
+            }
+        }
     }
 }
 

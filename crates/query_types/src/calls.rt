@@ -8,11 +8,11 @@ ghost use Rattle.query_types.specs.Meanings.{Answers, call_means, function_means
 use crate::callee::Callee;
 use crate::form::{Form, Operation, made};
 use crate::kinds::kinds_of_forms;
-use crate::stamps::{now_as, pattern_of};
+use crate::stamps::{moment_as, pattern_of};
 use crate::{Meaning, TableColumns, TypeFault};
 use lp_functions::Function;
 use lp_time::Pattern;
-use lp_values::Kind;
+use lp_values::{Kind, Value};
 use query_tree::{Expr, ExprList};
 use std::alloc::{AllocError, Global};
 use std::rc::Rc;
@@ -108,19 +108,19 @@ fn function_means(
 pub(crate) fn call_means(
     alloc: Global,
     table: &TableColumns,
-    moment: i64,
+    moment: &Value,
     at: u32,
     callee: Callee,
     arguments: &ExprList,
     forms: Vec<Form>,
 ) -> Result<Meaning, TypeFault>
-    ensures { Answers (λ meaning. meaning) result (call_means table.now.columns moment at callee (listed (trees_of arguments.now)) (map term_of forms.items)) }
+    ensures { Answers (λ meaning. meaning) result (call_means table.now.columns moment.now at callee (listed (trees_of arguments.now)) (map term_of forms.items)) }
 {
     match callee {
         Callee::Function(function) => {
             function_means(alloc, table, at, function, arguments, forms)
         }
-        Callee::Now(part) => Ok(Meaning::constant(now_as(part, moment))),
+        Callee::Now(part) => Ok(Meaning::constant(moment_as(alloc, part, moment)?)),
         Callee::Aggregate | Callee::Unknown => Err(TypeFault::UnknownFunction { at }),
     }
 }

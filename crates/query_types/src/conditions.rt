@@ -11,7 +11,7 @@ use crate::alias::Alias;
 use crate::expressions::meant;
 use crate::fitting::if_fits;
 use crate::{Condition, Meaning, MeaningList, TableColumns, TypeFault};
-use lp_values::{Compare, Kind};
+use lp_values::{Compare, Kind, Value};
 use query_tree::{Cond, Expr, ExprList, Placed};
 use std::alloc::{AllocError, Global};
 
@@ -19,12 +19,12 @@ use std::alloc::{AllocError, Global};
 fn fitting(
     alloc: Global,
     table: &TableColumns,
-    moment: i64,
+    moment: &Value,
     aliases: &[Alias],
     kind: Kind,
     right: &Expr,
 ) -> Result<Meaning, TypeFault>
-    ensures { Answers (λ meaning. meaning) result (fitting table.now moment aliases.now kind (tree_of right.now)) }
+    ensures { Answers (λ meaning. meaning) result (fitting table.now moment.now aliases.now kind (tree_of right.now)) }
 {
     let meaning = meant(alloc, table, moment, aliases, right)?;
     if_fits(table, kind, right.place(), meaning)
@@ -34,12 +34,12 @@ fn fitting(
 fn all_fitting(
     alloc: Global,
     table: &TableColumns,
-    moment: i64,
+    moment: &Value,
     aliases: &[Alias],
     kind: Kind,
     items: &ExprList,
 ) -> Result<MeaningList, TypeFault>
-    ensures { Answers (λ meanings. meanings) result (all_fitting table.now moment aliases.now kind (listed (trees_of items.now))) }
+    ensures { Answers (λ meanings. meanings) result (all_fitting table.now moment.now aliases.now kind (listed (trees_of items.now))) }
 {
     let mut meanings = MeaningList::new(alloc);
     for item in &items.items {
@@ -54,13 +54,13 @@ fn all_fitting(
 fn compared(
     alloc: Global,
     table: &TableColumns,
-    moment: i64,
+    moment: &Value,
     aliases: &[Alias],
     how: Compare,
     left: &Expr,
     right: &Expr,
 ) -> Result<Box<Condition>, TypeFault>
-    ensures { Answers boxed_filter result (filtered table.now moment aliases.now (test.Compare 0 (number_of how) (tree_of left.now) (tree_of right.now))) }
+    ensures { Answers boxed_filter result (filtered table.now moment.now aliases.now (test.Compare 0 (number_of how) (tree_of left.now) (tree_of right.now))) }
 {
     let left = meant(alloc, table, moment, aliases, left)?;
     let right = fitting(alloc, table, moment, aliases, left.kind(table), right)?;
@@ -72,12 +72,12 @@ fn compared(
 fn null(
     alloc: Global,
     table: &TableColumns,
-    moment: i64,
+    moment: &Value,
     aliases: &[Alias],
     value: &Expr,
     negated: bool,
 ) -> Result<Box<Condition>, TypeFault>
-    ensures { Answers boxed_filter result (filtered table.now moment aliases.now (test.IsNull 0 (tree_of value.now) negated)) }
+    ensures { Answers boxed_filter result (filtered table.now moment.now aliases.now (test.IsNull 0 (tree_of value.now) negated)) }
 {
     let value = meant(alloc, table, moment, aliases, value)?;
     Ok(Box::new(alloc, Condition::IsNull { value, negated })?)
@@ -88,13 +88,13 @@ fn null(
 fn like(
     alloc: Global,
     table: &TableColumns,
-    moment: i64,
+    moment: &Value,
     aliases: &[Alias],
     value: &Expr,
     pattern: &Placed,
     negated: bool,
 ) -> Result<Box<Condition>, TypeFault>
-    ensures { Answers boxed_filter result (filtered table.now moment aliases.now (test.Like 0 (tree_of value.now) (placed_of pattern.now) negated)) }
+    ensures { Answers boxed_filter result (filtered table.now moment.now aliases.now (test.Like 0 (tree_of value.now) (placed_of pattern.now) negated)) }
 {
     let value = fitting(alloc, table, moment, aliases, Kind::Text, value)?;
     let pattern = pattern.text.copy(alloc)?;
@@ -111,14 +111,14 @@ fn like(
 fn between(
     alloc: Global,
     table: &TableColumns,
-    moment: i64,
+    moment: &Value,
     aliases: &[Alias],
     value: &Expr,
     low: &Expr,
     high: &Expr,
     negated: bool,
 ) -> Result<Box<Condition>, TypeFault>
-    ensures { Answers boxed_filter result (filtered table.now moment aliases.now (test.Between 0 (tree_of value.now) (tree_of low.now) (tree_of high.now) negated)) }
+    ensures { Answers boxed_filter result (filtered table.now moment.now aliases.now (test.Between 0 (tree_of value.now) (tree_of low.now) (tree_of high.now) negated)) }
 {
     let value = meant(alloc, table, moment, aliases, value)?;
     let kind = value.kind(table);
@@ -138,13 +138,13 @@ fn between(
 fn within(
     alloc: Global,
     table: &TableColumns,
-    moment: i64,
+    moment: &Value,
     aliases: &[Alias],
     value: &Expr,
     items: &ExprList,
     negated: bool,
 ) -> Result<Box<Condition>, TypeFault>
-    ensures { Answers boxed_filter result (filtered table.now moment aliases.now (test.InList 0 (tree_of value.now) (listed (trees_of items.now)) negated)) }
+    ensures { Answers boxed_filter result (filtered table.now moment.now aliases.now (test.InList 0 (tree_of value.now) (listed (trees_of items.now)) negated)) }
 {
     let value = meant(alloc, table, moment, aliases, value)?;
     let items = all_fitting(alloc, table, moment, aliases, value.kind(table), items)?;
@@ -192,11 +192,11 @@ fn not(alloc: Global, inner: Box<Condition>) -> Result<Box<Condition>, AllocErro
 fn boxed(
     alloc: Global,
     table: &TableColumns,
-    moment: i64,
+    moment: &Value,
     aliases: &[Alias],
     test: &Cond,
 ) -> Result<Box<Condition>, TypeFault>
-    ensures { Answers boxed_filter result (filtered table.now moment aliases.now (test_of test.now)) }
+    ensures { Answers boxed_filter result (filtered table.now moment.now aliases.now (test_of test.now)) }
 {
     match test {
         Cond::Or { at: _, left, right } => {
@@ -251,11 +251,11 @@ fn boxed(
 pub fn filtered(
     alloc: Global,
     table: &TableColumns,
-    moment: i64,
+    moment: &Value,
     aliases: &[Alias],
     test: &Cond,
 ) -> Result<Condition, TypeFault>
-    ensures { Answers filter_of result (filtered table.now moment aliases.now (test_of test.now)) }
+    ensures { Answers filter_of result (filtered table.now moment.now aliases.now (test_of test.now)) }
 {
     let condition = boxed(alloc, table, moment, aliases, test)?;
     Ok(Box::into_inner(condition))

@@ -52,9 +52,8 @@ fn case_means(
     let kind = case_kind(table, parts.as_slice());
     let mut all = Vec::new(alloc);
     all.push(subject.into_form())?;
-    for part in parts {
-        all.push(part)?;
-    }
+    let mut parts = parts;
+    all.append(&mut parts)?;
     Ok(Meaning::new(made(kind, Operation::Case, all)))
 }
 
@@ -81,13 +80,13 @@ fn case_ended(
 fn call_meant(
     alloc: Global,
     table: &TableColumns,
-    moment: i64,
+    moment: &Value,
     aliases: &[Alias],
     at: u32,
     name: &Text,
     arguments: &ExprList,
 ) -> Result<Meaning, TypeFault>
-    ensures { Answers (λ meaning. meaning) result (meant table.now moment aliases.now (tree.Call at name.now (listed (trees_of arguments.now)))) }
+    ensures { Answers (λ meaning. meaning) result (meant table.now moment.now aliases.now (tree.Call at name.now (listed (trees_of arguments.now)))) }
 {
     let callee = known(at, arguments.len(), Callee::of(name.as_str()))?;
     let mut forms = Vec::new(alloc);
@@ -103,12 +102,12 @@ fn call_meant(
 fn branches_meant(
     alloc: Global,
     table: &TableColumns,
-    moment: i64,
+    moment: &Value,
     aliases: &[Alias],
     subject: Kind,
     branches: &WhenList,
 ) -> Result<Vec<Form>, TypeFault>
-    ensures { Answers (λ forms. map term_of forms.items) result (branches_meant table.now moment aliases.now subject Any (branched (whens_of branches.now))) }
+    ensures { Answers (λ forms. map term_of forms.items) result (branches_meant table.now moment.now aliases.now subject Any (branched (whens_of branches.now))) }
 {
     let mut kind = Kind::Any;
     let mut parts = Vec::new(alloc);
@@ -129,11 +128,11 @@ fn branches_meant(
 pub fn meant(
     alloc: Global,
     table: &TableColumns,
-    moment: i64,
+    moment: &Value,
     aliases: &[Alias],
     expr: &Expr,
 ) -> Result<Meaning, TypeFault>
-    ensures { Answers (λ meaning. meaning) result (meant table.now moment aliases.now (tree_of expr.now)) }
+    ensures { Answers (λ meaning. meaning) result (meant table.now moment.now aliases.now (tree_of expr.now)) }
 {
     match expr {
         Expr::Integer { at: _, value } => Ok(Meaning::constant(Value::Int(*value))),

@@ -12,9 +12,10 @@ use crate::alias::{Alias, AliasList};
 use crate::conditions::filtered;
 use crate::naming::{column_names, item_names};
 use crate::selecting::{add_aliases, every_column, selected};
+use crate::stamps::moment_value;
 use crate::using_columns::used_columns;
 use crate::{Condition, KindList, MeaningList, Plan, TableColumns, TypeFault};
-use lp_values::TextList;
+use lp_values::{TextList, Value};
 use query_tree::{Cond, Placed, Query};
 use std::alloc::{AllocError, Global};
 
@@ -22,11 +23,11 @@ use std::alloc::{AllocError, Global};
 fn where_meant(
     alloc: Global,
     table: &TableColumns,
-    moment: i64,
+    moment: &Value,
     aliases: &[Alias],
     condition: &Option<Cond>,
 ) -> Result<Option<Condition>, TypeFault>
-    ensures { Answers (λ found. option_map filter_of found) result (where_meant table.now moment aliases.now (option_map test_of condition.now)) }
+    ensures { Answers (λ found. option_map filter_of found) result (where_meant table.now moment.now aliases.now (option_map test_of condition.now)) }
 {
     match condition {
         None => Ok(None),
@@ -70,14 +71,14 @@ fn kinds_of(
 fn list_meant(
     alloc: Global,
     table: &TableColumns,
-    moment: i64,
+    moment: &Value,
     before: usize,
     all: &[Alias],
     query: &Query,
 ) -> Result<MeaningList, TypeFault>
     requires before { before ≤ length all.now }
-    requires all { all.now ≡ with_aliases table.now moment (take before all.now) (parts_of query.now).items }
-    ensures { Answers (λ items. items) result (list_meant table.now moment (take before all.now) all.now (parts_of query.now).star (parts_of query.now).items) }
+    requires all { all.now ≡ with_aliases table.now moment.now (take before all.now) (parts_of query.now).items }
+    ensures { Answers (λ items. items) result (list_meant table.now moment.now (take before all.now) all.now (parts_of query.now).star (parts_of query.now).items) }
 {
     match query.star {
         Some(_) => Ok(every_column(alloc, table)?),
@@ -133,14 +134,14 @@ fn plan_behind(
     alloc: Global,
     query: &Query,
     table: &TableColumns,
-    moment: i64,
+    moment: &Value,
     aliased: &MeaningList,
     before: usize,
     all: &[Alias],
 ) -> Result<Plan, TypeFault>
     requires before { before ≤ length all.now }
-    requires all { all.now ≡ with_aliases table.now moment (take before all.now) (parts_of query.now).items }
-    ensures plan { Answers planned_in result (plan_behind table.now moment (take before all.now) all.now (parts_of query.now) aliased.now) }
+    requires all { all.now ≡ with_aliases table.now moment.now (take before all.now) (parts_of query.now).items }
+    ensures plan { Answers planned_in result (plan_behind table.now moment.now (take before all.now) all.now (parts_of query.now) aliased.now) }
     ensures size { IfOk result (λ plan. length plan.used ≡ length table.now.columns) }
     ensures covers { IfOk result (λ plan. Covers plan.used plan.items (option_map filter_of plan.condition)) }
 {
@@ -168,16 +169,17 @@ pub fn plan(
     ensures size { IfOk result (λ plan. length plan.used ≡ length table.now.columns) }
     ensures covers { IfOk result (λ plan. Covers plan.used plan.items (option_map filter_of plan.condition)) }
 {
+    let now = moment_value(moment);
     let mut aliases = AliasList::new(alloc);
-    add_aliases(alloc, table, moment, &mut aliases, &query.aliases)?;
+    add_aliases(alloc, table, &now, &mut aliases, &query.aliases)?;
     let before = aliases.len();
-    let aliased = selected(alloc, table, moment, 0, aliases.as_slice(), &query.aliases)?;
-    add_aliases(alloc, table, moment, &mut aliases, &query.items)?;
+    let aliased = selected(alloc, table, &now, 0, aliases.as_slice(), &query.aliases)?;
+    add_aliases(alloc, table, &now, &mut aliases, &query.items)?;
     plan_behind(
         alloc,
         query,
         table,
-        moment,
+        &now,
         &aliased,
         before,
         aliases.as_slice(),

@@ -7,7 +7,7 @@ ghost use Rattle.query_types.specs.Planned.{with_alias, with_aliases, in_force, 
 use crate::alias::{Alias, AliasList};
 use crate::expressions::meant;
 use crate::{Meaning, MeaningList, TableColumns, TypeFault};
-use lp_values::Text;
+use lp_values::{Text, Value};
 use query_tree::{Expr, Item, ItemList};
 use std::alloc::{AllocError, Global};
 
@@ -15,13 +15,13 @@ use std::alloc::{AllocError, Global};
 fn alias_of(
     alloc: Global,
     table: &TableColumns,
-    moment: i64,
+    moment: &Value,
     aliases: &[Alias],
     name: &Text,
     value: &Expr,
 ) -> Result<Alias, AllocError>
     ensures name { IfOk result (λ alias. alias.name ≡ name.now) }
-    ensures meaning { IfOk result (λ alias. alias.meaning ≡ meant table.now moment aliases.now (tree_of value.now)) }
+    ensures meaning { IfOk result (λ alias. alias.meaning ≡ meant table.now moment.now aliases.now (tree_of value.now)) }
 {
     let name = name.copy(alloc)?;
     match meant(alloc, table, moment, aliases, value) {
@@ -34,11 +34,11 @@ fn alias_of(
 fn add_alias(
     alloc: Global,
     table: &TableColumns,
-    moment: i64,
+    moment: &Value,
     aliases: &mut AliasList,
     item: &Item,
 ) -> Result<(), AllocError>
-    ensures { OnOk result (aliases.new ≡ with_alias table.now moment aliases.old item.now.alias (tree_of item.now.value)) }
+    ensures { OnOk result (aliases.new ≡ with_alias table.now moment.now aliases.old item.now.alias (tree_of item.now.value)) }
 {
     match &item.alias {
         None => Ok(()),
@@ -53,11 +53,11 @@ fn add_alias(
 pub fn add_aliases(
     alloc: Global,
     table: &TableColumns,
-    moment: i64,
+    moment: &Value,
     aliases: &mut AliasList,
     items: &ItemList,
 ) -> Result<(), AllocError>
-    ensures { OnOk result (aliases.new ≡ with_aliases table.now moment aliases.old (items_of items.now)) }
+    ensures { OnOk result (aliases.new ≡ with_aliases table.now moment.now aliases.old (items_of items.now)) }
 {
     for item in &items.items {
         add_alias(alloc, table, moment, aliases, item)?;
@@ -91,14 +91,14 @@ fn behind(item: &Item, before: usize) -> usize
 pub fn selected(
     alloc: Global,
     table: &TableColumns,
-    moment: i64,
+    moment: &Value,
     before: usize,
     all: &[Alias],
     items: &ItemList,
 ) -> Result<MeaningList, TypeFault>
     requires before { before ≤ length all.now }
-    requires all { all.now ≡ with_aliases table.now moment (take before all.now) (items_of items.now) }
-    ensures { Answers (λ meanings. meanings) result (selected table.now moment (take before all.now) all.now (items_of items.now)) }
+    requires all { all.now ≡ with_aliases table.now moment.now (take before all.now) (items_of items.now) }
+    ensures { Answers (λ meanings. meanings) result (selected table.now moment.now (take before all.now) all.now (items_of items.now)) }
 {
     let mut meanings = MeaningList::new(alloc);
     let mut before = before;

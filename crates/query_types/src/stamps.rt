@@ -1,5 +1,5 @@
 // Stamps that a query names.
-ghost use Rattle.std.specs.Prelude.{◌≡◌, Some};
+ghost use Rattle.std.specs.Prelude.{◌≡◌, Some, IfOk};
 ghost use Rattle.query_tree.specs.Views.{placed_of};
 ghost use Rattle.lp_time.specs.Readings.{part_of, seconds_in};
 ghost use Rattle.slot_reading.specs.Stamps.{stamp_value};
@@ -11,6 +11,7 @@ use lp_functions::{to_date, to_time};
 use lp_time::{Pattern, read_stamp};
 use lp_values::{Part, Stamp, Text, Value};
 use query_tree::Placed;
+use std::alloc::{AllocError, Global};
 
 /// A text as a pattern, which is to stand at this place.
 pub(crate) fn pattern_of(at: u32, text: &Text) -> Result<Pattern, TypeFault>
@@ -40,8 +41,8 @@ pub(crate) fn stamp_means(value: &Placed, pattern: &Placed) -> Result<Meaning, T
     stamp_read(value, &pieces)
 }
 
-// The moment of a run, NULL outside the years of stamps.
-fn moment_value(moment: i64) -> Value
+/// The moment of a run as a stamp; NULL outside the years of stamps.
+pub(crate) fn moment_value(moment: i64) -> Value
     ensures { result ≡ stamp_value Both moment }
 {
     match Stamp::new(moment, Part::Both) {
@@ -51,13 +52,12 @@ fn moment_value(moment: i64) -> Value
 }
 
 /// The moment of a run, its day or its time of day.
-pub(crate) fn now_as(part: Part, moment: i64) -> Value
-    ensures { result ≡ moment_as part (stamp_value Both moment) }
+pub(crate) fn moment_as(alloc: Global, part: Part, moment: &Value) -> Result<Value, AllocError>
+    ensures { IfOk result (λ value. value ≡ moment_as part moment.now) }
 {
-    let now = moment_value(moment);
     match part {
-        Part::Both => now,
-        Part::Date => to_date(&now),
-        Part::Time => to_time(&now),
+        Part::Both => moment.copy(alloc),
+        Part::Date => Ok(to_date(moment)),
+        Part::Time => Ok(to_time(moment)),
     }
 }

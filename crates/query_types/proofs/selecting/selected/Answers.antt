@@ -9,7 +9,7 @@ use Rattle.query_types.proofs.selecting.selected.Goals as goal
 pub loop-item-preserved : goal.loop-item-preserved
 loop-item-preserved c =
     let table = c.args.table.now in
-    let moment = c.args.moment in
+    let moment = c.args.moment.now in
     let all = c.args.all.now in
     let items = c.deref-item-items.result.now in
     let i = c.loop-item.item-index in
