@@ -1,5 +1,5 @@
 -- The arguments of a call, as expressions and as trees.
-use Rattle.std.proofs.Common.{◌≡◌, ℕ, zero, suc, ◌==◌, Bool, true, false, List, [], ◌∷◌, length, map, Option, Some, None, option_map, refl, ap}
+use Rattle.std.proofs.Common.{◌≡◌, ℕ, zero, suc, false, List, [], ◌∷◌, length, map, Option, Some, None, option_map, refl, ap, arith}
 use Rattle.std.specs.List.{slice_get}
 use Rattle.grammar.specs.Trees.{Trees}
 use Rattle.grammar.specs.Trees.{trees_of as listed}
@@ -18,12 +18,12 @@ tree_given k [] = refl
 tree_given zero (e ∷ es) = refl
 tree_given (suc k) (e ∷ es) = tree_given k es
 
-pub grouping_one : (name : List ℕ) (es : List Expr) → (length es == 1) ≡ true → is_aggregate name ≡ is_grouping name (listed (map tree_of es))
-grouping_one name [] is = absurd cc
+pub grouping_one : (name : List ℕ) (es : List Expr) → length es ≡ 1 → is_aggregate name ≡ is_grouping name (listed (map tree_of es))
+grouping_one name [] is = absurd (omega arith)
 grouping_one name (e ∷ []) is = refl
-grouping_one name (e ∷ d ∷ es) is = absurd cc
+grouping_one name (e ∷ d ∷ es) is = absurd (omega arith)
 
-pub grouping_other : (name : List ℕ) (es : List Expr) → (length es == 1) ≡ false → false ≡ is_grouping name (listed (map tree_of es))
+pub grouping_other : (name : List ℕ) (es : List Expr) → (length es ≡ 1 → ⊥) → false ≡ is_grouping name (listed (map tree_of es))
 grouping_other name [] is = refl
-grouping_other name (e ∷ []) is = absurd cc
+grouping_other name (e ∷ []) is = absurd (is refl)
 grouping_other name (e ∷ d ∷ es) is = refl

@@ -39,14 +39,6 @@ case_tree at subject branches (Some value) = search (rules, the_lemmas, whens_li
 pub called_tree : (at : ℕ) (name : List ℕ) (arguments : ExprList) → tree_of (shown.Call at name arguments) ≡ tree.Call at name (listed (trees_of arguments))
 called_tree at name arguments = call_tree at name arguments
 
-pub off : (b : Bool) → not b ≡ true → b ≡ false
-off true is = absurd cc
-off false is = refl
-
-pub on : (b : Bool) → not b ≡ false → b ≡ true
-on true is = refl
-on false is = absurd cc
-
 plain_call : (at : ℕ) (name : List ℕ) (arguments : ExprList) → is_plain (tree_of (shown.Call at name arguments)) ≡ (not (is_grouping name (listed (trees_of arguments))) && are_plain (listed (trees_of arguments)))
 plain_call at name arguments = ap is_plain (call_tree at name arguments)
 

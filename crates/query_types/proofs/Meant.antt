@@ -1,24 +1,31 @@
 -- What expressions mean, one part at a time.
-use Rattle.std.proofs.Common.{◌≡◌, ℕ, ◌<◌, ◌+◌, List, [], ◌∷◌, ◌++◌, length, drop, get_or, map, Result, Ok, Err, refl, sym, ◌∙◌, ap, append_assoc}
-use Rattle.grammar.specs.Trees.{Trees, place_of}
+use Rattle.std.proofs.Common.{◌≡◌, ℕ, ◌<◌, ◌+◌, List, [], ◌∷◌, ◌++◌, length, drop, get_or, map, Result, Ok, Err, Option, Some, option_map, refl, sym, ◌∙◌, ap, append_assoc, Box}
+use Rattle.std.proofs.lemmas.List.{append-nil}
+use Rattle.std.specs.declared.alloc.Global.{Global}
+use Rattle.grammar.specs.Trees.{Otherwise, otherwise_of, place_of}
 use Rattle.grammar.specs.Trees.{Tree as tree}
 use Rattle.grammar.specs.Trees.{trees_of as listed}
 use Rattle.grammar.specs.Trees.{whens_of as branched}
 use Rattle.lp_values.specs.declared.kind.Kind.{Kind}
+use Rattle.lp_values.specs.declared.kind.Kind.TheVariants.{Any}
 use Rattle.lp_values.specs.declared.value.Value.{Value}
-use Rattle.query_tree.specs.Views.{tree_of, when_of}
+use Rattle.query_tree.specs.Views.{tree_of, when_of, whens_of}
 use Rattle.query_tree.specs.declared.expression.Expr.{Expr}
+use Rattle.query_tree.specs.declared.expression.Expr.TheViews as shown
+use Rattle.query_tree.specs.declared.expression.WhenList.{WhenList}
 use Rattle.query_tree.specs.declared.expression.When.{When}
 use Rattle.query_types.specs.declared.alias.Alias.{Alias}
 use Rattle.query_types.specs.declared.callee.Callee.{Callee}
 use Rattle.query_types.specs.declared.fault.TypeFault.{TypeFault}
+use Rattle.query_types.specs.declared.table.NamedKind.{NamedKind}
 use Rattle.query_types.specs.declared.table.TableColumns.{TableColumns}
 use Rattle.query_types.specs.Calls.{callee}
-use Rattle.query_types.specs.Meanings.{added, joined, followed, known, count_trees, meant, all_meant, branches_meant, branch_added, call_means, if_fits, if_agrees, kind_meant, sharper}
+use Rattle.query_types.specs.Meanings.{added, joined, followed, known, count_trees, meant, all_meant, branches_meant, branch_added, call_means, else_meant, case_kind, case_means, case_ended, if_fits, if_agrees, kind_meant, sharper}
 use Rattle.query_types.specs.Terms.{Term}
 use Rattle.query_types.proofs.Answering.{joined_one}
 use Rattle.query_types.proofs.Arguments.{counted}
 use Rattle.query_types.proofs.Forms.{dropped}
+use Rattle.query_types.proofs.Lists.{case_tree}
 
 module _ (table : TableColumns) (moment : Value) (aliases : List Alias) where
   -- a call whose name was looked up
@@ -80,3 +87,44 @@ module _ (table : TableColumns) (moment : Value) (aliases : List Alias) where
   branch_more subject kind front ws i w x y here is one two =
       branch_valued table moment aliases subject kind front ws i w x (Ok y) here is one two
       ∙ two_more front x y (branches_meant table moment aliases subject (sharper kind (kind_meant table.columns y)) (branched (map when_of (drop (i + 1) ws))))
+
+-- a call whose arguments are all known
+pub all_known : (front : List Term) → joined front (Ok []) ≡ Ok front
+all_known front = ap Ok (append-nil front)
+
+followed_twice : {A B D : Type 0} (r : Result A TypeFault) (f : A → B) (g : B → Result D TypeFault) → followed (followed r (λ a. Ok (f a))) g ≡ followed r (λ a. g (f a))
+followed_twice (Err fault) f g = refl
+followed_twice (Ok a) f g = refl
+
+module _ (table : TableColumns) (moment : Value) (aliases : List Alias) where
+  -- what stands behind the branches of a CASE
+  abbrev pub behind : Term → Otherwise → List Term → Result Term TypeFault
+  behind x otherwise parts = followed (else_meant table moment aliases (case_kind table.columns Any parts) otherwise) (λ last. Ok (case_means table.columns x (parts ++ last)))
+
+  -- a CASE whose subject and branches were looked at
+  pub case_parts : (at : ℕ) (subject : Box Expr Global) (branches : WhenList) (otherwise o : Option (Box Expr Global)) (x : Term) (kind : Kind) (r : Result (List Term) TypeFault)
+      → meant table moment aliases (tree_of subject.value) ≡ Ok x → kind ≡ kind_meant table.columns x → branches_meant table moment aliases kind Any (branched (whens_of branches)) ≡ r → otherwise ≡ o
+      → meant table moment aliases (tree_of (shown.Case at subject branches otherwise)) ≡ followed r (behind x (otherwise_of (option_map (λ b. tree_of b.value) o)))
+  case_parts at subject branches otherwise o x kind r one kind_is two which =
+      let ws = branched (whens_of branches) in
+      let rest : Option (Box Expr Global) → Otherwise = λ o. otherwise_of (option_map (λ b. tree_of b.value) o) in
+      ap (meant table moment aliases) (case_tree at subject branches otherwise)
+      ∙ ap (λ r. followed r (λ x. followed (branches_meant table moment aliases (kind_meant table.columns x) Any ws) (behind x (rest otherwise)))) one
+      ∙ ap (λ k. followed (branches_meant table moment aliases k Any ws) (behind x (rest otherwise))) (sym kind_is)
+      ∙ ap (λ r. followed r (behind x (rest otherwise))) two
+      ∙ ap (λ o. followed r (behind x (rest o))) which
+
+  -- a CASE whose ELSE was looked at
+  pub case_last : (at : ℕ) (subject : Box Expr Global) (branches : WhenList) (otherwise : Option (Box Expr Global)) (value : Box Expr Global) (x : Term) (kind : Kind) (parts : List Term) (r : Result Term TypeFault)
+      → meant table moment aliases (tree_of subject.value) ≡ Ok x → kind ≡ kind_meant table.columns x → branches_meant table moment aliases kind Any (branched (whens_of branches)) ≡ Ok parts → otherwise ≡ Some value
+      → meant table moment aliases (tree_of value.value) ≡ r
+      → meant table moment aliases (tree_of (shown.Case at subject branches otherwise))
+      ≡ followed (followed (followed r (if_agrees table.columns (case_kind table.columns Any parts) (place_of (tree_of value.value)))) (λ y. Ok (y ∷ []))) (λ last. Ok (case_means table.columns x (parts ++ last)))
+  case_last at subject branches otherwise value x kind parts r one kind_is two which last =
+      case_parts at subject branches otherwise (Some value) x kind (Ok parts) one kind_is two which
+      ∙ ap (λ r. followed (followed (followed r (if_agrees table.columns (case_kind table.columns Any parts) (place_of (tree_of value.value)))) (λ y. Ok (y ∷ []))) (λ last. Ok (case_means table.columns x (parts ++ last)))) last
+
+-- a CASE with its ELSE
+pub ended : (columns : List NamedKind) (x : Term) (parts : List Term) (at : ℕ) (last : Term)
+    → followed (followed (if_agrees columns (case_kind columns Any parts) at last) (λ y. Ok (y ∷ []))) (λ l. Ok (case_means columns x (parts ++ l))) ≡ case_ended columns x parts at last
+ended columns x parts at last = followed_twice (if_agrees columns (case_kind columns Any parts) at last) (λ y. y ∷ []) (λ l. Ok (case_means columns x (parts ++ l)))

@@ -1,33 +1,25 @@
--- Names of expressions, one part at a time.
-use Rattle.std.proofs.Common.{◌≡◌, ℕ, ◌<◌, ◌+◌, List, [], ◌∷◌, ◌++◌, length, drop, get_or, map, refl, sym, ◌∙◌, ap, codes, append_assoc}
-use Rattle.grammar.specs.Trees.{trees_of as listed}
+-- Names of CASEs.
+use Rattle.std.proofs.Common.{◌≡◌, ℕ, List, ◌++◌, Option, option_map, ◌∙◌, ap, codes, append_assoc, Box}
+use Rattle.std.specs.declared.alloc.Global.{Global}
+use Rattle.grammar.specs.Trees.{otherwise_of}
 use Rattle.grammar.specs.Trees.{whens_of as branched}
-use Rattle.query_tree.specs.Views.{tree_of, when_of}
+use Rattle.query_tree.specs.Views.{tree_of, whens_of}
 use Rattle.query_tree.specs.declared.expression.Expr.{Expr}
-use Rattle.query_tree.specs.declared.expression.When.{When}
+use Rattle.query_tree.specs.declared.expression.Expr.TheViews as shown
+use Rattle.query_tree.specs.declared.expression.WhenList.{WhenList}
 use Rattle.query_types.specs.declared.alias.Alias.{Alias}
 use Rattle.query_types.specs.declared.table.TableColumns.{TableColumns}
-use Rattle.query_types.specs.Names.{spelled, all_spelled, branches_spelled}
-use Rattle.query_types.proofs.Forms.{dropped}
+use Rattle.query_types.specs.Names.{spelled, branches_spelled, else_spelled}
+use Rattle.query_types.proofs.Lists.{case_tree}
 
-pub spelled_step : (table : TableColumns) (aliases : List Alias) (separator to : List ℕ) (es : List Expr) (i : ℕ) (e : Expr) → i < length es → e ≡ get_or es i e
-    → to ++ all_spelled table aliases separator (listed (map tree_of (drop i es)))
-    ≡ ((to ++ separator) ++ spelled table aliases (tree_of e)) ++ all_spelled table aliases (codes ", ") (listed (map tree_of (drop (i + 1) es)))
-spelled_step table aliases separator to es i e here is =
-    let one = spelled table aliases (tree_of e) in
-    let rest = all_spelled table aliases (codes ", ") (listed (map tree_of (drop (i + 1) es))) in
-    ap (λ (l : List Expr). to ++ all_spelled table aliases separator (listed (map tree_of l))) (dropped es i e here is)
-    ∙ sym (append_assoc (to ++ separator) one rest ∙ append_assoc to separator (one ++ rest))
+-- a text that gained a part, and another
+pub more : (to a b t u : List ℕ) → t ≡ to ++ a → u ≡ t ++ b → u ≡ to ++ (a ++ b)
+more to a b t u one two = two ∙ ap (λ l. l ++ b) one ∙ append_assoc to a b
 
-pub branch_step : (table : TableColumns) (aliases : List Alias) (to : List ℕ) (ws : List When) (i : ℕ) (w : When) → i < length ws → w ≡ get_or ws i w
-    → to ++ branches_spelled table aliases (branched (map when_of (drop i ws)))
-    ≡ ((((to ++ codes " WHEN ") ++ spelled table aliases (tree_of w.test)) ++ codes " THEN ") ++ spelled table aliases (tree_of w.value)) ++ branches_spelled table aliases (branched (map when_of (drop (i + 1) ws)))
-branch_step table aliases to ws i w here is =
-    let test = spelled table aliases (tree_of w.test) in
-    let value = spelled table aliases (tree_of w.value) in
-    let rest = branches_spelled table aliases (branched (map when_of (drop (i + 1) ws))) in
-    ap (λ (l : List When). to ++ branches_spelled table aliases (branched (map when_of l))) (dropped ws i w here is)
-    ∙ sym (append_assoc (((to ++ codes " WHEN ") ++ test) ++ codes " THEN ") value rest
-    ∙ append_assoc ((to ++ codes " WHEN ") ++ test) (codes " THEN ") (value ++ rest)
-    ∙ append_assoc (to ++ codes " WHEN ") test (codes " THEN " ++ value ++ rest)
-    ∙ append_assoc to (codes " WHEN ") (test ++ codes " THEN " ++ value ++ rest))
+-- a CASE as the name of its column
+pub case_spelled : (table : TableColumns) (aliases : List Alias) (at : ℕ) (subject : Box Expr Global) (branches : WhenList) (otherwise o : Option (Box Expr Global)) → otherwise ≡ o
+    → spelled table aliases (tree_of (shown.Case at subject branches otherwise))
+    ≡ codes "CASE " ++ spelled table aliases (tree_of subject.value) ++ branches_spelled table aliases (branched (whens_of branches)) ++ else_spelled table aliases (otherwise_of (option_map (λ b. tree_of b.value) o)) ++ codes " END"
+case_spelled table aliases at subject branches otherwise o which =
+    ap (spelled table aliases) (case_tree at subject branches otherwise)
+    ∙ ap (λ o. codes "CASE " ++ spelled table aliases (tree_of subject.value) ++ branches_spelled table aliases (branched (whens_of branches)) ++ else_spelled table aliases (otherwise_of (option_map (λ b. tree_of b.value) o)) ++ codes " END") which

@@ -1,4 +1,5 @@
 use Rattle.std.proofs.Common.{◌≡◌, ◌∙◌, ap, sym, FitsSigned, w64}
+use Rattle.std.proofs.lemmas.Bool.{false≢true}
 use Rattle.std.proofs.lemmas.Int.{to_z-of_z}
 use Rattle.lp_values.specs.declared.part.Part.TheVariants.{Both}
 use Rattle.slot_reading.specs.Stamps.{stamp_value}
@@ -12,4 +13,7 @@ returns-in-Some c =
     stamp_value-at c.in-Some.stamp Both c.in-Some.ensures.value.1 ∙ ap (stamp_value Both) (simp to_z-of_z at c.in-Some.ensures.value.0)
 
 pub returns-in-None : goal.returns-in-None
-returns-in-None c = ?
+returns-in-None c =
+    let range : FitsSigned w64 c.args.moment = c.ranges.moment in
+    let told = simp to_z-of_z at c.in-None.ensures.some in
+    sym (no_stamp Both c.args.moment (λ exists. false≢true (told.1 exists)))
