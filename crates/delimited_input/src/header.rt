@@ -5,7 +5,7 @@ ghost use Rattle.slot_reading.specs.Names.{is_same_name};
 ghost use Rattle.delimited_input.specs.Names.{is_made, made_name, made_names, header_name, header_names};
 ghost use Rattle.delimited_input.specs.Kept.{text_of, texts_of};
 
-use line_input::{Columns, Fields, Slot};
+use line_input::{Column, Columns, Fields, Slot};
 use lp_values::Text;
 use std::alloc::{AllocError, Global};
 
@@ -25,7 +25,7 @@ pub(crate) fn made_names(alloc: Global, many: usize) -> Result<Columns, AllocErr
 {
     let mut names = Columns::new(alloc);
     for place in 0..many {
-        names.push(made_name(alloc, place + 1)?)?;
+        names.push(Column::new(made_name(alloc, place + 1)?))?;
     }
     Ok(names)
 }
@@ -84,7 +84,7 @@ pub(crate) fn header_names(
     let slots = fields.as_slice();
     let mut names = Columns::new(alloc);
     for place in 0..slots.len() {
-        names.push(header_name(alloc, line, slots, place)?)?;
+        names.push(Column::new(header_name(alloc, line, slots, place)?))?;
     }
     Ok(names)
 }

@@ -1,6 +1,7 @@
 // Logs of fields that one byte parts, line by line.
 ghost use Rattle.std.specs.Prelude.{◌≡◌, ◌+◌, ◌<◌, ◌^◌, ◌↔◌, ◌∷◌, [], false, List, ℕ, length, OnOk, OnErr, IsErr, IfOk, Some, if◌then◌else◌};
 ghost use Rattle.line_input.specs.Taken.{reading_in, slots_of};
+ghost use Rattle.line_input.specs.declared.slot.Slot.{Slot};
 ghost use Rattle.lp_model.specs.Reading.{passed, bad, rows};
 ghost use Rattle.delimited_input.specs.Kept.{texts_of};
 ghost use Rattle.delimited_input.specs.Lines.{fields_in, is_broken, first_reading, filled_reading, delimited_lines};
@@ -11,10 +12,10 @@ ghost use Rattle.delimited_input.specs.Shapes.{HasShape};
 
 use crate::cut::{Cut, cut_line};
 use crate::header::{MOST_COLUMNS, header_names, made_names};
-use crate::row::{single, take_row};
+use crate::row::take_row;
 use crate::shape::{Shape, shape_of};
 use crate::{BadOption, DelimitedOptions};
-use line_input::{LineReader, Standing, Taken};
+use line_input::{Fields, LineReader, Standing, Taken};
 use std::alloc::{AllocError, Global};
 use std::marker::Model;
 
@@ -53,7 +54,7 @@ fn take_header(
     cut: Cut,
 ) -> Result<Taken, AllocError>
     requires { standing.old.lines < 2 ^ 63 }
-    ensures reading { IfOk result (λ taken. reading_in line.now taken ≡ passed) }
+    ensures reading { IfOk result (λ taken. (row : List Slot) → reading_in line.now row taken ≡ passed) }
     ensures lines { OnOk result (standing.new.lines ≡ standing.old.lines + 1) }
     ensures columns { OnOk result (standing.new.columns ≡ Some (header_names (texts_of line.now cut.fields))) }
     ensures err { OnErr result (standing.new ≡ standing.old) }
@@ -64,9 +65,14 @@ fn take_header(
 }
 
 // Takes the first row, which tells how many columns there are.
-fn take_first_row(alloc: Global, standing: &mut Standing, cut: Cut) -> Result<Taken, AllocError>
+fn take_first_row(
+    alloc: Global,
+    standing: &mut Standing,
+    cut: Cut,
+    row: &mut Fields,
+) -> Result<Taken, AllocError>
     requires { standing.old.lines < 2 ^ 63 }
-    ensures reading { IfOk result (λ taken. (line : List ℕ) → reading_in line taken ≡ (if cut.whole then rows (slots_of line cut.fields ∷ []) else bad)) }
+    ensures reading { IfOk result (λ taken. (line : List ℕ) → reading_in line row.new taken ≡ (if cut.whole then rows (slots_of line cut.fields ∷ []) else bad)) }
     ensures lines { OnOk result (standing.new.lines ≡ standing.old.lines + 1) }
     ensures columns { OnOk result (standing.new.columns ≡ (if cut.whole then Some (made_names (length cut.fields)) else standing.old.columns)) }
     ensures err { OnErr result (standing.new ≡ standing.old) }
@@ -76,9 +82,9 @@ fn take_first_row(alloc: Global, standing: &mut Standing, cut: Cut) -> Result<Ta
         return Ok(Taken::Bad);
     }
     let names = made_names(alloc, cut.fields.len())?;
-    let rows = single(alloc, cut.fields)?;
+    *row = cut.fields;
     standing.set_columns(names);
-    Ok(Taken::Rows(rows))
+    Ok(Taken::Row)
 }
 
 // Takes a line before which no columns are in force.
@@ -88,12 +94,13 @@ fn take_first(
     standing: &mut Standing,
     shape: Shape,
     line: &[u8],
+    row: &mut Fields,
 ) -> Result<Taken, AllocError>
     requires lines { standing.old.lines < 2 ^ 63 }
     requires filled { 0 < length line.now }
     requires whole { is_broken line.now ≡ false }
     requires shape { HasShape options.quotes line.now shape }
-    ensures reading { IfOk result (λ taken. reading_in line.now taken ≡ first_reading options (fields_in options line.now)) }
+    ensures reading { IfOk result (λ taken. reading_in line.now row.new taken ≡ first_reading options (fields_in options line.now)) }
     ensures lines { OnOk result (standing.new.lines ≡ standing.old.lines + 1) }
     ensures columns { OnOk result (standing.new.columns ≡ first_columns options (fields_in options line.now) standing.old.columns) }
     ensures err { OnErr result (standing.new ≡ standing.old) }
@@ -102,7 +109,7 @@ fn take_first(
     if options.header_row {
         take_header(alloc, standing, line, cut)
     } else {
-        take_first_row(alloc, standing, cut)
+        take_first_row(alloc, standing, cut, row)
     }
 }
 
@@ -113,20 +120,21 @@ fn take_filled(
     standing: &mut Standing,
     shape: Shape,
     line: &[u8],
+    row: &mut Fields,
 ) -> Result<Taken, AllocError>
     requires lines { standing.old.lines < 2 ^ 63 }
     requires filled { 0 < length line.now }
     requires whole { is_broken line.now ≡ false }
     requires shape { HasShape options.quotes line.now shape }
-    ensures reading { IfOk result (λ taken. reading_in line.now taken ≡ filled_reading options (fields_in options line.now) standing.old.columns) }
+    ensures reading { IfOk result (λ taken. reading_in line.now row.new taken ≡ filled_reading options (fields_in options line.now) standing.old.columns) }
     ensures lines { OnOk result (standing.new.lines ≡ standing.old.lines + 1) }
     ensures columns { OnOk result (standing.new.columns ≡ filled_columns options (fields_in options line.now) standing.old.columns) }
     ensures err { OnErr result (standing.new ≡ standing.old) }
 {
-    let Some(names) = standing.columns() else {
-        return take_first(alloc, options, standing, shape, line);
+    let Some(columns) = standing.columns() else {
+        return take_first(alloc, options, standing, shape, line, row);
     };
-    let taken = take_row(alloc, options, shape, line, names.len())?;
+    let taken = take_row(alloc, options, shape, line, columns.len(), row)?;
     standing.pass_line();
     Ok(taken)
 }
@@ -139,6 +147,7 @@ impl LineReader for Delimited {
         alloc: Global,
         standing: &mut Standing,
         line: &[u8],
+        row: &mut Fields,
     ) -> Result<Taken, AllocError> {
         if line.is_empty() {
             standing.pass_line();
@@ -149,7 +158,7 @@ impl LineReader for Delimited {
                 standing.pass_line();
                 Ok(Taken::Bad)
             }
-            shape => take_filled(alloc, self.options, standing, shape, line),
+            shape => take_filled(alloc, self.options, standing, shape, line, row),
         }
     }
 }

@@ -27,6 +27,7 @@ const TSV: DelimitedOptions = DelimitedOptions {
 // behind it and `~` in place of one that the log doesn't have; at the end the columns in force, each with `;` behind it.
 fn told(alloc: Global, options: DelimitedOptions, lines: &[&[u8]]) -> Result<Bytes, AllocError> {
     let mut standing = Standing::new();
+    let mut row = Fields::new(alloc);
     let mut told = Bytes::new(alloc);
     let Ok(reader) = Delimited::new(options) else {
         told.add(b"refused")?;
@@ -36,14 +37,11 @@ fn told(alloc: Global, options: DelimitedOptions, lines: &[&[u8]]) -> Result<Byt
         if standing.lines() >= 1000 {
             break;
         }
-        match reader.take_line(alloc, &mut standing, line) {
+        match reader.take_line(alloc, &mut standing, line, &mut row) {
             Ok(Taken::Passed) => told.add(b"- ")?,
             Ok(Taken::Bad) => told.add(b"! ")?,
-            Ok(Taken::Rows(rows)) => {
-                for fields in rows.as_slice() {
-                    tell_row(&mut told, fields, line)?;
-                }
-            }
+            Ok(Taken::Row) => tell_row(&mut told, &row, line)?,
+            Ok(Taken::Rows(_)) => told.add(b"? ")?,
             Err(error) => return Err(error),
         }
     }
@@ -62,7 +60,7 @@ fn tell_row(told: &mut Bytes, fields: &Fields, line: &[u8]) -> Result<(), AllocE
 fn tell_columns(told: &mut Bytes, standing: &Standing) -> Result<(), AllocError> {
     if let Some(names) = standing.columns() {
         for name in names.as_slice() {
-            told.add(name.as_str().as_bytes())?;
+            told.add(name.name().as_bytes())?;
             told.push(b';')?;
         }
     }

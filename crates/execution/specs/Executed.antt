@@ -32,33 +32,33 @@ pub record Writes (before now : Option (List ℕ)) (spec : Spec) (format : Input
   pub bad : counts.bad ≡ length (spans_bad (lines_of format) false folder spans)
   pub within : IsWithin spec.errors counts.bad
 
--- a query has this plan
-abbrev pub IsPlanned : Spec → model.Query → Planned → Type 0
-IsPlanned spec q plan = plan_of (table_of (input_of spec q)) q ≡ Ok plan
+-- a query has this plan in a run of this moment
+abbrev pub IsPlanned : Spec → ℤ → model.Query → Planned → Type 0
+IsPlanned spec moment q plan = plan_of (table_of (input_of spec q)) moment q ≡ Ok plan
 
 -- where each span begins as its log was kept, the output gains the text of the query's rows over the spans
-pub record IsExecuted (told : Option Folder) (before now : Option (List ℕ)) (spec : Spec) (q : model.Query) (spans : List Span) (counts : Counts) : Type 0 where
+pub record IsExecuted (told : Option Folder) (before now : Option (List ℕ)) (spec : Spec) (moment : ℤ) (q : model.Query) (spans : List Span) (counts : Counts) : Type 0 where
   pub plan : Planned
-  pub is_planned : IsPlanned spec q plan
+  pub is_planned : IsPlanned spec moment q plan
   pub written : Told told (λ folder. AreKept (lines_of (input_of spec q)) false spans folder → Writes before now spec (input_of spec q) plan spans counts folder)
 
 -- the output holds the front of that text
-pub record IsFront (told : Option Folder) (before now : Option (List ℕ)) (spec : Spec) (q : model.Query) (spans : List Span) : Type 0 where
+pub record IsFront (told : Option Folder) (before now : Option (List ℕ)) (spec : Spec) (moment : ℤ) (q : model.Query) (spans : List Span) : Type 0 where
   pub plan : Planned
-  pub is_planned : IsPlanned spec q plan
+  pub is_planned : IsPlanned spec moment q plan
   pub front : Told told (λ folder. AreKept (lines_of (input_of spec q)) false spans folder → GainsSome before now (csv_of spec.headers true plan.names (rows_in (input_of spec q) plan folder spans)))
 
 -- of the bad lines of the spans, in order, this is the first that is one too many; the output holds the front of the text
-pub record IsParseError (told : Option Folder) (before now : Option (List ℕ)) (spec : Spec) (q : model.Query) (spans : List Span) (line : BadLine) : Type 0 where
+pub record IsParseError (told : Option Folder) (before now : Option (List ℕ)) (spec : Spec) (moment : ℤ) (q : model.Query) (spans : List Span) (line : BadLine) : Type 0 where
   pub plan : Planned
-  pub is_planned : IsPlanned spec q plan
+  pub is_planned : IsPlanned spec moment q plan
   pub exceeds : Told told (λ folder. AreKept (lines_of (input_of spec q)) false spans folder → IsTooMany spec.errors 0 (spans_bad_lines (lines_of (input_of spec q)) false folder spans) line)
   pub front : Told told (λ folder. AreKept (lines_of (input_of spec q)) false spans folder → GainsSome before now (csv_of spec.headers true plan.names (rows_in (input_of spec q) plan folder spans)))
 
 -- a run stopped before it wrote anything, or within the text
-abbrev pub IsStopped : Option Folder → Option (List ℕ) → Option (List ℕ) → Spec → model.Query → List Span → Type 0
-IsStopped told before now spec q spans = (now ≡ before) ⊎ IsFront told before now spec q spans
+abbrev pub IsStopped : Option Folder → Option (List ℕ) → Option (List ℕ) → Spec → ℤ → model.Query → List Span → Type 0
+IsStopped told before now spec moment q spans = (now ≡ before) ⊎ IsFront told before now spec moment q spans
 
--- a query has no plan, by this fault
-abbrev pub IsUnplanned : Spec → model.Query → TypeFault → Type 0
-IsUnplanned spec q fault = plan_of (table_of (input_of spec q)) q ≡ Err fault
+-- a query has no plan in a run of this moment, by this fault
+abbrev pub IsUnplanned : Spec → ℤ → model.Query → TypeFault → Type 0
+IsUnplanned spec moment q fault = plan_of (table_of (input_of spec q)) moment q ≡ Err fault

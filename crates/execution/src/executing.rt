@@ -72,11 +72,11 @@ pub fn execute<L: Logs, I: Source, G: Stage>(
     requires spans { AllSpans spans.now IsSpan }
     requires there { Told (L.folder logs.old) (λ folder. AllSpans spans.now (λ span. span.listed ≤ length (bytes_in folder span.name))) }
     ensures grows { OnlyGrow (L.folder logs.old) (L.folder logs.new) }
-    ensures ran { IfOk result (λ ran. IsExecuted (L.folder logs.new) (G.state stage.old).written (G.state stage.new).written spec.now (query_of query.now) spans.now ran.counts) }
-    ensures stopped { OnErr result (IsStopped (L.folder logs.new) (G.state stage.old).written (G.state stage.new).written spec.now (query_of query.now) spans.now) }
-    ensures plan { IfPlan result (IsUnplanned spec.now (query_of query.now)) }
+    ensures ran { IfOk result (λ ran. IsExecuted (L.folder logs.new) (G.state stage.old).written (G.state stage.new).written spec.now moment (query_of query.now) spans.now ran.counts) }
+    ensures stopped { OnErr result (IsStopped (L.folder logs.new) (G.state stage.old).written (G.state stage.new).written spec.now moment (query_of query.now) spans.now) }
+    ensures plan { IfPlan result (IsUnplanned spec.now moment (query_of query.now)) }
     ensures before { IfPlan result (λ fault. (G.state stage.new).written ≡ (G.state stage.old).written) }
-    ensures parse { IfParse result (IsParseError (L.folder logs.new) (G.state stage.old).written (G.state stage.new).written spec.now (query_of query.now) spans.now) }
+    ensures parse { IfParse result (IsParseError (L.folder logs.new) (G.state stage.old).written (G.state stage.new).written spec.now moment (query_of query.now) spans.now) }
     ensures input { input.new ≡ input.old }
     ensures given { L.given logs.new ≤ L.given logs.old + spans_size spans.now }
     ensures later_logs { L.faults logs.old ≤ L.faults logs.new }
@@ -85,7 +85,7 @@ pub fn execute<L: Logs, I: Source, G: Stage>(
     ensures stage { IsErrOf result RunFault.StageFault → Rose (G.faults stage.old) (G.faults stage.new) }
 {
     let format = input_of(spec, query);
-    let plan = match plan_over(alloc, format, query) {
+    let plan = match plan_over(alloc, format, query, moment) {
         Ok(plan) => plan,
         Err(fault) => return Err(unplanned(fault)),
     };

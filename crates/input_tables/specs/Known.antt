@@ -2,7 +2,7 @@
 use Rattle.std.specs.Prelude.{codes}
 use Rattle.slot_reading.specs.declared.reading.Reading.{Reading}
 use Rattle.slot_reading.specs.declared.reading.Reading.TheVariants as R
-use Rattle.w3c_input.specs.Table.{Field, pattern_of}
+use Rattle.iis_fields.specs.Table.{Field, pattern_of}
 use Rattle.input_tables.specs.declared.field.How.{How}
 use Rattle.input_tables.specs.declared.field.How.TheVariants as H
 use Rattle.input_tables.specs.declared.field.Known.{Known}

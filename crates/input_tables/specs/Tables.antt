@@ -13,7 +13,7 @@ use Rattle.ncsa_input.specs.Lines.{ncsa_lines}
 use Rattle.ncsa_input.specs.Table.{ncsa_fields}
 use Rattle.ncsa_input.specs.Table.{Field as NcsaField}
 use Rattle.w3c_input.specs.Lines.{w3c_lines}
-use Rattle.w3c_input.specs.Table.{Field, logged_fields}
+use Rattle.iis_fields.specs.Table.{Field, logged_fields}
 
 -- the lines of a format
 abbrev pub lines_of : InputFormat → Format

@@ -3,7 +3,7 @@ ghost use Rattle.std.specs.Prelude.{◌≡◌, IsOk};
 ghost use Rattle.lp_time.specs.Patterns.{pattern_in};
 ghost use Rattle.slot_reading.specs.Slots.{kind_of};
 ghost use Rattle.slot_reading.specs.declared.reading.Reading.TheVariants as R;
-ghost use Rattle.w3c_input.specs.Table.{pattern_of};
+ghost use Rattle.iis_fields.specs.Table.{pattern_of};
 ghost use Rattle.input_tables.specs.Known.{read_how};
 
 use lp_time::Pattern;

@@ -1,6 +1,6 @@
 // The fields of each format.
 ghost use Rattle.std.specs.Prelude.{◌≡◌, map};
-ghost use Rattle.w3c_input.specs.Table.{logged_fields};
+ghost use Rattle.iis_fields.specs.Table.{logged_fields};
 ghost use Rattle.input_tables.specs.Known.{known};
 ghost use Rattle.input_tables.specs.Tables.{ncsa_logged, text_fields};
 

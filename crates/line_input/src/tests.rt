@@ -7,7 +7,7 @@ use std::test::Fail;
 fn words(alloc: Global, line: &[u8]) -> Result<Bytes, AllocError> {
     let mut standing = Standing::new();
     let mut told = Bytes::new(alloc);
-    match TextWords.take_line(alloc, &mut standing, line) {
+    match TextWords.take_line(alloc, &mut standing, line, &mut Fields::new(alloc)) {
         Ok(Taken::Rows(rows)) => {
             for fields in rows.as_slice() {
                 for slot in fields.as_slice() {

@@ -41,6 +41,7 @@ impl LineReader for TextWords {
         alloc: Global,
         standing: &mut Standing,
         line: &[u8],
+        _row: &mut Fields,
     ) -> Result<Taken, AllocError> {
         let rows = word_rows(alloc, line)?;
         standing.pass_line();

@@ -87,37 +87,47 @@ fn take_text<R: LineReader, T: Taker<O>, O>(
     ensures stopped { IsErrOf result LineFault.Stopped → T.stopped page.new.taker }
 {
     let number = page.standing.lines() + 1;
-    match reader.take_line(alloc, &mut page.standing, page.splitter.line()) {
+    let line = page.splitter.line();
+    let (many, taken) = match reader.take_line(alloc, &mut page.standing, line, &mut page.row) {
+        Ok(Taken::Row) => {
+            let columns = page.standing.columns();
+            let taken = page
+                .taker
+                .take(alloc, identity, number, columns, line, &page.row, out);
+            (1, taken)
+        }
         Ok(Taken::Rows(list)) => {
+            let columns = page.standing.columns();
             let taken = take_rows(
                 alloc,
                 identity,
                 number,
-                page.standing.columns(),
-                page.splitter.line(),
+                columns,
+                line,
                 &list,
                 &mut page.taker,
                 out,
             );
-            match taken {
-                Ok(()) => {
-                    page.rows += list.len() as u64;
-                    Ok(())
-                }
-                Err(TakeFault::Memory) => Err(LineFault::Memory),
-                Err(TakeFault::Failed) => Err(LineFault::Failed),
-                Err(TakeFault::Stopped) => Err(LineFault::Stopped),
-            }
+            (list.len() as u64, taken)
         }
         Ok(Taken::Bad) => {
-            if count_bad(page) {
+            return if count_bad(page) {
                 Err(LineFault::Bad { row: number })
             } else {
                 Ok(())
-            }
+            };
         }
-        Ok(Taken::Passed) => Ok(()),
-        Err(_) => Err(LineFault::Memory),
+        Ok(Taken::Passed) => return Ok(()),
+        Err(_) => return Err(LineFault::Memory),
+    };
+    match taken {
+        Ok(()) => {
+            page.rows += many;
+            Ok(())
+        }
+        Err(TakeFault::Memory) => Err(LineFault::Memory),
+        Err(TakeFault::Failed) => Err(LineFault::Failed),
+        Err(TakeFault::Stopped) => Err(LineFault::Stopped),
     }
 }
 

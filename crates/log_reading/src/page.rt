@@ -1,5 +1,5 @@
 // How far the reading of a log has come.
-use line_input::{Splitter, Standing};
+use line_input::{Fields, Splitter, Standing};
 
 /// The state of the loop: what takes the rows, and how far the log is read.
 #[derive(Drop)]
@@ -7,6 +7,8 @@ pub struct Page<T> {
     pub taker: T,
     pub splitter: Splitter,
     pub standing: Standing,
+    /// Room for the fields of a line that is one row.
+    pub row: Fields,
     /// Rows of all logs so far.
     pub rows: u64,
     /// Bad lines of all logs so far.

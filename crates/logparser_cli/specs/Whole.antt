@@ -26,9 +26,9 @@ pub record World : Type 0 where
   pub err_faults : ℕ
 
 -- a query is run over these logs by this plan
-pub record Runs (before now : Option Folder) (spec : Spec) (q : model.Query) (logs : List NameLength) (plan : Planned) : Type 0 where
+pub record Runs (before now : Option Folder) (spec : Spec) (moment : ℤ) (q : model.Query) (logs : List NameLength) (plan : Planned) : Type 0 where
   pub are_logs : AreLogs before now q logs
-  pub is_planned : IsPlanned spec q plan
+  pub is_planned : IsPlanned spec moment q plan
 
 -- an output gains a text, or the front of it where its faults rose
 abbrev pub Tells : Option (List ℕ) → Option (List ℕ) → List ℕ → Type 0 → Type 0
@@ -40,26 +40,26 @@ told_statistics true counts = statistics counts.processed counts.output counts.b
 told_statistics false counts = []
 
 -- a whole run: the output gains the text of the query's rows over the whole logs, and the other output the statistics
-pub record IsWhole (old new : World) (spec : Spec) (q : model.Query) : Type 0 where
+pub record IsWhole (old new : World) (spec : Spec) (moment : ℤ) (q : model.Query) : Type 0 where
   pub logs : List NameLength
   pub plan : Planned
-  pub runs : Runs old.folder new.folder spec q logs plan
+  pub runs : Runs old.folder new.folder spec moment q logs plan
   pub counts : Counts
   pub written : Told new.folder (Writes old.out new.out spec (input_of spec q) plan (whole_spans logs) counts)
   pub told : Tells old.err new.err (told_statistics spec.stats counts) (Rose old.err_faults new.err_faults)
 
 -- the output holds the front of that text
-pub record HoldsFront (before now : Option Folder) (out_before out_now : Option (List ℕ)) (spec : Spec) (q : model.Query) : Type 0 where
+pub record HoldsFront (before now : Option Folder) (out_before out_now : Option (List ℕ)) (spec : Spec) (moment : ℤ) (q : model.Query) : Type 0 where
   pub logs : List NameLength
   pub plan : Planned
-  pub runs : Runs before now spec q logs plan
+  pub runs : Runs before now spec moment q logs plan
   pub front : Told now (λ folder. GainsSome out_before out_now (csv_of spec.headers true plan.names (rows_in (input_of spec q) plan folder (whole_spans logs))))
 
 -- of the bad lines of the whole logs, in order, this is the first that is one too many; the output holds the front of the text
-pub record IsParseError (before now : Option Folder) (out_before out_now : Option (List ℕ)) (spec : Spec) (q : model.Query) (line : BadLine) : Type 0 where
+pub record IsParseError (before now : Option Folder) (out_before out_now : Option (List ℕ)) (spec : Spec) (moment : ℤ) (q : model.Query) (line : BadLine) : Type 0 where
   pub logs : List NameLength
   pub plan : Planned
-  pub runs : Runs before now spec q logs plan
+  pub runs : Runs before now spec moment q logs plan
   pub exceeds : Told now (λ folder. IsTooMany spec.errors 0 (spans_bad_lines (lines_of (input_of spec q)) false folder (whole_spans logs)) line)
   pub front : Told now (λ folder. GainsSome out_before out_now (csv_of spec.headers true plan.names (rows_in (input_of spec q) plan folder (whole_spans logs))))
 

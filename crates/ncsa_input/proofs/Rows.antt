@@ -2,13 +2,13 @@
 use Rattle.std.proofs.Common.{◌≡◌, ℕ, suc, ◌+◌, ◌-◌, ◌<◌, ◌≤◌, Bool, true, false, cond, ◌==◌, List, [], ◌∷◌, ◌++◌, length, map, drop, replicate, get_or, Option, Some, None, option_map, refl, sym, ap, ◌∙◌, arith, rules, tests, eq-eqb}
 use Rattle.std.proofs.lemmas.List.{append-nil, append_assoc, map-append, length_push, length-map, length-drop, drop_more, drop_all}
 use Rattle.std.specs.Prelude.{◌≢◌}
-use Rattle.lp_model.specs.Reading.{Slots}
+use Rattle.lp_model.specs.Reading.{Slots, rows}
 use Rattle.line_input.specs.declared.slot.Slot.{Slot}
 use Rattle.line_input.specs.Parts.{field_of}
 use Rattle.line_input.specs.Taken.{part_of, slot_bytes, slots_of}
 use Rattle.ncsa_input.specs.declared.pieces.Piece.{Piece}
 use Rattle.ncsa_input.specs.declared.shape.Shape.{Shape}
-use Rattle.ncsa_input.specs.Lines.{shapes, may_end, behind_spaces, fields_behind, fields_in}
+use Rattle.ncsa_input.specs.Lines.{shapes, may_end, behind_spaces, fields_behind, fields_in, row_reading}
 use Rattle.ncsa_input.specs.Pieces.{IsPiece}
 use Rattle.ncsa_input.specs.Shapes.{taken}
 
@@ -21,6 +21,15 @@ padded_more xs n m below e =
 
 pub padded_all : (xs : Slots) (n : ℕ) → 10 ≤ n → xs ++ replicate (10 - n) None ≡ xs
 padded_all xs n full = let none : 10 - n ≡ 0 = omega arith in rw none (append-nil xs)
+
+-- a row is what the line is
+pub row_is : (line : List ℕ) (fields : Option (List (List ℕ))) (found all : List Slot) → Some (slots_of line found) ≡ option_map (map field_of) fields → slots_of line all ≡ slots_of line found ++ replicate (10 - length found) None
+    → rows (slots_of line all ∷ []) ≡ row_reading fields
+row_is line None found all e padded = absurd cc
+row_is line (Some fields) found all e padded =
+    let same : slots_of line found ≡ map field_of fields = cc in
+    let size : length found ≡ length fields = sym (length-map found (slot_bytes line)) ∙ (ap length same ∙ length-map fields field_of) in
+    ap (λ slots. rows (slots ∷ [])) (padded ∙ (ap (λ s. s ++ replicate (10 - length found) None) same ∙ ap (λ n. map field_of fields ++ replicate (10 - n) None) size))
 
 -- ---- one part more
 
@@ -114,11 +123,6 @@ pub read_past : (line : List ℕ) (at parts : ℕ) (slots : Slots) → ReadTo li
 unfolding fields_behind
 read_past line at parts slots read past =
     read.rest ∙ ap (λ s. option_map (λ fields. read.done ++ fields) (fields_behind parts s (drop at line))) (drop_all parts shapes past)
-
--- what the end of a line gave
-pub mapped_end : (b : Bool) (line : List ℕ) (fields : List Slot) → option_map (slots_of line) (cond b (Some fields) None) ≡ cond b (Some (slots_of line fields)) None
-mapped_end true line fields = refl
-mapped_end false line fields = refl
 
 pub parts_read : (line : List ℕ) (at parts : ℕ) (fields new : List Slot) (slot : Slot) → ReadTo line at parts (slots_of line fields) → new ≡ fields ++ slot ∷ [] → length new ≡ parts + 1
 parts_read line at parts fields new slot read e =

@@ -6,7 +6,7 @@ ghost use Rattle.std.specs.Prelude.{None};
 ghost use Rattle.ncsa_input.specs.Lines.{is_of_spaces, ncsa_reading, ncsa_lines};
 
 use crate::row::take_row;
-use line_input::{LineReader, Standing, Taken};
+use line_input::{Fields, LineReader, Standing, Taken};
 use std::alloc::{AllocError, Global};
 
 /// Reads logs in the common log format, the combined one, and that with a cookie. A row has ten fields.
@@ -19,13 +19,13 @@ fn is_of_spaces(line: &[u8]) -> bool
     line.iter().all(|byte| *byte == b' ')
 }
 
-fn take(alloc: Global, line: &[u8]) -> Result<Taken, AllocError>
-    ensures { IfOk result (λ taken. reading_in line.now taken ≡ ncsa_reading line.now None) }
+fn take(alloc: Global, line: &[u8], row: &mut Fields) -> Result<Taken, AllocError>
+    ensures { IfOk result (λ taken. reading_in line.now row.new taken ≡ ncsa_reading line.now None) }
 {
     if is_of_spaces(line) {
         return Ok(Taken::Passed);
     }
-    take_row(alloc, line)
+    take_row(alloc, line, row)
 }
 
 #[tactic(auto, unfolding(crate::specs::Lines::ncsa_lines))]
@@ -37,8 +37,9 @@ impl LineReader for Ncsa {
         alloc: Global,
         standing: &mut Standing,
         line: &[u8],
+        row: &mut Fields,
     ) -> Result<Taken, AllocError> {
-        let taken = take(alloc, line)?;
+        let taken = take(alloc, line, row)?;
         standing.pass_line();
         Ok(taken)
     }

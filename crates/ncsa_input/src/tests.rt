@@ -8,15 +8,13 @@ use std::test::Fail;
 // behind it and `~` in place of one that the log doesn't have.
 fn told(alloc: Global, line: &[u8]) -> Result<Bytes, AllocError> {
     let mut standing = Standing::new();
+    let mut row = Fields::new(alloc);
     let mut told = Bytes::new(alloc);
-    match Ncsa.take_line(alloc, &mut standing, line) {
+    match Ncsa.take_line(alloc, &mut standing, line, &mut row) {
         Ok(Taken::Passed) => told.push(b'-')?,
         Ok(Taken::Bad) => told.push(b'!')?,
-        Ok(Taken::Rows(rows)) => {
-            for fields in rows.as_slice() {
-                tell_row(&mut told, fields, line)?;
-            }
-        }
+        Ok(Taken::Row) => tell_row(&mut told, &row, line)?,
+        Ok(Taken::Rows(_)) => told.push(b'?')?,
         Err(error) => return Err(error),
     }
     Ok(told)

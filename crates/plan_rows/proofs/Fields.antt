@@ -1,18 +1,13 @@
--- Steps along the fields of a record.
-use Rattle.std.proofs.Common.{◌≡◌, ℕ, zero, suc, ◌+◌, ◌<◌, Bool, false, List, [], ◌∷◌, ◌++◌, length, drop, get_or, map, Option, Some, None, option_map, refl, sym, ◌∙◌, ap, subst, arith, add-one, append_assoc}
-use Rattle.std.proofs.Math.Seq.{drop-cons}
+-- The fields of a record.
+use Rattle.std.proofs.Common.{◌≡◌, ℕ, zero, suc, ◌+◌, List, [], ◌∷◌, length, get_or, Option, Some, None, option_map, refl, sym, ◌∙◌, ap, arith}
 use Rattle.std.specs.List.{slice_get}
 use Rattle.lp_model.specs.Reading.{Slots}
 use Rattle.line_input.specs.declared.slot.Slot.{Slot}
 use Rattle.line_input.specs.Taken.{slots_of, slot_bytes}
-use Rattle.lp_values.specs.declared.value.Value.{Value}
+use Rattle.lp_values.specs.declared.value.Value.TheVariants.{Null}
 use Rattle.slot_reading.specs.declared.reading.Reading.{Reading}
 use Rattle.slot_reading.specs.Slots.{value_of}
-use Rattle.plan_rows.specs.Picks.{fields_read, held, if_used, masked, slot_at}
-
--- what is left begins with the one at this place
-dropped : {A : Type 0} (xs : List A) (i : ℕ) (x : A) → i < length xs → x ≡ get_or xs i x → drop i xs ≡ x ∷ drop (i + 1) xs
-dropped xs i x here is = rw add-one (drop-cons xs i x here ∙ ap (λ y. y ∷ drop (suc i) xs) (sym is))
+use Rattle.plan_rows.specs.Picks.{fields_read, held, slot_at}
 
 -- the field of a line at a place
 pub field_at : (line : List ℕ) (fields : List Slot) (i : ℕ) → slot_at (slots_of line fields) i ≡ held (option_map (slot_bytes line) (slice_get fields i))
@@ -20,13 +15,30 @@ field_at line [] i = refl
 field_at line (f ∷ fs) zero = refl
 field_at line (f ∷ fs) (suc i) = field_at line fs i
 
-pub fields_step : (used : List Bool) (readings : List Reading) (slots : Slots) (i : ℕ) (reading : Reading) (front : List Value) (value : Value)
-    → i < length readings → reading ≡ get_or readings i reading → value ≡ if_used (get_or used (i + 2) false) (value_of reading (slot_at slots i))
-    → front ++ masked used (fields_read (drop i readings) slots i) (i + 2) ≡ (front ++ value ∷ []) ++ masked used (fields_read (drop (i + 1) readings) slots (i + 1)) (i + 1 + 2)
-fields_step used readings slots i reading front value here is value_is =
-    let rest = fields_read (drop (i + 1) readings) slots (i + 1) in
-    let e : i + 2 + 1 ≡ i + 1 + 2 = omega arith in
-    ap (λ l. front ++ masked used (fields_read l slots i) (i + 2)) (dropped readings i reading here is)
-    ∙ ap (λ v. front ++ v ∷ masked used rest (i + 2 + 1)) (sym value_is)
-    ∙ ap (λ n. front ++ value ∷ masked used rest n) e
-    ∙ sym (append_assoc front (value ∷ []) (masked used rest (i + 1 + 2)))
+-- the value of a field
+pub fields_read-at : (readings : List Reading) (slots : Slots) (at k : ℕ) (reading : Reading) → slice_get readings k ≡ Some reading → get_or (fields_read readings slots at) k Null ≡ value_of reading (slot_at slots (at + k))
+fields_read-at [] slots at k reading e = absurd cc
+fields_read-at (first ∷ readings) slots at zero reading e =
+    let here : first ≡ reading = cc in
+    let sum : at ≡ at + 0 = omega arith in
+    ap (λ r. value_of r (slot_at slots at)) here ∙ ap (λ n. value_of reading (slot_at slots n)) sum
+fields_read-at (first ∷ readings) slots at (suc k) reading e =
+    let sum : at + 1 + k ≡ at + suc k = omega arith in
+    fields_read-at readings slots (at + 1) k reading e ∙ ap (λ n. value_of reading (slot_at slots n)) sum
+
+pub fields_read-none : (readings : List Reading) (slots : Slots) (at k : ℕ) → slice_get readings k ≡ None → get_or (fields_read readings slots at) k Null ≡ Null
+fields_read-none [] slots at k e = refl
+fields_read-none (first ∷ readings) slots at zero e = absurd cc
+fields_read-none (first ∷ readings) slots at (suc k) e = fields_read-none readings slots (at + 1) k e
+
+-- the value of the field at a place
+pub field_read : (readings : List Reading) (line : List ℕ) (fields : List Slot) (index : ℕ) (reading : Reading) (slot : Option Slot) → slice_get readings index ≡ Some reading → slot ≡ slice_get fields index
+    → value_of reading (held (option_map (slot_bytes line) slot)) ≡ get_or (fields_read readings (slots_of line fields) 0) index Null
+field_read readings line fields index reading slot there here =
+    let sum : index ≡ 0 + index = omega arith in
+    ap (λ s. value_of reading (held (option_map (slot_bytes line) s))) here
+    ∙ (ap (value_of reading) (sym (field_at line fields index)) ∙ (ap (λ n. value_of reading (slot_at (slots_of line fields) n)) sum ∙ sym (fields_read-at readings (slots_of line fields) 0 index reading there)))
+
+pub fields_length : (readings : List Reading) (slots : Slots) (at : ℕ) → length (fields_read readings slots at) ≡ length readings
+fields_length [] slots at = refl
+fields_length (reading ∷ readings) slots at = ap suc (fields_length readings slots (at + 1))

@@ -1,13 +1,13 @@
 -- What a plan makes of a record.
-use Rattle.std.specs.Prelude.{◌≡◌, ◌<◌, ℕ, ◌+◌, Bool, true, false, pos, List, [], ◌∷◌, length, get_or, Option, Some, None}
-use Rattle.std.specs.List.{slice_get}
+use Rattle.std.specs.Prelude.{◌≡◌, ◌<◌, ◌==◌, ◌||◌, ℕ, ◌+◌, Bool, true, false, pos, List, [], ◌∷◌, length, get_or, Option, Some, None}
+use Rattle.std.specs.List.{slice_get, list_any}
 use Rattle.lp_model.specs.Reading.{Slots}
 use Rattle.lp_values.specs.declared.value.Value.{Value}
 use Rattle.lp_values.specs.declared.value.Value.TheVariants.{Null, Int, Text}
 use Rattle.log_reading.specs.Found.{Found}
 use Rattle.slot_reading.specs.declared.reading.Reading.{Reading}
 use Rattle.slot_reading.specs.Slots.{value_of}
-use Rattle.query_types.specs.declared.meaning.Meaning.{Meaning}
+use Rattle.query_types.specs.Terms.{Term, any_has_column}
 use Rattle.query_types.specs.Conditions.{Filter}
 use Rattle.query_types.specs.Planned.{is_mentioned}
 use Rattle.row_engine.specs.Rows.{keeps, selected_in}
@@ -34,7 +34,7 @@ if_kept true row = Some row
 if_kept false row = None
 
 -- the output row of a record, if its condition is Yes
-abbrev pub plan_picks : List Reading → List Meaning → Option Filter → Found → Option (List Value)
+abbrev pub plan_picks : List Reading → List Term → Option Filter → Found → Option (List Value)
 plan_picks readings items condition found = let row = table_row readings found in if_kept (keeps condition row) (selected_in row items)
 
 -- a value where it is used, else NULL
@@ -47,7 +47,17 @@ abbrev pub masked : List Bool → List Value → ℕ → List Value
 masked used [] at = []
 masked used (value ∷ values) at = if_used (get_or used at false) value ∷ masked used values (at + 1)
 
--- a mask over so many columns has each that the condition asks
-pub record Tests (many : ℕ) (mask : List Bool) (condition : Option Filter) : Type 0 where
-  pub size : length mask ≡ many
-  pub mentioned : (k : ℕ) → k < many → is_mentioned k condition ≡ true → get_or mask k false ≡ true
+-- whether a column is one of these
+abbrev pub is_among : ℕ → List ℕ → Bool
+is_among k columns = list_any (λ column. column == k) columns
+
+-- the values of a row were put at the places of some columns; what stands at other places stays
+pub record Put (columns : List ℕ) (row old new : List Value) : Type 0 where
+  pub size : length new ≡ length old
+  pub put : (k : ℕ) → is_among k columns ≡ true → get_or new k Null ≡ get_or row k Null
+  pub kept : (k : ℕ) → is_among k columns ≡ false → get_or new k Null ≡ get_or old k Null
+
+-- a plan's columns, of so many, in two parts: those that WHERE asks, and the others that SELECT takes
+pub record Parted (many : ℕ) (asked rest : List ℕ) (items : List Term) (condition : Option Filter) : Type 0 where
+  pub mentioned : (k : ℕ) → k < many → is_mentioned k condition ≡ true → is_among k asked ≡ true
+  pub item : (k : ℕ) → k < many → any_has_column k items ≡ true → (is_among k asked || is_among k rest) ≡ true

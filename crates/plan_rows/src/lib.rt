@@ -2,11 +2,11 @@
 //! output row or nothing.
 //!
 //! To the crate above: [`PlanPicker`] picks exactly what `specs::Picks` says of the record's whole row, though it reads
-//! only the columns that the plan uses.
+//! only the columns that WHERE asks, and the others that SELECT takes only of the records that WHERE keeps.
 #![tactic(auto)]
 
+mod parting;
 mod picking;
 mod row;
-mod waiting;
 
 pub use picking::{PlanPicker, ReadingList};

@@ -2,10 +2,10 @@
 ghost use Rattle.std.specs.Prelude.{◌≡◌, ◌+◌, ◌≤◌, length, option_map, IfOk};
 ghost use Rattle.query_types.specs.Conditions.{filter_of};
 ghost use Rattle.query_types.specs.Planned.{Covers};
-ghost use Rattle.plan_rows.specs.Picks.{Tests, plan_picks};
+ghost use Rattle.plan_rows.specs.Picks.{Parted, plan_picks};
 
-use crate::row::read_row;
-use crate::waiting::{First, first_columns};
+use crate::parting::{Parts, part_columns};
+use crate::row::{make_room, read_columns};
 use line_input::{Columns, Fields};
 use lp_outside::Name;
 use lp_values::{ListOf, ValueList};
@@ -23,9 +23,8 @@ pub type ReadingList = ListOf<Reading>;
 pub struct PlanPicker {
     pub plan: Plan,
     pub readings: ReadingList,
-    first: First,
-    ghost tests: { Tests (length plan.used) first.columns (option_map filter_of plan.condition) },
-    ghost covers: { Covers plan.used plan.items (option_map filter_of plan.condition) },
+    columns: Parts,
+    ghost parted: { Parted (length plan.used) columns.asked columns.rest plan.items (option_map filter_of plan.condition) },
     ghost fits: { length readings + 2 ≤ length plan.used },
 }
 
@@ -37,11 +36,11 @@ impl PlanPicker {
         ensures plan { IfOk result (λ picker. picker.plan ≡ plan) }
         ensures readings { IfOk result (λ picker. picker.readings ≡ readings) }
     {
-        let first = first_columns(alloc, &plan, &readings)?;
+        let columns = part_columns(alloc, &plan)?;
         Ok(PlanPicker {
             plan,
             readings,
-            first,
+            columns,
         })
     }
 }
@@ -60,24 +59,10 @@ impl Picker for PlanPicker {
         values: &mut ValueList,
         row: &mut ValueList,
     ) -> Result<bool, AllocError> {
-        if self.first.others {
-            read_row(
-                alloc,
-                &self.first.columns,
-                &self.readings,
-                identity,
-                number,
-                line,
-                fields,
-                values,
-            )?;
-            if !passes(&self.plan, values) {
-                return Ok(false);
-            }
-        }
-        read_row(
+        make_room(values, self.plan.used.len())?;
+        read_columns(
             alloc,
-            &self.plan.used,
+            &self.columns.asked,
             &self.readings,
             identity,
             number,
@@ -85,9 +70,19 @@ impl Picker for PlanPicker {
             fields,
             values,
         )?;
-        if !passes(&self.plan, values) {
+        if !passes(alloc, &self.plan, values)? {
             return Ok(false);
         }
+        read_columns(
+            alloc,
+            &self.columns.rest,
+            &self.readings,
+            identity,
+            number,
+            line,
+            fields,
+            values,
+        )?;
         select_row(alloc, &self.plan, values, row)?;
         Ok(true)
     }

@@ -8,7 +8,7 @@ ghost use Rattle.log_reading.specs.Page.{IsTooMany, IsWithin};
 ghost use Rattle.log_reading.specs.Spans.{AllSpans, IsSpan, AreKept, OnBadLine, spans_found, spans_bad, spans_bad_lines, spans_size, took_of};
 
 use crate::{Buffers, Picker, Target, Writer};
-use line_input::{LineReader, Splitter, Standing};
+use line_input::{Fields, LineReader, Splitter, Standing};
 use log_reading::{Page, RunFault, Span, TakeFault, TookList, take_spans};
 use lp_outside::{Logs, Stage};
 use lp_values::{Bytes, TextList, ValueList};
@@ -103,6 +103,7 @@ fn first_page<F: Shape + Drop, P: Picker + Drop>(
         taker: writer,
         splitter: Splitter::new(alloc, 0),
         standing: Standing::new(),
+        row: Fields::new(alloc),
         rows: 0,
         bad: 0,
         most_bad,

@@ -1,6 +1,7 @@
 // Where an output's text goes.
 ghost use Rattle.std.specs.Prelude.{◌≡◌, ◌%◌, length, MatchResult};
 ghost use Rattle.lp_model.specs.Outside.{HasCause, Gains, GainsSome};
+ghost use Rattle.lp_outside.specs.Stages.{no_mark};
 
 use lp_outside::{Mark, Name, Stage, StageFailed};
 
@@ -16,7 +17,12 @@ pub struct Target {
 
 impl Target {
     /// The output of an index, before its first byte.
-    pub fn new(output: u32, name: Name, base: u64) -> Target {
+    pub fn new(output: u32, name: Name, base: u64) -> Target
+        ensures output { result.output ≡ output }
+        ensures name { result.name ≡ name }
+        ensures base { result.base ≡ base }
+        ensures mark { result.mark ≡ no_mark }
+    {
         Target {
             output,
             name,

@@ -14,7 +14,7 @@ ghost use Rattle.sampled_run.specs.Ran.{IsSampled, IsStoppedBy, OnBadOne, fault_
 use crate::ending::finish_run;
 use crate::spans::take_all;
 use crate::{Gathering, Phase, SampleFault, Sampling, Stop};
-use line_input::{LineReader, Splitter, Standing};
+use line_input::{Fields, LineReader, Splitter, Standing};
 use log_reading::{Page, RunFault, Span, TookList};
 use lp_outside::{Logs, Stage};
 use lp_time::Pattern;
@@ -90,6 +90,7 @@ fn first_page<'a, F: Shape + Drop>(
         },
         splitter: Splitter::new(alloc, 0),
         standing: Standing::new(),
+        row: Fields::new(alloc),
         rows: 0,
         bad: 0,
         most_bad,

@@ -29,7 +29,7 @@ fn place_of(columns: &Columns, name: &str) -> Option<usize>
     columns
         .as_slice()
         .iter()
-        .position(|column| is_same_name(column.as_str(), name))
+        .position(|column| is_same_name(column.name(), name))
 }
 
 // The first of a record's own columns that has a name.

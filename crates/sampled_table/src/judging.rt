@@ -8,6 +8,7 @@ ghost use Rattle.sampled_table.specs.Kept.{found_in};
 use crate::fields::{field_in, place_for, text_of};
 use crate::{FirstLog, KeptRow, KeptRows};
 use delimited_input::{KindList, KindSampler};
+use line_input::Columns;
 use lp_outside::Name;
 use lp_time::Pattern;
 use lp_values::{Kind, Text, TextList};
@@ -27,11 +28,11 @@ fn text_in(
     is_of_first: bool,
     row: &KeptRow,
     at: usize,
-    name: &Text,
+    name: &str,
 ) -> Result<Text, AllocError>
     ensures { IfOk result (λ text. text ≡ text_of (field_in (found_in row.now).row.slots (place_for is_of_first row.now.columns at name.now))) }
 {
-    let place = place_for(is_of_first, &row.columns, at, name.as_str());
+    let place = place_for(is_of_first, &row.columns, at, name);
     text_of(alloc, field_in(row.line.as_slice(), &row.fields, place))
 }
 
@@ -42,8 +43,8 @@ fn texts_under(alloc: Global, first: &FirstLog, row: &KeptRow) -> Result<TextLis
     let is_of_first = first.identity.is(&row.identity);
     let mut texts = TextList::new(alloc);
     let mut at = 0;
-    for name in first.columns.as_slice() {
-        let text = text_in(alloc, is_of_first, row, at, name)?;
+    for column in first.columns.as_slice() {
+        let text = text_in(alloc, is_of_first, row, at, column.name())?;
         texts.push(text)?;
         at += 1;
     }
@@ -76,13 +77,13 @@ fn kind_at(kinds: &KindList, at: usize) -> Kind
 }
 
 // The columns of these names and kinds.
-fn named_kinds(alloc: Global, kinds: &KindList, names: &TextList) -> Result<NamedKinds, AllocError>
+fn named_kinds(alloc: Global, kinds: &KindList, names: &Columns) -> Result<NamedKinds, AllocError>
     ensures { IfOk result (λ columns. columns ≡ named_kinds kinds.now names.now) }
 {
     let mut columns = NamedKinds::new(alloc);
     let mut at = 0;
-    for name in names.as_slice() {
-        let name = name.copy(alloc)?;
+    for column in names.as_slice() {
+        let name = Text::from_str(alloc, column.name())?;
         let kind = kind_at(kinds, at);
         columns.push(NamedKind { name, kind })?;
         at += 1;

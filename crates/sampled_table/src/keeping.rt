@@ -4,9 +4,9 @@ ghost use Rattle.line_input.specs.Taken.{slots_of};
 ghost use Rattle.sampled_table.specs.Kept.{found_in};
 
 use crate::{FirstLog, KeptRow};
-use line_input::{Columns, Fields, Slot};
+use line_input::{Columns, Fields, Slot, copy_columns};
 use lp_outside::Name;
-use lp_values::{Bytes, copy_texts};
+use lp_values::Bytes;
 use std::alloc::{AllocError, Global};
 
 // A field of its own.
@@ -44,14 +44,15 @@ fn copy_fields(alloc: Global, fields: &Fields) -> Result<Fields, AllocError>
     Ok(copy)
 }
 
-fn copy_columns(alloc: Global, columns: &Option<Columns>) -> Result<Option<Columns>, AllocError>
+// The columns in force, if any are.
+fn copy_in_force(alloc: Global, columns: &Option<Columns>) -> Result<Option<Columns>, AllocError>
     ensures { IfOk result (λ copy. copy ≡ columns.now) }
 {
     match columns {
         None => Ok(None),
-        Some(names) => {
-            let names = copy_texts(alloc, names)?;
-            Ok(Some(names))
+        Some(columns) => {
+            let columns = copy_columns(alloc, columns)?;
+            Ok(Some(columns))
         }
     }
 }
@@ -61,7 +62,7 @@ impl FirstLog {
     pub fn new(alloc: Global, identity: &Name, columns: &Columns) -> Result<FirstLog, AllocError>
         ensures { IfOk result (λ first. first ≡ record { identity = identity.now; columns = columns.now }) }
     {
-        let columns = copy_texts(alloc, columns)?;
+        let columns = copy_columns(alloc, columns)?;
         Ok(FirstLog {
             identity: identity.copy(),
             columns,
@@ -82,7 +83,7 @@ impl KeptRow {
         requires { number < 2 ^ 63 }
         ensures { IfOk result (λ kept. found_in kept ≡ record { identity = identity.now; row = record { number = number; slots = slots_of line.now fields.now; columns = columns.now } }) }
     {
-        let columns = copy_columns(alloc, columns)?;
+        let columns = copy_in_force(alloc, columns)?;
         let line = copy_bytes(alloc, line)?;
         let fields = copy_fields(alloc, fields)?;
         Ok(KeptRow {

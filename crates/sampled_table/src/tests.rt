@@ -1,6 +1,6 @@
 // A run's table.
 use crate::{FirstLog, KeptRow, KeptRows, judge, table_of};
-use line_input::{Columns, Fields, Slot};
+use line_input::{Column, Columns, Fields, Slot};
 use lp_outside::Name;
 use lp_time::Pattern;
 use lp_values::{Kind, Text};
@@ -13,11 +13,11 @@ fn a_record_of_another_log_is_read_by_name(rt: HostRuntime) -> Result<(), Fail> 
     let log = Name::read("a.csv").map_err(|_| "no name")?;
     let other = Name::read("b.csv").map_err(|_| "no name")?;
     let mut columns = Columns::new(alloc);
-    columns.push(Text::from_str(alloc, "When")?)?;
-    columns.push(Text::from_str(alloc, "Count")?)?;
+    columns.push(Column::new(Text::from_str(alloc, "When")?))?;
+    columns.push(Column::new(Text::from_str(alloc, "Count")?))?;
     let mut own = Columns::new(alloc);
-    own.push(Text::from_str(alloc, "COUNT")?)?;
-    own.push(Text::from_str(alloc, "when")?)?;
+    own.push(Column::new(Text::from_str(alloc, "COUNT")?))?;
+    own.push(Column::new(Text::from_str(alloc, "when")?))?;
     let mut fields = Fields::new(alloc);
     fields.push(Slot::Part { from: 0, to: 1 })?;
     fields.push(Slot::Part { from: 2, to: 12 })?;

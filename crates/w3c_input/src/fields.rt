@@ -1,12 +1,11 @@
 // Where the fields of a row stand.
-ghost use Rattle.std.specs.Prelude.{◌≡◌, ◌≢◌, ◌<◌, length, MatchOption};
+ghost use Rattle.std.specs.Prelude.{◌≡◌, ◌≢◌, ◌<◌, length, IfSome, MatchOption};
 ghost use Rattle.std.specs.List.{zip};
 ghost use Rattle.w3c_input.specs.Lines.{fields_in};
-ghost use Rattle.w3c_input.specs.Places.{place_of, with_part, HoldsFields};
+ghost use Rattle.w3c_input.specs.Places.{with_part, HoldsFields};
 
-use crate::table::{LOGGED, next_place};
-use line_input::{Extent, Gap};
-use lp_values::Text;
+use iis_fields::LOGGED;
+use line_input::{Column, Extent, Gap};
 
 /// For each field that a log may have where it stands in a row; one that the row doesn't have ends at 0.
 pub(crate) type Extents = [Extent; 22];
@@ -14,11 +13,12 @@ pub(crate) type Extents = [Extent; 22];
 const NOWHERE: Extent = Extent { from: 0, to: 0 };
 
 // Notes a field at the place of its column's name, where none was noted before.
-fn note_field(extents: &mut Extents, walked: &mut usize, name: &str, part: Extent)
-    requires { length extents.old ≡ 22 }
-    ensures { extents.new ≡ with_part extents.old (place_of name.now) part }
+fn note_field(extents: &mut Extents, place: Option<usize>, part: Extent)
+    requires size { length extents.old ≡ 22 }
+    requires within { IfSome place (λ place. place < 22) }
+    ensures { extents.new ≡ with_part extents.old place part }
 {
-    if let Some(place) = next_place(name, walked) {
+    if let Some(place) = place {
         if extents[place].to == 0 {
             extents[place] = part;
         }
@@ -26,15 +26,14 @@ fn note_field(extents: &mut Extents, walked: &mut usize, name: &str, part: Exten
 }
 
 /// Finds a row's fields; none where they aren't as many as the columns.
-pub(crate) fn find_fields(line: &[u8], names: &[Text]) -> Option<Extents>
-    ensures { MatchOption result (length (fields_in line.now) ≢ length names.now) (λ extents. (length (fields_in line.now) ≡ length names.now) × HoldsFields line.now (zip names.now (fields_in line.now)) extents) }
+pub(crate) fn find_fields(line: &[u8], columns: &[Column]) -> Option<Extents>
+    ensures { MatchOption result (length (fields_in line.now) ≢ length columns.now) (λ extents. (length (fields_in line.now) ≡ length columns.now) × HoldsFields line.now (zip columns.now (fields_in line.now)) extents) }
 {
     let mut extents = [NOWHERE; LOGGED];
-    let mut walked = 0;
     let mut at = 0;
-    for name in names {
+    for column in columns {
         let part = Gap::Blanks.next_part(line, at)?;
-        note_field(&mut extents, &mut walked, name.as_str(), part);
+        note_field(&mut extents, column.place(), part);
         at = part.to;
     }
     match Gap::Blanks.next_part(line, at) {

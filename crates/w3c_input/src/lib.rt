@@ -1,16 +1,14 @@
 //! Logs in the extended log file format of the W3C, as IIS writes them.
 //!
-//! A crate above may rely on what `IisW3c` makes of each line under the columns in force, on the columns that a line
-//! leaves in force, and on the table of fields: its names, in order, and how each is read. `specs` has the definitions.
+//! A crate above may rely on what `IisW3c` makes of each line under the columns in force, and on the columns that a line
+//! leaves in force. `specs` has the definitions.
 #![tactic(auto)]
 
 mod directive;
 mod fields;
 mod reader;
 mod row;
-mod table;
 #[cfg(test)]
 mod tests;
 
 pub use reader::IisW3c;
-pub use table::{iis_names, iis_reading};

@@ -10,7 +10,7 @@ returns-then-options-clause-columns c =
 
 pub returns-else-options-clause-reading : goal.returns-else-options-clause-reading
 returns-else-options-clause-reading c =
-    IfOk-weaker c.take_first_row.result _ _ (λ taken told. row_first c.args.options c.args.line.now (fields_in c.args.options c.args.line.now) c.in_ok-cut.cut c.in_ok-cut.ensures (reading_in c.args.line.now taken) c.if-options.false (told c.args.line.now)) c.take_first_row.ensures.reading
+    IfOk-weaker c.take_first_row.result _ _ (λ taken told. row_first c.args.options c.args.line.now (fields_in c.args.options c.args.line.now) c.in_ok-cut.cut c.in_ok-cut.ensures (reading_in c.args.line.now c.take_first_row.new.row taken) c.if-options.false (told c.args.line.now)) c.take_first_row.ensures.reading
 
 pub returns-else-options-clause-columns : goal.returns-else-options-clause-columns
 returns-else-options-clause-columns c =

@@ -5,4 +5,4 @@ use Rattle.ncsa_input.proofs.Rows.{ReadTo}
 use Rattle.ncsa_input.proofs.row.read_fields.Given as goal
 
 abbrev pub invariant-loop-shape : goal.invariant-loop-shape
-invariant-loop-shape l = record { items : l.shape-items ≡ SHAPES; read : ReadTo l.line l.at l.shape-index (slots_of l.line l.fields) }
+invariant-loop-shape l = record { items : l.shape-items ≡ SHAPES; read : ReadTo l.line l.at l.shape-index (slots_of l.line l.row) }

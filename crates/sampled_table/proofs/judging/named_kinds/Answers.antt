@@ -9,18 +9,18 @@ use Rattle.sampled_table.proofs.judging.named_kinds.Goals as goal
 abbrev named : List ℕ → Kind → NamedKind
 named name kind = record { name = name; kind = kind }
 
-pub loop-name-preserved : goal.loop-name-preserved
-loop-name-preserved c =
+pub loop-column-preserved : goal.loop-column-preserved
+loop-column-preserved c =
     let kinds = c.args.kinds.now in
     let make : ℕ → List ℕ → NamedKind = λ at name. named name (get_or kinds at K.Any) in
-    let items = c.as_slice-name-items.result.now in
-    let i = c.loop-name.name-index in
-    let name = c.name-item.result in
-    let same = c.loop-name.invariant.at in
+    let items = c.as_slice-column-items.result.now in
+    let i = c.loop-column.column-index in
+    let name = c.column-item.result in
+    let same = c.loop-column.invariant.at in
     let made = ap₂ named c.in_ok-name.ensures (c.kind_at-kind.ensures ∙ ap (λ n. get_or kinds n K.Any) same) in
     record {
       at = ap (λ n. n + 1) same;
-      columns = c.loop-name.invariant.columns
-          ∙ (indexed_step make items i name c.loop-name.columns (named c.in_ok-name.name c.kind_at-kind.result) c.loop-name-test.true c.name-item.is made
+      columns = c.loop-column.invariant.columns
+          ∙ (indexed_step make items i name c.loop-column.columns (named c.in_ok-name.name c.kind_at-kind.result) c.loop-column-test.true c.column-item.is made
           ∙ ap (λ front. front ++ indexed make (i + 1) (drop (i + 1) items)) (sym c.in_ok-push.ensures.ok));
     }

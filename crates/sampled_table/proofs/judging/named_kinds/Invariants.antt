@@ -3,9 +3,9 @@ use Rattle.lp_values.specs.declared.kind.Kind.TheVariants as K
 use Rattle.sampled_table.specs.Fields.{indexed}
 use Rattle.sampled_table.proofs.judging.named_kinds.Given as goal
 
-abbrev pub invariant-loop-name : goal.invariant-loop-name
-invariant-loop-name l = record {
-  at : l.at ≡ l.name-index;
-  columns : indexed (λ at name. record { name = name; kind = get_or l.kinds at K.Any }) 0 l.name-items
-      ≡ l.columns ++ indexed (λ at name. record { name = name; kind = get_or l.kinds at K.Any }) l.name-index (drop l.name-index l.name-items);
+abbrev pub invariant-loop-column : goal.invariant-loop-column
+invariant-loop-column l = record {
+  at : l.at ≡ l.column-index;
+  columns : indexed (λ at name. record { name = name; kind = get_or l.kinds at K.Any }) 0 l.column-items
+      ≡ l.columns ++ indexed (λ at name. record { name = name; kind = get_or l.kinds at K.Any }) l.column-index (drop l.column-index l.column-items);
 }

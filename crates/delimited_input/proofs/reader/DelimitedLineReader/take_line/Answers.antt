@@ -40,7 +40,7 @@ returns-in_default c =
     let same : c.self.inside.options ≡ c.args.self.now = search rules in
     record {
       reading = IfOk-weaker c.take_filled.result _ _ (λ taken told. told ∙ (ap (λ (o : DelimitedOptions). filled_reading o (fields_in o line) old) same ∙ filled_is c.args.self.now line old filled whole)) c.take_filled.ensures.reading;
-      few = IfOk-weaker c.take_filled.result _ _ (λ taken told. few_rows c.self.inside.options line (reading_in line taken) (fields_in c.self.inside.options line) old told) c.take_filled.ensures.reading;
+      few = IfOk-weaker c.take_filled.result _ _ (λ taken told. few_rows c.self.inside.options line (reading_in line c.take_filled.new.row taken) (fields_in c.self.inside.options line) old told) c.take_filled.ensures.reading;
       lines = c.take_filled.ensures.lines;
       columns = on_ok_weaker c.take_filled.result (λ told. filled_behind c.args.self.now line old new filled whole (told ∙ ap (λ (o : DelimitedOptions). filled_columns o (fields_in o line) old) same)) c.take_filled.ensures.columns;
       err = c.take_filled.ensures.err;
