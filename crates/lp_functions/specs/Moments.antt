@@ -30,3 +30,8 @@ abbrev pub to_timestamp : Value → Value → Value
 to_timestamp (Text text) (Text pattern) = read_by (pattern_in pattern) text
 to_timestamp (Stamp date) (Stamp time) = stamp_value Both (joined date.seconds time.seconds)
 to_timestamp a b = Null
+
+-- a text read as a stamp by a pattern that is known
+abbrev pub read_as : List Piece → Value → Value
+read_as pattern (Text text) = read_by (Ok pattern) text
+read_as pattern value = Null

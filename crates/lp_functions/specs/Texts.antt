@@ -29,3 +29,8 @@ written_by (Err at) stamp = Null
 abbrev pub to_string_by : Value → Value → Value
 to_string_by (Stamp stamp) (Text pattern) = written_by (pattern_in pattern) stamp
 to_string_by a b = Null
+
+-- a stamp written by a pattern that is known
+abbrev pub written_as : List Piece → Value → Value
+written_as pattern (Stamp stamp) = written_by (Ok pattern) stamp
+written_as pattern value = Null

@@ -10,7 +10,7 @@ ghost use Rattle.lp_functions.specs.Applied.{applied, applied_to_one, applied_to
 
 use crate::Function;
 use crate::addresses::{int_to_ipv4, ipv4_to_int};
-use crate::choices::{coalesced, replaced_if_not_null};
+use crate::choices::{coalesced, coalesced_pair, coalesced_triple, replaced_if_not_null};
 use crate::counting::{index_of_value, last_index_of_value, strcnt_value, strlen_value};
 use crate::cutting::{
     extract_extension_value, extract_filename_value, extract_path_value, ltrim_value,
@@ -45,13 +45,14 @@ fn apply_to(alloc: Global, function: Function, arguments: &[Value]) -> Result<Va
     match arguments {
         [] => Ok(Value::Null),
         [a] => apply_to_one(alloc, function, a),
-        [a, b] => apply_to_two(alloc, function, arguments, a, b),
-        [a, b, c] => apply_to_three(alloc, function, arguments, a, b, c),
+        [a, b] => apply_to_two(alloc, function, a, b),
+        [a, b, c] => apply_to_three(alloc, function, a, b, c),
         _ => apply_to_more(alloc, function, arguments),
     }
 }
 
-fn apply_to_one(alloc: Global, function: Function, a: &Value) -> Result<Value, AllocError>
+/// The value of a function over one argument.
+pub fn apply_to_one(alloc: Global, function: Function, a: &Value) -> Result<Value, AllocError>
     ensures { IfOk result (λ value. value ≡ applied_to_one function a.now) }
 {
     match function {
@@ -77,14 +78,13 @@ fn apply_to_one(alloc: Global, function: Function, a: &Value) -> Result<Value, A
     }
 }
 
-fn apply_to_two(
+/// The value of a function over two arguments.
+pub fn apply_to_two(
     alloc: Global,
     function: Function,
-    both: &[Value],
     a: &Value,
     b: &Value,
 ) -> Result<Value, AllocError>
-    requires { both.now ≡ a.now ∷ b.now ∷ [] }
     ensures { IfOk result (λ value. value ≡ applied_to_two function a.now b.now) }
 {
     match function {
@@ -103,21 +103,20 @@ fn apply_to_two(
         Function::ExtractValue => value_of_query_value(alloc, a, b),
         Function::ToString => to_string_by(alloc, a, b),
         Function::ToTimestamp => Ok(to_timestamp(a, b)),
-        Function::Coalesce | Function::ReplaceIfNull => coalesced(alloc, both),
+        Function::Coalesce | Function::ReplaceIfNull => coalesced_pair(alloc, a, b),
         Function::ReplaceIfNotNull => replaced_if_not_null(alloc, a, b),
         _ => Ok(Value::Null),
     }
 }
 
-fn apply_to_three(
+/// The value of a function over three arguments.
+pub fn apply_to_three(
     alloc: Global,
     function: Function,
-    all: &[Value],
     a: &Value,
     b: &Value,
     c: &Value,
 ) -> Result<Value, AllocError>
-    requires { all.now ≡ a.now ∷ b.now ∷ c.now ∷ [] }
     ensures { IfOk result (λ value. value ≡ applied_to_three function a.now b.now c.now) }
 {
     match function {
@@ -128,7 +127,7 @@ fn apply_to_three(
         Function::ExtractValue => extract_value_value(alloc, a, b, c),
         Function::ExtractPrefix => extract_prefix_value(alloc, a, b, c),
         Function::ExtractSuffix => extract_suffix_value(alloc, a, b, c),
-        Function::Coalesce => coalesced(alloc, all),
+        Function::Coalesce => coalesced_triple(alloc, a, b, c),
         _ => Ok(Value::Null),
     }
 }

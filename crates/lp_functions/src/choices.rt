@@ -1,5 +1,5 @@
 // Values that stand for NULL.
-ghost use Rattle.std.specs.Prelude.{◌≡◌, IfOk, option_map};
+ghost use Rattle.std.specs.Prelude.{◌≡◌, ◌∷◌, [], IfOk, if◌then◌else◌, option_map};
 ghost use Rattle.std.specs.List.{list_all};
 ghost use Rattle.lp_functions.specs.Choices.{is_of, is_null, first_value, coalesced, replaced_if_not_null};
 
@@ -41,6 +41,42 @@ pub(crate) fn coalesced(alloc: Global, values: &[Value]) -> Result<Value, AllocE
     match first_value(values) {
         Some(first) if are_of(first.kind(), values) => first.copy(alloc),
         _ => Ok(Value::Null),
+    }
+}
+
+// The first of two that isn't NULL, else the second.
+fn first_of<'a>(a: &'a Value, b: &'a Value) -> &'a Value
+    ensures { result.now ≡ (if is_null a.now then b.now else a.now) }
+{
+    if is_null(a) { b } else { a }
+}
+
+pub(crate) fn coalesced_pair(alloc: Global, a: &Value, b: &Value) -> Result<Value, AllocError>
+    ensures { IfOk result (λ value. value ≡ coalesced (a.now ∷ b.now ∷ [])) }
+{
+    let first = first_of(a, b);
+    let kind = first.kind();
+    if is_of(kind, a) && is_of(kind, b) {
+        first.copy(alloc)
+    } else {
+        Ok(Value::Null)
+    }
+}
+
+pub(crate) fn coalesced_triple(
+    alloc: Global,
+    a: &Value,
+    b: &Value,
+    c: &Value,
+) -> Result<Value, AllocError>
+    ensures { IfOk result (λ value. value ≡ coalesced (a.now ∷ b.now ∷ c.now ∷ [])) }
+{
+    let first = first_of(a, first_of(b, c));
+    let kind = first.kind();
+    if is_of(kind, a) && is_of(kind, b) && is_of(kind, c) {
+        first.copy(alloc)
+    } else {
+        Ok(Value::Null)
     }
 }
 

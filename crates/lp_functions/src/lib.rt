@@ -21,5 +21,7 @@ mod texts;
 mod tokens;
 mod urls;
 
-pub use applying::apply;
+pub use applying::{apply, apply_to_one, apply_to_three, apply_to_two};
 pub use function::Function;
+pub use moments::{read_as, to_date, to_time};
+pub use texts::write_as;

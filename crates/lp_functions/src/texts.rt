@@ -1,12 +1,13 @@
 // Values as texts.
-ghost use Rattle.std.specs.Prelude.{◌≡◌, IfOk, option_copied};
+ghost use Rattle.std.specs.Prelude.{◌≡◌, ℕ, List, Ok, IfOk, option_copied};
+ghost use Rattle.lp_time.specs.Patterns.{pattern_in};
 ghost use Rattle.std.specs.Fmt.{signed_decimal};
 ghost use Rattle.std.specs.Str.Lossy.{utf8_lossy};
 ghost use Rattle.lp_values.specs.Civil.{civil_of};
 ghost use Rattle.lp_values.specs.Printed.{printed, printed_real, printed_stamp};
 ghost use Rattle.lp_time.specs.Writings.{written};
 ghost use Rattle.slot_reading.specs.Slots.{or_null};
-ghost use Rattle.lp_functions.specs.Texts.{text_value, to_string, to_string_by};
+ghost use Rattle.lp_functions.specs.Texts.{text_value, to_string, to_string_by, written_as};
 
 use itoa::Buffer;
 use lp_time::{Pattern, write_stamp};
@@ -115,5 +116,16 @@ pub(crate) fn to_string_by(alloc: Global, a: &Value, b: &Value) -> Result<Value,
             Err(_) => Ok(Value::Null),
         },
         _ => Ok(Value::Null),
+    }
+}
+
+/// A stamp written by a pattern; NULL for any other value.
+pub fn write_as(alloc: Global, pattern: &Pattern, value: &Value) -> Result<Value, AllocError>
+    ensures value { IfOk result (λ text. text ≡ written_as pattern.now value.now) }
+    ensures same { (text : List ℕ) → pattern_in text ≡ Ok pattern.now → written_as pattern.now value.now ≡ to_string_by value.now (Value.Text text) }
+{
+    match value {
+        Value::Stamp(stamp) => Ok(text_value(written_text(alloc, pattern, *stamp)?)),
+        Value::Null | Value::Int(_) | Value::Real(_) | Value::Text(_) => Ok(Value::Null),
     }
 }

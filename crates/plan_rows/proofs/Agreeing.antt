@@ -5,11 +5,10 @@ use Rattle.lp_values.specs.declared.value.Value.TheVariants.{Null}
 use Rattle.lp_values.specs.declared.comparison.Compare.TheVariants as how
 use Rattle.lp_values.specs.Comparing.{compared as comparison, truth_of}
 use Rattle.lp_values.specs.Truths.{both as and_both, either as or_either, opposite as not_it}
-use Rattle.query_types.specs.declared.meaning.Meaning.{Meaning}
-use Rattle.query_types.specs.declared.meaning.Meaning.TheVariants.{Column, Other, Constant}
-use Rattle.query_types.specs.Conditions.{Filter, either, both, opposite, compared, null, between, within, is_column, are_column, mentions}
+use Rattle.query_types.specs.Terms.{Term, column, other, constant, made, Terms, no_terms, more_terms, has_column, have_column, any_has_column}
+use Rattle.query_types.specs.Conditions.{Filter, either, both, opposite, compared, null, like, between, within, mentions}
 use Rattle.query_types.specs.Planned.{is_mentioned}
-use Rattle.row_engine.specs.Rows.{value_in, among, truth_in, keeps, selected_in, is_null, turned, is_yes}
+use Rattle.row_engine.specs.Rows.{value_in, values_in, made_by, among, truth_in, keeps, selected_in, is_null, is_yes, likeness, turned}
 
 -- two rows agree in the columns for which a test holds
 abbrev pub Agree : List Value → List Value → (ℕ → Bool) → Type 0
@@ -25,28 +24,36 @@ or_right false b is = is
 same : (n : ℕ) → (n == n) ≡ true
 same n = search (rules, arith)
 
-value_same : (values row : List Value) (m : Meaning) → Agree values row (λ k. is_column k m) → value_in values m ≡ value_in row m
-value_same values row (Column i) is = is i (same i)
-value_same values row Other is = refl
-value_same values row (Constant v) is = refl
+mutual
+  pub value_same : (values row : List Value) (term : Term) → Agree values row (λ k. has_column k term) → value_in values term ≡ value_in row term
+  value_same values row (column n) is = is n (same n)
+  value_same values row other is = refl
+  value_same values row (constant value) is = refl
+  value_same values row (made kind by of) is = ap (made_by by) (values_same values row of is)
 
-pub selected_same : (values row : List Value) (items : List Meaning) → Agree values row (λ k. are_column k items) → selected_in values items ≡ selected_in row items
+  pub values_same : (values row : List Value) (terms : Terms) → Agree values row (λ k. have_column k terms) → values_in values terms ≡ values_in row terms
+  values_same values row no_terms is = refl
+  values_same values row (more_terms term terms) is =
+      ap₂ (λ (v : Value) (vs : List Value). v ∷ vs) (value_same values row term (λ k h. is k (or_left _ _ h))) (values_same values row terms (λ k h. is k (or_right _ _ h)))
+
+pub selected_same : (values row : List Value) (items : List Term) → Agree values row (λ k. any_has_column k items) → selected_in values items ≡ selected_in row items
 selected_same values row [] is = refl
-selected_same values row (m ∷ ms) is =
-    ap₂ (λ (x : Value) (xs : List Value). x ∷ xs) (value_same values row m (λ k h. is k (or_left _ _ h))) (selected_same values row ms (λ k h. is k (or_right _ _ h)))
+selected_same values row (item ∷ items) is =
+    ap₂ (λ (v : Value) (vs : List Value). v ∷ vs) (value_same values row item (λ k h. is k (or_left _ _ h))) (selected_same values row items (λ k h. is k (or_right _ _ h)))
 
-among_same : (values row : List Value) (v : Value) (items : List Meaning) → Agree values row (λ k. are_column k items) → among values v items ≡ among row v items
+among_same : (values row : List Value) (v : Value) (items : List Term) → Agree values row (λ k. any_has_column k items) → among values v items ≡ among row v items
 among_same values row v [] is = refl
-among_same values row v (m ∷ ms) is =
-    ap₂ or_either (ap (comparison how.Equal v) (value_same values row m (λ k h. is k (or_left _ _ h)))) (among_same values row v ms (λ k h. is k (or_right _ _ h)))
+among_same values row v (item ∷ items) is =
+    ap₂ or_either (ap (comparison how.Equal v) (value_same values row item (λ k h. is k (or_left _ _ h)))) (among_same values row v items (λ k h. is k (or_right _ _ h)))
 
-truth_same : (values row : List Value) (f : Filter) → Agree values row (λ k. mentions k f) → truth_in values f ≡ truth_in row f
+pub truth_same : (values row : List Value) (filter : Filter) → Agree values row (λ k. mentions k filter) → truth_in values filter ≡ truth_in row filter
 truth_same values row (either a b) is = ap₂ or_either (truth_same values row a (λ k h. is k (or_left _ _ h))) (truth_same values row b (λ k h. is k (or_right _ _ h)))
 truth_same values row (both a b) is = ap₂ and_both (truth_same values row a (λ k h. is k (or_left _ _ h))) (truth_same values row b (λ k h. is k (or_right _ _ h)))
 truth_same values row (opposite a) is = ap not_it (truth_same values row a is)
 truth_same values row (compared sign left right) is =
     ap₂ (comparison sign) (value_same values row left (λ k h. is k (or_left _ _ h))) (value_same values row right (λ k h. is k (or_right _ _ h)))
 truth_same values row (null value negated) is = ap (λ (v : Value). turned negated (truth_of (is_null v))) (value_same values row value is)
+truth_same values row (like value pattern negated) is = ap (λ (v : Value). turned negated (likeness v pattern)) (value_same values row value is)
 truth_same values row (between value low high negated) is =
     let one = value_same values row value (λ k h. is k (or_left _ _ (or_left _ _ h))) in
     let two = value_same values row low (λ k h. is k (or_left _ _ (or_right _ _ h))) in
@@ -59,4 +66,4 @@ truth_same values row (within value items negated) is =
 
 pub keeps_same : (values row : List Value) (condition : Option Filter) → Agree values row (λ k. is_mentioned k condition) → keeps condition values ≡ keeps condition row
 keeps_same values row None is = refl
-keeps_same values row (Some f) is = ap is_yes (truth_same values row f is)
+keeps_same values row (Some filter) is = ap is_yes (truth_same values row filter is)

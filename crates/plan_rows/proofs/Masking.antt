@@ -2,7 +2,7 @@
 use Rattle.std.proofs.Common.{◌≡◌, ℕ, zero, suc, ◌+◌, ◌<◌, ◌≤◌, length, Bool, true, false, List, [], ◌∷◌, get_or, Option, refl, ap, subst, arith}
 use Rattle.lp_values.specs.declared.value.Value.{Value}
 use Rattle.lp_values.specs.declared.value.Value.TheVariants.{Null}
-use Rattle.query_types.specs.declared.meaning.Meaning.{Meaning}
+use Rattle.query_types.specs.Terms.{Term}
 use Rattle.query_types.specs.Conditions.{Filter}
 use Rattle.query_types.specs.Planned.{Covers, is_mentioned}
 use Rattle.row_engine.specs.Rows.{keeps, selected_in}
@@ -27,6 +27,6 @@ pub keeps_masked : (used : List Bool) (row : List Value) (condition : Option Fil
     → keeps condition (masked used row 0) ≡ keeps condition row
 keeps_masked used row condition fits mentioned = keeps_same (masked used row 0) row condition (λ k h. masked_from used row k (λ within. mentioned k (omega arith) h))
 
-pub items_masked : (used : List Bool) (row : List Value) (items : List Meaning) (condition : Option Filter) → length row ≤ length used → Covers used items condition
+pub items_masked : (used : List Bool) (row : List Value) (items : List Term) (condition : Option Filter) → length row ≤ length used → Covers used items condition
     → selected_in (masked used row 0) items ≡ selected_in row items
 items_masked used row items condition fits c = selected_same (masked used row 0) row items (λ k h. masked_from used row k (λ within. c.item k (omega arith) h))

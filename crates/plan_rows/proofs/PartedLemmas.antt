@@ -1,7 +1,7 @@
 -- The parting of a plan's columns.
 use Rattle.std.proofs.Common.{◌≡◌, ℕ, ◌<◌, ◌≤◌, Bool, true, false, ◌||◌, List, length, get_or, Option, inl, inr, refl, arith}
 use Rattle.std.proofs.lemmas.Bool.{cases_Bool}
-use Rattle.query_types.specs.declared.meaning.Meaning.{Meaning}
+use Rattle.query_types.specs.Terms.{Term}
 use Rattle.query_types.specs.Conditions.{Filter}
 use Rattle.query_types.specs.Planned.{Covers, is_mentioned}
 use Rattle.plan_rows.specs.Picks.{Parted, is_among}
@@ -15,7 +15,7 @@ or_other : (a b : Bool) → (a ≡ false → b ≡ true) → (a || b) ≡ true
 or_other true b is = refl
 or_other false b is = is refl
 
-pub parted_all : (used : List Bool) (at : ℕ) (asked rest : List ℕ) (items : List Meaning) (condition : Option Filter) → length used ≤ at → Covers used items condition → PartedTo used at asked rest condition
+pub parted_all : (used : List Bool) (at : ℕ) (asked rest : List ℕ) (items : List Term) (condition : Option Filter) → length used ≤ at → Covers used items condition → PartedTo used at asked rest condition
     → Parted (length used) asked rest items condition
 parted_all used at asked rest items condition all covers parted = record {
   mentioned = λ k within h. parted.mentioned k (omega arith) (covers.mentioned k within h) h;

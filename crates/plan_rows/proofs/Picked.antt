@@ -4,8 +4,8 @@ use Rattle.std.proofs.lemmas.Bool.{cases_Bool, cases_lt, or_cases}
 use Rattle.std.proofs.lemmas.List.{get_or_past}
 use Rattle.lp_values.specs.declared.value.Value.{Value}
 use Rattle.lp_values.specs.declared.value.Value.TheVariants.{Null}
-use Rattle.query_types.specs.declared.meaning.Meaning.{Meaning}
-use Rattle.query_types.specs.Conditions.{Filter, are_column}
+use Rattle.query_types.specs.Terms.{Term, any_has_column}
+use Rattle.query_types.specs.Conditions.{Filter}
 use Rattle.query_types.specs.Planned.{is_mentioned}
 use Rattle.row_engine.specs.Rows.{keeps, selected_in}
 use Rattle.log_reading.specs.Found.{Found}
@@ -23,7 +23,7 @@ agree_past : (values row : List Value) (k many : ℕ) → length values ≡ many
 agree_past values row k many size fits past = get_or_past values k Null (omega arith) ∙ sym (get_or_past row k Null (omega arith))
 
 -- once the columns that WHERE asks are read, it tells the truth of the whole row
-asked_agree : (many : ℕ) (asked rest : List ℕ) (items : List Meaning) (condition : Option Filter) (row old values : List Value) → length row ≤ many → length old ≡ many → Parted many asked rest items condition → Put asked row old values
+asked_agree : (many : ℕ) (asked rest : List ℕ) (items : List Term) (condition : Option Filter) (row old values : List Value) → length row ≤ many → length old ≡ many → Parted many asked rest items condition → Put asked row old values
     → Agree values row (λ k. is_mentioned k condition)
 asked_agree many asked rest items condition row old values fits size parted put = λ k h. elim (cases_lt k many) [
   | inl within ↦ put.put k (parted.mentioned k within h)
@@ -31,8 +31,8 @@ asked_agree many asked rest items condition row old values fits size parted put 
 ]
 
 -- once the others are read too, SELECT takes of them what it takes of the whole row
-items_agree : (many : ℕ) (asked rest : List ℕ) (items : List Meaning) (condition : Option Filter) (row old values all : List Value) → length row ≤ many → length old ≡ many → Parted many asked rest items condition → Put asked row old values → Put rest row values all
-    → Agree all row (λ k. are_column k items)
+items_agree : (many : ℕ) (asked rest : List ℕ) (items : List Term) (condition : Option Filter) (row old values all : List Value) → length row ≤ many → length old ≡ many → Parted many asked rest items condition → Put asked row old values → Put rest row values all
+    → Agree all row (λ k. any_has_column k items)
 items_agree many asked rest items condition row old values all fits size parted first second = λ k h. elim (cases_lt k many) [
   | inr past ↦ agree_past all row k many (second.size ∙ (first.size ∙ size)) fits past
   | inl within ↦ elim (cases_Bool (is_among k rest)) [
@@ -45,7 +45,7 @@ items_agree many asked rest items condition row old values all fits size parted 
 ]
 
 -- a record whose row isn't kept
-pub picks_none : (many : ℕ) (asked rest : List ℕ) (readings : List Reading) (items : List Meaning) (condition : Option Filter) (found : Found) (old values : List Value)
+pub picks_none : (many : ℕ) (asked rest : List ℕ) (readings : List Reading) (items : List Term) (condition : Option Filter) (found : Found) (old values : List Value)
     → length readings + 2 ≤ many → length old ≡ many → Parted many asked rest items condition → Put asked (table_row readings found) old values → keeps condition values ≡ false
     → None ≡ plan_picks readings items condition found
 picks_none many asked rest readings items condition found old values fits room parted put kept =
@@ -55,7 +55,7 @@ picks_none many asked rest readings items condition found old values fits room p
     sym (ap (λ (b : Bool). if_kept b (selected_in row items)) (sym same ∙ kept))
 
 -- a record whose row is kept
-pub picks_some : (many : ℕ) (asked rest : List ℕ) (readings : List Reading) (items : List Meaning) (condition : Option Filter) (found : Found) (old values all out : List Value)
+pub picks_some : (many : ℕ) (asked rest : List ℕ) (readings : List Reading) (items : List Term) (condition : Option Filter) (found : Found) (old values all out : List Value)
     → length readings + 2 ≤ many → length old ≡ many → Parted many asked rest items condition → Put asked (table_row readings found) old values → keeps condition values ≡ true
     → Put rest (table_row readings found) values all → out ≡ selected_in all items → Some out ≡ plan_picks readings items condition found
 picks_some many asked rest readings items condition found old values all out fits room parted first kept second out_is =

@@ -7,8 +7,8 @@ use Rattle.lp_values.specs.declared.value.Value.TheVariants.{Null, Int, Text}
 use Rattle.log_reading.specs.Found.{Found}
 use Rattle.slot_reading.specs.declared.reading.Reading.{Reading}
 use Rattle.slot_reading.specs.Slots.{value_of}
-use Rattle.query_types.specs.declared.meaning.Meaning.{Meaning}
-use Rattle.query_types.specs.Conditions.{Filter, are_column}
+use Rattle.query_types.specs.Terms.{Term, any_has_column}
+use Rattle.query_types.specs.Conditions.{Filter}
 use Rattle.query_types.specs.Planned.{is_mentioned}
 use Rattle.row_engine.specs.Rows.{keeps, selected_in}
 
@@ -34,7 +34,7 @@ if_kept true row = Some row
 if_kept false row = None
 
 -- the output row of a record, if its condition is Yes
-abbrev pub plan_picks : List Reading → List Meaning → Option Filter → Found → Option (List Value)
+abbrev pub plan_picks : List Reading → List Term → Option Filter → Found → Option (List Value)
 plan_picks readings items condition found = let row = table_row readings found in if_kept (keeps condition row) (selected_in row items)
 
 -- a value where it is used, else NULL
@@ -58,6 +58,6 @@ pub record Put (columns : List ℕ) (row old new : List Value) : Type 0 where
   pub kept : (k : ℕ) → is_among k columns ≡ false → get_or new k Null ≡ get_or old k Null
 
 -- a plan's columns, of so many, in two parts: those that WHERE asks, and the others that SELECT takes
-pub record Parted (many : ℕ) (asked rest : List ℕ) (items : List Meaning) (condition : Option Filter) : Type 0 where
+pub record Parted (many : ℕ) (asked rest : List ℕ) (items : List Term) (condition : Option Filter) : Type 0 where
   pub mentioned : (k : ℕ) → k < many → is_mentioned k condition ≡ true → is_among k asked ≡ true
-  pub item : (k : ℕ) → k < many → are_column k items ≡ true → (is_among k asked || is_among k rest) ≡ true
+  pub item : (k : ℕ) → k < many → any_has_column k items ≡ true → (is_among k asked || is_among k rest) ≡ true

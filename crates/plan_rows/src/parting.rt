@@ -1,11 +1,11 @@
 // A plan's columns in two parts: those that WHERE asks, and those that can wait until it keeps a record.
 ghost use Rattle.std.specs.Prelude.{◌≡◌, length, option_map, IfOk};
-ghost use Rattle.query_types.specs.Conditions.{filter_of, is_column, are_column, mentions};
+ghost use Rattle.query_types.specs.Conditions.{filter_of};
 ghost use Rattle.query_types.specs.Planned.{Covers, is_mentioned};
 ghost use Rattle.plan_rows.specs.Picks.{Parted};
 
 use lp_values::ListOf;
-use query_types::{Condition, Meaning, MeaningList, Plan};
+use query_types::{Condition, Plan, mentions};
 use std::alloc::{AllocError, Global};
 
 /// Places in a table's row.
@@ -18,53 +18,6 @@ pub(crate) struct Parts {
     pub(crate) asked: PlaceList,
     /// The others.
     pub(crate) rest: PlaceList,
-}
-
-fn is_column(column: usize, meaning: &Meaning) -> bool
-    ensures { result ≡ is_column column meaning.now }
-{
-    match meaning {
-        Meaning::Column(index) => *index == column,
-        Meaning::Other => false,
-        Meaning::Constant(_) => false,
-    }
-}
-
-fn are_column(column: usize, meanings: &MeaningList) -> bool
-    ensures { result ≡ are_column column meanings.now }
-{
-    meanings
-        .as_slice()
-        .iter()
-        .any(|meaning| is_column(column, meaning))
-}
-
-// Whether a condition asks a column.
-fn mentions(column: usize, condition: &Condition) -> bool
-    ensures { result ≡ mentions column (filter_of condition.now) }
-{
-    match condition {
-        Condition::Or(left, right) => mentions(column, left) || mentions(column, right),
-        Condition::And(left, right) => mentions(column, left) || mentions(column, right),
-        Condition::Not(inner) => mentions(column, inner),
-        Condition::Compare {
-            how: _,
-            left,
-            right,
-        } => is_column(column, left) || is_column(column, right),
-        Condition::IsNull { value, negated: _ } => is_column(column, value),
-        Condition::Between {
-            value,
-            low,
-            high,
-            negated: _,
-        } => is_column(column, value) || is_column(column, low) || is_column(column, high),
-        Condition::Within {
-            value,
-            items,
-            negated: _,
-        } => is_column(column, value) || are_column(column, items),
-    }
 }
 
 // Whether WHERE asks a column.

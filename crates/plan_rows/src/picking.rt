@@ -70,7 +70,7 @@ impl Picker for PlanPicker {
             fields,
             values,
         )?;
-        if !passes(&self.plan, values) {
+        if !passes(alloc, &self.plan, values)? {
             return Ok(false);
         }
         read_columns(

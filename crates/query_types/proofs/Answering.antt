@@ -1,7 +1,7 @@
 -- Answers handed on.
 use Rattle.std.proofs.Common.{◌≡◌, List, [], ◌∷◌, ◌++◌, Result, Ok, Err, IsErrAnd, refl, sym, ap, subst, append_assoc}
 use Rattle.query_types.specs.declared.fault.TypeFault.{TypeFault}
-use Rattle.query_types.specs.declared.fault.TypeFault.TheVariants.{UnknownField, UnknownFunction, KindMismatch, TooFewColumns, Memory}
+use Rattle.query_types.specs.declared.fault.TypeFault.TheVariants.{UnknownField, UnknownFunction, KindMismatch, WrongArity, TooFewColumns, BadPattern, Memory}
 use Rattle.query_types.specs.Meanings.{Answers, added, joined}
 
 -- a fault that one call answers is another's
@@ -10,7 +10,9 @@ pub hands_on : {A B C D : Type 0} (view : A → B) (other : C → D) (fault : Ty
 hands_on view other (UnknownField at) from to is next = next is
 hands_on view other (UnknownFunction at) from to is next = next is
 hands_on view other (KindMismatch at) from to is next = next is
+hands_on view other (WrongArity at) from to is next = next is
 hands_on view other (TooFewColumns at) from to is next = next is
+hands_on view other (BadPattern at) from to is next = next is
 hands_on view other Memory from to is next = tt
 
 -- a fault that a `?` hands on

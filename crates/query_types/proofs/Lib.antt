@@ -1,6 +1,11 @@
 mod Answering
+mod Arguments
+mod Existing
+pub mod Forms
 mod Lists
+mod Meant
 mod Parts
+mod Spellings
 mod Steps
 mod Using
 mod Whole

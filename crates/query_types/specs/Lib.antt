@@ -1,3 +1,6 @@
+pub mod Terms
+pub mod Codes
+pub mod Calls
 pub mod Meanings
 pub mod Conditions
 pub mod Names

@@ -1,9 +1,10 @@
 -- The names of output columns.
-use Rattle.std.specs.Prelude.{ℕ, List, [], ◌∷◌, ◌++◌, flat_map, codes, ◌==◌, if◌then◌else◌, Option, Some, None}
+use Rattle.std.specs.Prelude.{ℕ, List, [], ◌∷◌, ◌++◌, flat_map, map, codes, ◌==◌, if◌then◌else◌, Option, Some, None}
+use Rattle.std.specs.Char.{to_ascii_uppercase}
 use Rattle.std.specs.Fmt.{signed_decimal}
 use Rattle.std.specs.List.{find}
 use Rattle.std.specs.Str.{str_eq_ignore_ascii_case}
-use Rattle.grammar.specs.Trees.{Tree}
+use Rattle.grammar.specs.Trees.{Tree, Trees, no_trees, more_trees, Whens, no_whens, more_whens, Otherwise, no_else, an_else, Placed}
 use Rattle.grammar.specs.Trees.{Tree as tree}
 use Rattle.lp_values.specs.Printed.{printed_real}
 use Rattle.query_types.specs.declared.table.NamedKind.{NamedKind}
@@ -31,18 +32,38 @@ column_spelled (Some column) alias name = column.name
 abbrev pub word_spelled : TableColumns → List Alias → List ℕ → List ℕ
 word_spelled table aliases name = column_spelled (find (λ column. str_eq_ignore_ascii_case column.name name) table.columns) (alias_named aliases name) name
 
--- an expression as the name of its column; calls aren't built yet
-abbrev pub spelled : TableColumns → List Alias → Tree → List ℕ
-spelled table aliases (tree.Integer at value) = signed_decimal value
-spelled table aliases (tree.Real at value) = printed_real value
-spelled table aliases (tree.Text at value) = quoted value
-spelled table aliases (tree.Null at) = codes "NULL"
-spelled table aliases (tree.Timestamp at value pattern) = []
-spelled table aliases (tree.Word at name) = word_spelled table aliases name
-spelled table aliases (tree.Call at name arguments) = []
-spelled table aliases (tree.CountAll at) = []
-spelled table aliases (tree.PropCountAll at) = []
-spelled table aliases (tree.Case at subject branches otherwise) = []
+-- TIMESTAMP
+abbrev pub stamp_spelled : Placed → Placed → List ℕ
+stamp_spelled value pattern = codes "TIMESTAMP(" ++ quoted value.text ++ codes ", " ++ quoted pattern.text ++ codes ")"
+
+abbrev mutual
+  -- an expression as the name of its column; aggregates aren't built yet
+  pub spelled : TableColumns → List Alias → Tree → List ℕ
+  spelled table aliases (tree.Integer at value) = signed_decimal value
+  spelled table aliases (tree.Real at value) = printed_real value
+  spelled table aliases (tree.Text at value) = quoted value
+  spelled table aliases (tree.Null at) = codes "NULL"
+  spelled table aliases (tree.Timestamp at value pattern) = stamp_spelled value pattern
+  spelled table aliases (tree.Word at name) = word_spelled table aliases name
+  spelled table aliases (tree.Call at name es) = map to_ascii_uppercase name ++ codes "(" ++ all_spelled table aliases [] es ++ codes ")"
+  spelled table aliases (tree.CountAll at) = []
+  spelled table aliases (tree.PropCountAll at) = []
+  spelled table aliases (tree.Case at subject branches otherwise) =
+      codes "CASE " ++ spelled table aliases subject ++ branches_spelled table aliases branches ++ else_spelled table aliases otherwise ++ codes " END"
+
+  -- expressions, the first behind this, the others each behind a comma and a space
+  pub all_spelled : TableColumns → List Alias → List ℕ → Trees → List ℕ
+  all_spelled table aliases separator no_trees = []
+  all_spelled table aliases separator (more_trees e es) = separator ++ spelled table aliases e ++ all_spelled table aliases (codes ", ") es
+
+  pub branches_spelled : TableColumns → List Alias → Whens → List ℕ
+  branches_spelled table aliases no_whens = []
+  branches_spelled table aliases (more_whens test value branches) =
+      codes " WHEN " ++ spelled table aliases test ++ codes " THEN " ++ spelled table aliases value ++ branches_spelled table aliases branches
+
+  pub else_spelled : TableColumns → List Alias → Otherwise → List ℕ
+  else_spelled table aliases no_else = []
+  else_spelled table aliases (an_else value) = codes " ELSE " ++ spelled table aliases value
 
 -- an item is named by its alias, or else by its expression
 abbrev pub item_name : TableColumns → List Alias → Option (List ℕ) → Tree → List ℕ

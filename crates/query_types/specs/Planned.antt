@@ -1,28 +1,30 @@
 -- The plan of a query over a table, or the first fault of its clauses.
-use Rattle.std.specs.Prelude.{◌≡◌, ℕ, ◌+◌, ◌<◌, Bool, true, false, ◌||◌, ◌==◌, List, [], ◌∷◌, ◌++◌, length, get_or, map, count_by, nat_le, Option, Some, None, option_map, Result, Ok, Err, if◌then◌else◌}
+use Rattle.std.specs.Prelude.{◌≡◌, ℕ, ℤ, ◌+◌, ◌<◌, Bool, true, false, ◌||◌, ◌==◌, List, [], ◌∷◌, ◌++◌, length, get_or, map, count_by, nat_le, Option, Some, None, option_map, Result, Ok, Err, if◌then◌else◌}
 use Rattle.grammar.specs.Trees.{Tree, Test, Item, Parts, Placed, Query}
 use Rattle.grammar.specs.Trees.{Query as query}
 use Rattle.lp_values.specs.declared.kind.Kind.{Kind}
+use Rattle.lp_values.specs.declared.part.Part.TheVariants.{Both}
+use Rattle.lp_values.specs.declared.value.Value.{Value}
+use Rattle.slot_reading.specs.Stamps.{stamp_value}
 use Rattle.query_types.specs.declared.table.TableColumns.{TableColumns}
-use Rattle.query_types.specs.declared.meaning.Meaning.{Meaning}
-use Rattle.query_types.specs.declared.meaning.Meaning.TheVariants.{Column}
+use Rattle.query_types.specs.Terms.{Term, column, any_has_column}
 use Rattle.query_types.specs.declared.fault.TypeFault.{TypeFault}
 use Rattle.query_types.specs.declared.fault.TypeFault.TheVariants as F
 use Rattle.query_types.specs.declared.alias.Alias.{Alias}
 use Rattle.query_types.specs.declared.plans.Plan.{Plan}
 use Rattle.query_types.specs.Meanings.{followed, added, meant, kind_meant}
-use Rattle.query_types.specs.Conditions.{Filter, filter_of, filtered, are_column, mentions}
+use Rattle.query_types.specs.Conditions.{Filter, filter_of, filtered, mentions}
 use Rattle.query_types.specs.Names.{item_name}
 
 -- these aliases, and behind them that of an item, which may use those before it
-abbrev pub with_alias : TableColumns → List Alias → Option (List ℕ) → Tree → List Alias
-with_alias table aliases None value = aliases
-with_alias table aliases (Some name) value = aliases ++ record { name = name; meaning = meant table aliases value } ∷ []
+abbrev pub with_alias : TableColumns → Value → List Alias → Option (List ℕ) → Tree → List Alias
+with_alias table moment aliases None value = aliases
+with_alias table moment aliases (Some name) value = aliases ++ record { name = name; meaning = meant table moment aliases value } ∷ []
 
 -- these aliases, and behind them those of items, each of which may use those before it
-abbrev pub with_aliases : TableColumns → List Alias → List Item → List Alias
-with_aliases table aliases [] = aliases
-with_aliases table aliases (item ∷ items) = with_aliases table (with_alias table aliases item.alias item.value) items
+abbrev pub with_aliases : TableColumns → Value → List Alias → List Item → List Alias
+with_aliases table moment aliases [] = aliases
+with_aliases table moment aliases (item ∷ items) = with_aliases table moment (with_alias table moment aliases item.alias item.value) items
 
 -- how many aliases an item makes
 abbrev pub count_alias : Option (List ℕ) → ℕ
@@ -35,33 +37,33 @@ in_force None before all = all
 in_force (Some name) before all = before
 
 -- what the items mean, behind these aliases, of all those; or the first fault
-abbrev pub selected : TableColumns → List Alias → List Alias → List Item → Result (List Meaning) TypeFault
-selected table before all [] = Ok []
-selected table before all (item ∷ items) = added (meant table (in_force item.alias before all) item.value)
-    (selected table (with_alias table before item.alias item.value) all items)
+abbrev pub selected : TableColumns → Value → List Alias → List Alias → List Item → Result (List Term) TypeFault
+selected table moment before all [] = Ok []
+selected table moment before all (item ∷ items) = added (meant table moment (in_force item.alias before all) item.value)
+    (selected table moment (with_alias table moment before item.alias item.value) all items)
 
 -- the names of the items, behind these aliases, of all those
 abbrev pub names_of : TableColumns → List Alias → List Item → List (List ℕ)
 names_of table all items = map (λ item. item_name table all item.alias item.value) items
 
 -- each column of the table from a place on
-abbrev pub columns_from : {A : Type 0} → ℕ → List A → List Meaning
+abbrev pub columns_from : {A : Type 0} → ℕ → List A → List Term
 columns_from at [] = []
-columns_from at (column ∷ columns) = Column at ∷ columns_from (at + 1) columns
+columns_from at (c ∷ cs) = column at ∷ columns_from (at + 1) cs
 
 -- what is selected: the items, or under `*` each column
-abbrev pub list_meant : TableColumns → List Alias → List Alias → Option ℕ → List Item → Result (List Meaning) TypeFault
-list_meant table before all (Some star) items = Ok (columns_from 0 table.columns)
-list_meant table before all None items = selected table before all items
+abbrev pub list_meant : TableColumns → Value → List Alias → List Alias → Option ℕ → List Item → Result (List Term) TypeFault
+list_meant table moment before all (Some star) items = Ok (columns_from 0 table.columns)
+list_meant table moment before all None items = selected table moment before all items
 
 abbrev pub list_names : TableColumns → List Alias → Option ℕ → List Item → List (List ℕ)
-list_names table all (Some star) items = map (λ column. column.name) table.columns
+list_names table all (Some star) items = map (λ c. c.name) table.columns
 list_names table all None items = names_of table all items
 
 -- WHERE, where it stands
-abbrev pub where_meant : TableColumns → List Alias → Option Test → Result (Option Filter) TypeFault
-where_meant table aliases None = Ok None
-where_meant table aliases (Some condition) = followed (filtered table aliases condition) (λ filter. Ok (Some filter))
+abbrev pub where_meant : TableColumns → Value → List Alias → Option Test → Result (Option Filter) TypeFault
+where_meant table moment aliases None = Ok None
+where_meant table moment aliases (Some condition) = followed (filtered table moment aliases condition) (λ filter. Ok (Some filter))
 
 -- an INTO name has a star for each column or more
 abbrev pub has_too_few : ℕ → Option Placed → Bool
@@ -78,28 +80,28 @@ is_mentioned k None = false
 is_mentioned k (Some filter) = mentions k filter
 
 -- for each column of the table from a place on, whether an alias of USING, an item or WHERE means it
-abbrev pub used_from : {A : Type 0} → ℕ → List A → List Meaning → List Meaning → Option Filter → List Bool
+abbrev pub used_from : {A : Type 0} → ℕ → List A → List Term → List Term → Option Filter → List Bool
 used_from at [] aliased items filter = []
-used_from at (column ∷ columns) aliased items filter = (are_column at aliased || are_column at items || is_mentioned at filter) ∷ used_from (at + 1) columns aliased items filter
+used_from at (c ∷ cs) aliased items filter = (any_has_column at aliased || any_has_column at items || is_mentioned at filter) ∷ used_from (at + 1) cs aliased items filter
 
 -- a plan: what each output column means, its name and its kind; the condition; which columns of the table words of the query mean
 pub record Planned : Type 0 where
-  pub items : List Meaning
+  pub items : List Term
   pub names : List (List ℕ)
   pub kinds : List Kind
   pub condition : Option Filter
   pub used : List Bool
 
 -- each column of the table that the items or the condition have is told as used
-pub record Covers (used : List Bool) (items : List Meaning) (condition : Option Filter) : Type 0 where
-  pub item : (k : ℕ) → k < length used → are_column k items ≡ true → get_or used k false ≡ true
+pub record Covers (used : List Bool) (items : List Term) (condition : Option Filter) : Type 0 where
+  pub item : (k : ℕ) → k < length used → any_has_column k items ≡ true → get_or used k false ≡ true
   pub mentioned : (k : ℕ) → k < length used → is_mentioned k condition ≡ true → get_or used k false ≡ true
 
 -- what a plan holds
 abbrev pub planned_in : Plan → Planned
 planned_in plan = record { items = plan.items; names = plan.names; kinds = plan.kinds; condition = option_map filter_of plan.condition; used = plan.used }
 
-abbrev pub plan_with : TableColumns → List Alias → Parts → List Meaning → List Meaning → Option Filter → Planned
+abbrev pub plan_with : TableColumns → List Alias → Parts → List Term → List Term → Option Filter → Planned
 plan_with table all parts aliased items filter = record {
   items = items;
   names = list_names table all parts.star parts.items;
@@ -109,18 +111,18 @@ plan_with table all parts aliased items filter = record {
 }
 
 -- SELECT, WHERE and INTO in this order: the first fault, or the plan
-abbrev pub plan_behind : TableColumns → List Alias → List Alias → Parts → List Meaning → Result Planned TypeFault
-plan_behind table using all parts aliased =
-    followed (list_meant table using all parts.star parts.items) (λ items.
-    followed (where_meant table all parts.condition) (λ filter.
+abbrev pub plan_behind : TableColumns → Value → List Alias → List Alias → Parts → List Term → Result Planned TypeFault
+plan_behind table moment using all parts aliased =
+    followed (list_meant table moment using all parts.star parts.items) (λ items.
+    followed (where_meant table moment all parts.condition) (λ filter.
     if has_too_few (length items) parts.into then Err (F.TooFewColumns (place_in parts.into)) else Ok (plan_with table all parts aliased items filter)))
 
 -- the same behind USING, with the aliases of USING and of SELECT
-abbrev pub plan_of_parts : TableColumns → Parts → Result Planned TypeFault
-plan_of_parts table parts =
-    let using = with_aliases table [] parts.aliases in
-    followed (selected table [] using parts.aliases) (plan_behind table using (with_aliases table using parts.items) parts)
+abbrev pub plan_of_parts : TableColumns → Value → Parts → Result Planned TypeFault
+plan_of_parts table moment parts =
+    let using = with_aliases table moment [] parts.aliases in
+    followed (selected table moment [] using parts.aliases) (plan_behind table moment using (with_aliases table moment using parts.items) parts)
 
--- the plan of a query, or its first fault
-abbrev pub plan_of : TableColumns → Query → Result Planned TypeFault
-plan_of table (query.query parts subqueries) = plan_of_parts table parts
+-- the plan of a query in a run of this moment, or its first fault
+abbrev pub plan_of : TableColumns → ℤ → Query → Result Planned TypeFault
+plan_of table moment (query.query parts subqueries) = plan_of_parts table (stamp_value Both moment) parts

@@ -2,13 +2,53 @@
 ghost use Rattle.std.specs.Prelude.{◌≡◌, ◌&&◌, is_none, option_map};
 ghost use Rattle.std.specs.List.{list_all};
 ghost use Rattle.grammar.specs.Trees.{trees_of as listed};
-ghost use Rattle.query_tree.specs.Views.{tree_of, trees_of, test_of, items_of, placed_of, query_of};
-ghost use Rattle.query_types.specs.Built.{is_plain, are_plain, is_plain_test, is_plain_where, are_plain_items, is_standard, has_none, is_built};
+ghost use Rattle.grammar.specs.Trees.{whens_of as branched};
+ghost use Rattle.query_tree.specs.Views.{tree_of, trees_of, whens_of, test_of, items_of, placed_of, query_of};
+ghost use Rattle.query_types.specs.Built.{is_grouping, is_plain, are_plain, are_plain_branches, is_plain_test, is_plain_where, are_plain_items, is_standard, has_none, is_built};
 ghost use Rattle.query_tree.specs.declared.query.Query.{out-Query};
 
-use query_tree::{Cond, Expr, ExprList, Item, ItemList, Placed, Query};
+use crate::callee::is_aggregate;
+use lp_values::Text;
+use query_tree::{Cond, Expr, ExprList, Item, ItemList, Placed, Query, WhenList};
 
-// Whether an expression is a literal or a word.
+// Whether a call is one of an aggregate or of GROUPING.
+fn is_grouping(name: &Text, arguments: &ExprList) -> bool
+    ensures { result ≡ is_grouping name.now (listed (trees_of arguments.now)) }
+{
+    arguments.len() == 1 && is_aggregate(name.as_str())
+}
+
+// Whether each expression of a list has neither an aggregate nor GROUPING.
+#[cycle(plainness)]
+fn are_plain(items: &ExprList) -> bool
+    ensures { result ≡ are_plain (listed (trees_of items.now)) }
+{
+    for item in &items.items {
+        if !is_plain(item) {
+            return false;
+        }
+    }
+    true
+}
+
+// Whether each WHEN and THEN has neither.
+#[cycle(plainness)]
+fn are_plain_branches(branches: &WhenList) -> bool
+    ensures { result ≡ are_plain_branches (branched (whens_of branches.now)) }
+{
+    for branch in &branches.items {
+        if !is_plain(&branch.test) {
+            return false;
+        }
+        if !is_plain(&branch.value) {
+            return false;
+        }
+    }
+    true
+}
+
+// Whether an expression has neither an aggregate nor GROUPING.
+#[cycle(plainness)]
 fn is_plain(expr: &Expr) -> bool
     ensures { result ≡ is_plain (tree_of expr.now) }
 {
@@ -18,28 +58,40 @@ fn is_plain(expr: &Expr) -> bool
         Expr::Text { .. } => true,
         Expr::Null { .. } => true,
         Expr::Word { .. } => true,
-        Expr::Timestamp { .. } => false,
-        Expr::Call { .. } => false,
+        Expr::Timestamp { .. } => true,
+        Expr::Call {
+            at: _,
+            name,
+            arguments,
+        } => {
+            if is_grouping(name, arguments) {
+                return false;
+            }
+            are_plain(arguments)
+        }
         Expr::CountAll { .. } => false,
         Expr::PropCountAll { .. } => false,
-        Expr::Case { .. } => false,
+        Expr::Case {
+            at: _,
+            subject,
+            branches,
+            otherwise,
+        } => {
+            if !is_plain(subject) {
+                return false;
+            }
+            if !are_plain_branches(branches) {
+                return false;
+            }
+            match otherwise {
+                None => true,
+                Some(value) => is_plain(value),
+            }
+        }
     }
 }
 
-fn all_plain(items: &[Expr]) -> bool
-    ensures { result ≡ list_all (λ e. is_plain (tree_of e)) items.now }
-{
-    items.iter().all(|item| is_plain(item))
-}
-
-// Whether each expression of a list is a literal or a word.
-fn are_plain(items: &ExprList) -> bool
-    ensures { result ≡ are_plain (listed (trees_of items.now)) }
-{
-    all_plain(&items.items)
-}
-
-// Whether a condition has neither LIKE nor a subquery, and only literals and words.
+// Whether a condition has no subquery, and its expressions have neither an aggregate nor GROUPING.
 fn is_plain_test(test: &Cond) -> bool
     ensures { result ≡ is_plain_test (test_of test.now) }
 {
@@ -49,7 +101,7 @@ fn is_plain_test(test: &Cond) -> bool
         Cond::Not { inner, .. } => is_plain_test(inner),
         Cond::Compare { left, right, .. } => is_plain(left) && is_plain(right),
         Cond::IsNull { value, .. } => is_plain(value),
-        Cond::Like { .. } => false,
+        Cond::Like { value, .. } => is_plain(value),
         Cond::Between {
             value,
             low,
@@ -76,7 +128,7 @@ fn all_plain_items(items: &[Item]) -> bool
     items.iter().all(|item| is_plain(&item.value))
 }
 
-// Whether each item is a literal or a word.
+// Whether each item has neither an aggregate nor GROUPING.
 fn are_plain_items(items: &ItemList) -> bool
     ensures { result ≡ are_plain_items (items_of items.now) }
 {
@@ -100,8 +152,8 @@ fn has_no_groups(query: &Query) -> bool
     query.keys.len() == 0 && query.having.is_none() && query.order.len() == 0
 }
 
-/// Whether a query can be run: it has no call, TIMESTAMP, CASE, LIKE, subquery, TOP, DISTINCT, groups, HAVING, order, or
-/// INTO other than STDOUT.
+/// Whether a query can be run: it has no aggregate, GROUPING, subquery, TOP, DISTINCT, groups, HAVING, order, or INTO other
+/// than STDOUT.
 pub fn is_built(query: &Query) -> bool
     ensures { result ≡ is_built (query_of query.now) }
 {

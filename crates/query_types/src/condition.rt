@@ -1,7 +1,7 @@
 // A condition once its names are replaced.
 
 use crate::{Meaning, MeaningList};
-use lp_values::Compare;
+use lp_values::{Compare, Text};
 
 /// A condition over the rows of a table.
 #[derive(Drop)]
@@ -16,6 +16,11 @@ pub enum Condition {
     },
     IsNull {
         value: Meaning,
+        negated: bool,
+    },
+    Like {
+        value: Meaning,
+        pattern: Text,
         negated: bool,
     },
     Between {

@@ -2,63 +2,48 @@
 ghost use Rattle.std.specs.Prelude.{◌≡◌, List, map, IfOk};
 ghost use Rattle.grammar.specs.Trees.{Test as test};
 ghost use Rattle.grammar.specs.Trees.{trees_of as listed};
-ghost use Rattle.query_tree.specs.Views.{tree_of, trees_of, test_of, number_of};
+ghost use Rattle.query_tree.specs.Views.{tree_of, trees_of, test_of, placed_of, number_of};
 ghost use Rattle.query_types.specs.Meanings.{Answers};
-ghost use Rattle.query_types.specs.Meanings.{fits as kinds_fit};
 ghost use Rattle.query_types.specs.Boxed.{boxed_filter};
 ghost use Rattle.query_types.specs.Conditions.{either, both, opposite, filter_of, fitting, all_fitting, filtered};
 
 use crate::alias::Alias;
 use crate::expressions::meant;
+use crate::fitting::if_fits;
 use crate::{Condition, Meaning, MeaningList, TableColumns, TypeFault};
-use lp_values::{Compare, Kind};
-use query_tree::{Cond, Expr, ExprList};
+use lp_values::{Compare, Kind, Value};
+use query_tree::{Cond, Expr, ExprList, Placed};
 use std::alloc::{AllocError, Global};
-
-// Whether two kinds fit: where they are equal, one is Any, or both are numbers.
-fn fits(left: Kind, right: Kind) -> bool
-    ensures { result ≡ kinds_fit left right }
-{
-    match (left, right) {
-        (Kind::Any, _) | (_, Kind::Any) => true,
-        (Kind::Integer | Kind::Real, Kind::Integer | Kind::Real) => true,
-        (Kind::Text, Kind::Text) => true,
-        (Kind::Stamp, Kind::Stamp) => true,
-        _ => false,
-    }
-}
 
 // A right side, whose kind has to fit.
 fn fitting(
     alloc: Global,
     table: &TableColumns,
+    moment: &Value,
     aliases: &[Alias],
     kind: Kind,
     right: &Expr,
 ) -> Result<Meaning, TypeFault>
-    ensures { Answers (λ meaning. meaning) result (fitting table.now aliases.now kind (tree_of right.now)) }
+    ensures { Answers (λ meaning. meaning) result (fitting table.now moment.now aliases.now kind (tree_of right.now)) }
 {
-    let meaning = meant(alloc, table, aliases, right)?;
-    if fits(kind, meaning.kind(table)) {
-        Ok(meaning)
-    } else {
-        Err(TypeFault::KindMismatch { at: right.place() })
-    }
+    let meaning = meant(alloc, table, moment, aliases, right)?;
+    if_fits(table, kind, right.place(), meaning)
 }
 
 // The values of an IN.
 fn all_fitting(
     alloc: Global,
     table: &TableColumns,
+    moment: &Value,
     aliases: &[Alias],
     kind: Kind,
     items: &ExprList,
 ) -> Result<MeaningList, TypeFault>
-    ensures { Answers (λ meanings. meanings) result (all_fitting table.now aliases.now kind (listed (trees_of items.now))) }
+    ensures { Answers (λ meanings. meanings) result (all_fitting table.now moment.now aliases.now kind (listed (trees_of items.now))) }
 {
     let mut meanings = MeaningList::new(alloc);
     for item in &items.items {
-        let meaning = fitting(alloc, table, aliases, kind, item)?;
+        let meaning = fitting(alloc, table, moment, aliases, kind, item)?;
         meanings.push(meaning)?;
     }
     Ok(meanings)
@@ -69,15 +54,16 @@ fn all_fitting(
 fn compared(
     alloc: Global,
     table: &TableColumns,
+    moment: &Value,
     aliases: &[Alias],
     how: Compare,
     left: &Expr,
     right: &Expr,
 ) -> Result<Box<Condition>, TypeFault>
-    ensures { Answers boxed_filter result (filtered table.now aliases.now (test.Compare 0 (number_of how) (tree_of left.now) (tree_of right.now))) }
+    ensures { Answers boxed_filter result (filtered table.now moment.now aliases.now (test.Compare 0 (number_of how) (tree_of left.now) (tree_of right.now))) }
 {
-    let left = meant(alloc, table, aliases, left)?;
-    let right = fitting(alloc, table, aliases, left.kind(table), right)?;
+    let left = meant(alloc, table, moment, aliases, left)?;
+    let right = fitting(alloc, table, moment, aliases, left.kind(table), right)?;
     Ok(Box::new(alloc, Condition::Compare { how, left, right })?)
 }
 
@@ -86,14 +72,38 @@ fn compared(
 fn null(
     alloc: Global,
     table: &TableColumns,
+    moment: &Value,
     aliases: &[Alias],
     value: &Expr,
     negated: bool,
 ) -> Result<Box<Condition>, TypeFault>
-    ensures { Answers boxed_filter result (filtered table.now aliases.now (test.IsNull 0 (tree_of value.now) negated)) }
+    ensures { Answers boxed_filter result (filtered table.now moment.now aliases.now (test.IsNull 0 (tree_of value.now) negated)) }
 {
-    let value = meant(alloc, table, aliases, value)?;
+    let value = meant(alloc, table, moment, aliases, value)?;
     Ok(Box::new(alloc, Condition::IsNull { value, negated })?)
+}
+
+// A test for a likeness.
+#[inline(never)]
+fn like(
+    alloc: Global,
+    table: &TableColumns,
+    moment: &Value,
+    aliases: &[Alias],
+    value: &Expr,
+    pattern: &Placed,
+    negated: bool,
+) -> Result<Box<Condition>, TypeFault>
+    ensures { Answers boxed_filter result (filtered table.now moment.now aliases.now (test.Like 0 (tree_of value.now) (placed_of pattern.now) negated)) }
+{
+    let value = fitting(alloc, table, moment, aliases, Kind::Text, value)?;
+    let pattern = pattern.text.copy(alloc)?;
+    let condition = Condition::Like {
+        value,
+        pattern,
+        negated,
+    };
+    Ok(Box::new(alloc, condition)?)
 }
 
 // A test between two values.
@@ -101,18 +111,19 @@ fn null(
 fn between(
     alloc: Global,
     table: &TableColumns,
+    moment: &Value,
     aliases: &[Alias],
     value: &Expr,
     low: &Expr,
     high: &Expr,
     negated: bool,
 ) -> Result<Box<Condition>, TypeFault>
-    ensures { Answers boxed_filter result (filtered table.now aliases.now (test.Between 0 (tree_of value.now) (tree_of low.now) (tree_of high.now) negated)) }
+    ensures { Answers boxed_filter result (filtered table.now moment.now aliases.now (test.Between 0 (tree_of value.now) (tree_of low.now) (tree_of high.now) negated)) }
 {
-    let value = meant(alloc, table, aliases, value)?;
+    let value = meant(alloc, table, moment, aliases, value)?;
     let kind = value.kind(table);
-    let low = fitting(alloc, table, aliases, kind, low)?;
-    let high = fitting(alloc, table, aliases, kind, high)?;
+    let low = fitting(alloc, table, moment, aliases, kind, low)?;
+    let high = fitting(alloc, table, moment, aliases, kind, high)?;
     let condition = Condition::Between {
         value,
         low,
@@ -127,15 +138,16 @@ fn between(
 fn within(
     alloc: Global,
     table: &TableColumns,
+    moment: &Value,
     aliases: &[Alias],
     value: &Expr,
     items: &ExprList,
     negated: bool,
 ) -> Result<Box<Condition>, TypeFault>
-    ensures { Answers boxed_filter result (filtered table.now aliases.now (test.InList 0 (tree_of value.now) (listed (trees_of items.now)) negated)) }
+    ensures { Answers boxed_filter result (filtered table.now moment.now aliases.now (test.InList 0 (tree_of value.now) (listed (trees_of items.now)) negated)) }
 {
-    let value = meant(alloc, table, aliases, value)?;
-    let items = all_fitting(alloc, table, aliases, value.kind(table), items)?;
+    let value = meant(alloc, table, moment, aliases, value)?;
+    let items = all_fitting(alloc, table, moment, aliases, value.kind(table), items)?;
     let condition = Condition::Within {
         value,
         items,
@@ -180,24 +192,25 @@ fn not(alloc: Global, inner: Box<Condition>) -> Result<Box<Condition>, AllocErro
 fn boxed(
     alloc: Global,
     table: &TableColumns,
+    moment: &Value,
     aliases: &[Alias],
     test: &Cond,
 ) -> Result<Box<Condition>, TypeFault>
-    ensures { Answers boxed_filter result (filtered table.now aliases.now (test_of test.now)) }
+    ensures { Answers boxed_filter result (filtered table.now moment.now aliases.now (test_of test.now)) }
 {
     match test {
         Cond::Or { at: _, left, right } => {
-            let left = boxed(alloc, table, aliases, left)?;
-            let right = boxed(alloc, table, aliases, right)?;
+            let left = boxed(alloc, table, moment, aliases, left)?;
+            let right = boxed(alloc, table, moment, aliases, right)?;
             Ok(or(alloc, left, right)?)
         }
         Cond::And { at: _, left, right } => {
-            let left = boxed(alloc, table, aliases, left)?;
-            let right = boxed(alloc, table, aliases, right)?;
+            let left = boxed(alloc, table, moment, aliases, left)?;
+            let right = boxed(alloc, table, moment, aliases, right)?;
             Ok(and(alloc, left, right)?)
         }
         Cond::Not { at: _, inner } => {
-            let inner = boxed(alloc, table, aliases, inner)?;
+            let inner = boxed(alloc, table, moment, aliases, inner)?;
             Ok(not(alloc, inner)?)
         }
         Cond::Compare {
@@ -205,26 +218,31 @@ fn boxed(
             how,
             left,
             right,
-        } => compared(alloc, table, aliases, *how, left, right),
+        } => compared(alloc, table, moment, aliases, *how, left, right),
         Cond::IsNull {
             at: _,
             value,
             negated,
-        } => null(alloc, table, aliases, value, *negated),
+        } => null(alloc, table, moment, aliases, value, *negated),
         Cond::Between {
             at: _,
             value,
             low,
             high,
             negated,
-        } => between(alloc, table, aliases, value, low, high, *negated),
+        } => between(alloc, table, moment, aliases, value, low, high, *negated),
         Cond::InList {
             at: _,
             value,
             items,
             negated,
-        } => within(alloc, table, aliases, value, items, *negated),
-        Cond::Like { at, .. } => Err(TypeFault::UnknownFunction { at: *at }),
+        } => within(alloc, table, moment, aliases, value, items, *negated),
+        Cond::Like {
+            at: _,
+            value,
+            pattern,
+            negated,
+        } => like(alloc, table, moment, aliases, value, pattern, *negated),
         Cond::InQuery { at, .. } => Err(TypeFault::UnknownFunction { at: *at }),
     }
 }
@@ -233,11 +251,12 @@ fn boxed(
 pub fn filtered(
     alloc: Global,
     table: &TableColumns,
+    moment: &Value,
     aliases: &[Alias],
     test: &Cond,
 ) -> Result<Condition, TypeFault>
-    ensures { Answers filter_of result (filtered table.now aliases.now (test_of test.now)) }
+    ensures { Answers filter_of result (filtered table.now moment.now aliases.now (test_of test.now)) }
 {
-    let condition = boxed(alloc, table, aliases, test)?;
+    let condition = boxed(alloc, table, moment, aliases, test)?;
     Ok(Box::into_inner(condition))
 }

@@ -11,10 +11,14 @@ pub enum TypeFault {
     UnknownField { at: u32 },
     /// A call of a function that isn't known.
     UnknownFunction { at: u32 },
-    /// Two kinds that don't fit; the place is that of the right one.
+    /// Two kinds that don't fit, at the right one; or a call whose arguments have no such kinds, at its word.
     KindMismatch { at: u32 },
+    /// A call with a number of arguments that the function doesn't take.
+    WrongArity { at: u32 },
     /// An INTO name has as many stars as there are columns, or more.
     TooFewColumns { at: u32 },
+    /// An argument that has to be a pattern and is none, or the value of a TIMESTAMP that doesn't read by its pattern.
+    BadPattern { at: u32 },
     /// There was no memory.
     Memory,
 }

@@ -1,46 +1,99 @@
 // What an expression means once its names are replaced.
 ghost use Rattle.std.specs.Prelude.{◌≡◌, IfOk};
 ghost use Rattle.query_types.specs.Meanings.{kind_meant};
+ghost use Rattle.query_types.specs.Terms.{term_of, has_column};
+ghost use Rattle.query_types.specs.Terms.{Term as term};
 
 use crate::TableColumns;
+use crate::form::{Form, copied, has_column};
 use lp_values::{Kind, ListOf, Value};
 use std::alloc::{AllocError, Global};
+use std::marker::Model;
 
-/// What an expression means: nothing in it is looked up by name.
+/// What an expression means.
 #[derive(Drop)]
-pub enum Meaning {
-    /// The column at this place of the table.
-    Column(usize),
-    /// A column that the table doesn't list, NULL in each row.
-    Other,
-    /// A literal.
-    Constant(Value),
+pub struct Meaning {
+    form: Form,
+}
+
+impl Model for Meaning {
+    ghost use Rattle.std.specs.Prelude.{List};
+    ghost use Rattle.std.specs.Coded.{code_by, codes};
+    ghost use Rattle.query_types.specs.Terms.{Term, term_of};
+    ghost use Rattle.query_types.specs.Codes.{Step, steps_in, term_made, made_back};
+
+    ghost Value = { Term };
+
+    ghost coded = { code_by (List Step) (Prim.hlevel codes) steps_in term_made made_back };
+
+    ghost view = { λ meaning. term_of meaning.form };
 }
 
 pub type MeaningList = ListOf<Meaning>;
 
 impl Meaning {
+    pub fn new(form: Form) -> Meaning
+        ensures { result ≡ term_of form }
+    {
+        Meaning { form }
+    }
+
+    /// A column of the table.
+    pub fn column(index: usize) -> Meaning
+        ensures { result ≡ term.column index }
+    {
+        Meaning::new(Form::Column(index))
+    }
+
+    /// A column that the table doesn't list.
+    pub fn other() -> Meaning
+        ensures { result ≡ term.other }
+    {
+        Meaning::new(Form::Other)
+    }
+
+    /// A value that is the same in each row.
+    pub fn constant(value: Value) -> Meaning
+        ensures { result ≡ term.constant value }
+    {
+        Meaning::new(Form::Constant(value))
+    }
+
+    pub fn form(&self) -> &Form
+        ensures { term_of result.now ≡ self.now }
+    {
+        &self.form
+    }
+
+    pub fn into_form(self) -> Form
+        ensures { term_of result ≡ self }
+    {
+        let Meaning { form } = self;
+        form
+    }
+
     pub fn copy(&self, alloc: Global) -> Result<Meaning, AllocError>
         ensures { IfOk result (λ copy. copy ≡ self.now) }
     {
-        match self {
-            Meaning::Column(index) => Ok(Meaning::Column(*index)),
-            Meaning::Other => Ok(Meaning::Other),
-            Meaning::Constant(value) => {
-                let value = value.copy(alloc)?;
-                Ok(Meaning::Constant(value))
-            }
-        }
+        Ok(Meaning::new(copied(alloc, &self.form)?))
     }
 
     /// Its kind over a table.
     pub fn kind(&self, table: &TableColumns) -> Kind
         ensures { result ≡ kind_meant table.now.columns self.now }
     {
-        match self {
-            Meaning::Column(index) => table.kind(*index),
-            Meaning::Other => Kind::Any,
-            Meaning::Constant(value) => value.kind(),
+        match &self.form {
+            Form::Column(index) => table.kind(*index),
+            Form::Other => Kind::Any,
+            Form::Constant(value) => value.kind(),
+            Form::Made { kind, by: _, of: _ } => *kind,
         }
+    }
+
+    /// Whether it has the column at a place of the table.
+    pub fn has_column(&self, index: usize) -> bool
+        ensures { result ≡ has_column index self.now }
+    {
+        has_column(index, &self.form)
     }
 }

@@ -12,9 +12,10 @@ use crate::alias::{Alias, AliasList};
 use crate::conditions::filtered;
 use crate::naming::{column_names, item_names};
 use crate::selecting::{add_aliases, every_column, selected};
+use crate::stamps::moment_value;
 use crate::using_columns::used_columns;
 use crate::{Condition, KindList, MeaningList, Plan, TableColumns, TypeFault};
-use lp_values::TextList;
+use lp_values::{TextList, Value};
 use query_tree::{Cond, Placed, Query};
 use std::alloc::{AllocError, Global};
 
@@ -22,15 +23,16 @@ use std::alloc::{AllocError, Global};
 fn where_meant(
     alloc: Global,
     table: &TableColumns,
+    moment: &Value,
     aliases: &[Alias],
     condition: &Option<Cond>,
 ) -> Result<Option<Condition>, TypeFault>
-    ensures { Answers (λ found. option_map filter_of found) result (where_meant table.now aliases.now (option_map test_of condition.now)) }
+    ensures { Answers (λ found. option_map filter_of found) result (where_meant table.now moment.now aliases.now (option_map test_of condition.now)) }
 {
     match condition {
         None => Ok(None),
         Some(condition) => {
-            let condition = filtered(alloc, table, aliases, condition)?;
+            let condition = filtered(alloc, table, moment, aliases, condition)?;
             Ok(Some(condition))
         }
     }
@@ -69,17 +71,18 @@ fn kinds_of(
 fn list_meant(
     alloc: Global,
     table: &TableColumns,
+    moment: &Value,
     before: usize,
     all: &[Alias],
     query: &Query,
 ) -> Result<MeaningList, TypeFault>
     requires before { before ≤ length all.now }
-    requires all { all.now ≡ with_aliases table.now (take before all.now) (parts_of query.now).items }
-    ensures { Answers (λ items. items) result (list_meant table.now (take before all.now) all.now (parts_of query.now).star (parts_of query.now).items) }
+    requires all { all.now ≡ with_aliases table.now moment.now (take before all.now) (parts_of query.now).items }
+    ensures { Answers (λ items. items) result (list_meant table.now moment.now (take before all.now) all.now (parts_of query.now).star (parts_of query.now).items) }
 {
     match query.star {
         Some(_) => Ok(every_column(alloc, table)?),
-        None => selected(alloc, table, before, all, &query.items),
+        None => selected(alloc, table, moment, before, all, &query.items),
     }
 }
 
@@ -131,18 +134,19 @@ fn plan_behind(
     alloc: Global,
     query: &Query,
     table: &TableColumns,
+    moment: &Value,
     aliased: &MeaningList,
     before: usize,
     all: &[Alias],
 ) -> Result<Plan, TypeFault>
     requires before { before ≤ length all.now }
-    requires all { all.now ≡ with_aliases table.now (take before all.now) (parts_of query.now).items }
-    ensures plan { Answers planned_in result (plan_behind table.now (take before all.now) all.now (parts_of query.now) aliased.now) }
+    requires all { all.now ≡ with_aliases table.now moment.now (take before all.now) (parts_of query.now).items }
+    ensures plan { Answers planned_in result (plan_behind table.now moment.now (take before all.now) all.now (parts_of query.now) aliased.now) }
     ensures size { IfOk result (λ plan. length plan.used ≡ length table.now.columns) }
     ensures covers { IfOk result (λ plan. Covers plan.used plan.items (option_map filter_of plan.condition)) }
 {
-    let items = list_meant(alloc, table, before, all, query)?;
-    let condition = where_meant(alloc, table, all, &query.condition)?;
+    let items = list_meant(alloc, table, moment, before, all, query)?;
+    let condition = where_meant(alloc, table, moment, all, &query.condition)?;
     if let Some(into) = &query.into
         && has_too_few(items.len(), into)
     {
@@ -152,18 +156,32 @@ fn plan_behind(
     Ok(planned(alloc, table, names, aliased, items, condition)?)
 }
 
-/// The plan of a query over a table, or the first fault of its clauses: USING, SELECT, WHERE, and then INTO, each from left to
+/// The plan of a query over a table in a run of this moment, or the first fault of its clauses: USING, SELECT, WHERE, and then INTO, each from left to
 /// right.
-pub fn plan(alloc: Global, query: &Query, table: &TableColumns) -> Result<Plan, TypeFault>
+pub fn plan(
+    alloc: Global,
+    query: &Query,
+    table: &TableColumns,
+    moment: i64,
+) -> Result<Plan, TypeFault>
     requires { is_built (query_of query.now) ≡ true }
-    ensures plan { Answers planned_in result (plan_of table.now (query_of query.now)) }
+    ensures plan { Answers planned_in result (plan_of table.now moment (query_of query.now)) }
     ensures size { IfOk result (λ plan. length plan.used ≡ length table.now.columns) }
     ensures covers { IfOk result (λ plan. Covers plan.used plan.items (option_map filter_of plan.condition)) }
 {
+    let now = moment_value(moment);
     let mut aliases = AliasList::new(alloc);
-    add_aliases(alloc, table, &mut aliases, &query.aliases)?;
+    add_aliases(alloc, table, &now, &mut aliases, &query.aliases)?;
     let before = aliases.len();
-    let aliased = selected(alloc, table, 0, aliases.as_slice(), &query.aliases)?;
-    add_aliases(alloc, table, &mut aliases, &query.items)?;
-    plan_behind(alloc, query, table, &aliased, before, aliases.as_slice())
+    let aliased = selected(alloc, table, &now, 0, aliases.as_slice(), &query.aliases)?;
+    add_aliases(alloc, table, &now, &mut aliases, &query.items)?;
+    plan_behind(
+        alloc,
+        query,
+        table,
+        &now,
+        &aliased,
+        before,
+        aliases.as_slice(),
+    )
 }

@@ -7,7 +7,7 @@ ghost use Rattle.query_types.specs.Planned.{with_alias, with_aliases, in_force, 
 use crate::alias::{Alias, AliasList};
 use crate::expressions::meant;
 use crate::{Meaning, MeaningList, TableColumns, TypeFault};
-use lp_values::Text;
+use lp_values::{Text, Value};
 use query_tree::{Expr, Item, ItemList};
 use std::alloc::{AllocError, Global};
 
@@ -15,15 +15,16 @@ use std::alloc::{AllocError, Global};
 fn alias_of(
     alloc: Global,
     table: &TableColumns,
+    moment: &Value,
     aliases: &[Alias],
     name: &Text,
     value: &Expr,
 ) -> Result<Alias, AllocError>
     ensures name { IfOk result (λ alias. alias.name ≡ name.now) }
-    ensures meaning { IfOk result (λ alias. alias.meaning ≡ meant table.now aliases.now (tree_of value.now)) }
+    ensures meaning { IfOk result (λ alias. alias.meaning ≡ meant table.now moment.now aliases.now (tree_of value.now)) }
 {
     let name = name.copy(alloc)?;
-    match meant(alloc, table, aliases, value) {
+    match meant(alloc, table, moment, aliases, value) {
         Err(TypeFault::Memory) => Err(AllocError),
         meaning => Ok(Alias { name, meaning }),
     }
@@ -33,15 +34,16 @@ fn alias_of(
 fn add_alias(
     alloc: Global,
     table: &TableColumns,
+    moment: &Value,
     aliases: &mut AliasList,
     item: &Item,
 ) -> Result<(), AllocError>
-    ensures { OnOk result (aliases.new ≡ with_alias table.now aliases.old item.now.alias (tree_of item.now.value)) }
+    ensures { OnOk result (aliases.new ≡ with_alias table.now moment.now aliases.old item.now.alias (tree_of item.now.value)) }
 {
     match &item.alias {
         None => Ok(()),
         Some(name) => {
-            let alias = alias_of(alloc, table, aliases.as_slice(), name, &item.value)?;
+            let alias = alias_of(alloc, table, moment, aliases.as_slice(), name, &item.value)?;
             aliases.push(alias)
         }
     }
@@ -51,13 +53,14 @@ fn add_alias(
 pub fn add_aliases(
     alloc: Global,
     table: &TableColumns,
+    moment: &Value,
     aliases: &mut AliasList,
     items: &ItemList,
 ) -> Result<(), AllocError>
-    ensures { OnOk result (aliases.new ≡ with_aliases table.now aliases.old (items_of items.now)) }
+    ensures { OnOk result (aliases.new ≡ with_aliases table.now moment.now aliases.old (items_of items.now)) }
 {
     for item in &items.items {
-        add_alias(alloc, table, aliases, item)?;
+        add_alias(alloc, table, moment, aliases, item)?;
     }
     Ok(())
 }
@@ -88,18 +91,25 @@ fn behind(item: &Item, before: usize) -> usize
 pub fn selected(
     alloc: Global,
     table: &TableColumns,
+    moment: &Value,
     before: usize,
     all: &[Alias],
     items: &ItemList,
 ) -> Result<MeaningList, TypeFault>
     requires before { before ≤ length all.now }
-    requires all { all.now ≡ with_aliases table.now (take before all.now) (items_of items.now) }
-    ensures { Answers (λ meanings. meanings) result (selected table.now (take before all.now) all.now (items_of items.now)) }
+    requires all { all.now ≡ with_aliases table.now moment.now (take before all.now) (items_of items.now) }
+    ensures { Answers (λ meanings. meanings) result (selected table.now moment.now (take before all.now) all.now (items_of items.now)) }
 {
     let mut meanings = MeaningList::new(alloc);
     let mut before = before;
     for item in &items.items {
-        let meaning = meant(alloc, table, in_force(item, before, all), &item.value)?;
+        let meaning = meant(
+            alloc,
+            table,
+            moment,
+            in_force(item, before, all),
+            &item.value,
+        )?;
         meanings.push(meaning)?;
         before = behind(item, before);
     }
@@ -112,7 +122,7 @@ pub fn every_column(alloc: Global, table: &TableColumns) -> Result<MeaningList, 
 {
     let mut meanings = MeaningList::new(alloc);
     for index in 0..table.columns.len() {
-        meanings.push(Meaning::Column(index))?;
+        meanings.push(Meaning::column(index))?;
     }
     Ok(meanings)
 }

@@ -1,34 +1,24 @@
 // Which columns of a table a query uses.
 ghost use Rattle.std.specs.Prelude.{◌≡◌, ◌||◌, IfOk, option_map};
-ghost use Rattle.query_types.specs.Conditions.{filter_of, is_column, are_column, mentions};
+ghost use Rattle.query_types.specs.Conditions.{filter_of, mentions};
+ghost use Rattle.query_types.specs.Terms.{any_has_column};
 ghost use Rattle.query_types.specs.Planned.{is_mentioned, used_from};
 
-use crate::{Condition, Meaning, MeaningList, TableColumns, UsedList};
+use crate::{Condition, MeaningList, TableColumns, UsedList};
 use std::alloc::{AllocError, Global};
 
-// Whether a meaning is the column at a place.
-fn is_column(index: usize, meaning: &Meaning) -> bool
-    ensures { result ≡ is_column index meaning.now }
-{
-    match meaning {
-        Meaning::Column(place) => *place == index,
-        Meaning::Other => false,
-        Meaning::Constant(_) => false,
-    }
-}
-
-// Whether one of some meanings is the column at a place.
-fn are_column(index: usize, meanings: &MeaningList) -> bool
-    ensures { result ≡ are_column index meanings.now }
+// Whether one of some meanings has the column at a place.
+fn any_has_column(index: usize, meanings: &MeaningList) -> bool
+    ensures { result ≡ any_has_column index meanings.now }
 {
     meanings
         .as_slice()
         .iter()
-        .any(|meaning| is_column(index, meaning))
+        .any(|meaning| meaning.has_column(index))
 }
 
-// Whether a condition has the column at a place.
-fn mentions(index: usize, condition: &Condition) -> bool
+/// Whether a condition has the column at a place.
+pub fn mentions(index: usize, condition: &Condition) -> bool
     ensures { result ≡ mentions index (filter_of condition.now) }
 {
     match condition {
@@ -39,19 +29,24 @@ fn mentions(index: usize, condition: &Condition) -> bool
             how: _,
             left,
             right,
-        } => is_column(index, left) || is_column(index, right),
-        Condition::IsNull { value, negated: _ } => is_column(index, value),
+        } => left.has_column(index) || right.has_column(index),
+        Condition::IsNull { value, negated: _ } => value.has_column(index),
+        Condition::Like {
+            value,
+            pattern: _,
+            negated: _,
+        } => value.has_column(index),
         Condition::Between {
             value,
             low,
             high,
             negated: _,
-        } => is_column(index, value) || is_column(index, low) || is_column(index, high),
+        } => value.has_column(index) || low.has_column(index) || high.has_column(index),
         Condition::Within {
             value,
             items,
             negated: _,
-        } => is_column(index, value) || are_column(index, items),
+        } => value.has_column(index) || any_has_column(index, items),
     }
 }
 
@@ -72,9 +67,9 @@ fn is_used(
     items: &MeaningList,
     condition: &Option<Condition>,
 ) -> bool
-    ensures { result ≡ (are_column index aliased.now || are_column index items.now || is_mentioned index (option_map filter_of condition.now)) }
+    ensures { result ≡ (any_has_column index aliased.now || any_has_column index items.now || is_mentioned index (option_map filter_of condition.now)) }
 {
-    are_column(index, aliased) || are_column(index, items) || is_mentioned(index, condition)
+    any_has_column(index, aliased) || any_has_column(index, items) || is_mentioned(index, condition)
 }
 
 /// For each column of a table whether an alias of USING, an item or WHERE means it.

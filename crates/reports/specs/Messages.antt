@@ -37,7 +37,9 @@ abbrev pub type_reason : TypeFault → List ℕ
 type_reason (type.UnknownField at) = at_place at (codes "unknown field")
 type_reason (type.UnknownFunction at) = at_place at (codes "unknown function")
 type_reason (type.KindMismatch at) = at_place at (codes "kind mismatch")
+type_reason (type.WrongArity at) = at_place at (codes "wrong arity")
 type_reason (type.TooFewColumns at) = at_place at (codes "too few columns")
+type_reason (type.BadPattern at) = at_place at (codes "bad pattern")
 type_reason type.Memory = codes "out of memory"
 
 abbrev pub query_reason : QueryFault → List ℕ

@@ -37,7 +37,9 @@ fn type_reason(fault: TypeFault) -> (&'static str, Option<u32>, &'static str)
         TypeFault::UnknownField { at } => ("query: at ", Some(at), "unknown field"),
         TypeFault::UnknownFunction { at } => ("query: at ", Some(at), "unknown function"),
         TypeFault::KindMismatch { at } => ("query: at ", Some(at), "kind mismatch"),
+        TypeFault::WrongArity { at } => ("query: at ", Some(at), "wrong arity"),
         TypeFault::TooFewColumns { at } => ("query: at ", Some(at), "too few columns"),
+        TypeFault::BadPattern { at } => ("query: at ", Some(at), "bad pattern"),
         TypeFault::Memory => ("out of memory", None, ""),
     }
 }

@@ -130,6 +130,16 @@ fn each_refusal_has_its_code_and_its_line(rt: HostRuntime) -> Result<(), Fail> {
             "logparser: query: at 30: kind mismatch\n",
         ),
         (
+            planned(TypeFault::WrongArity { at: 7 }),
+            3,
+            "logparser: query: at 7: wrong arity\n",
+        ),
+        (
+            planned(TypeFault::BadPattern { at: 17 }),
+            3,
+            "logparser: query: at 17: bad pattern\n",
+        ),
+        (
             planned(TypeFault::TooFewColumns { at: 21 }),
             3,
             "logparser: query: at 21: too few columns\n",

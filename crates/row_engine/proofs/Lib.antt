@@ -1,2 +1,4 @@
-mod Truths
 mod Comparing
+mod Forms
+mod Likeness
+mod Truths

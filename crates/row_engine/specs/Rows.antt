@@ -1,5 +1,6 @@
 -- What a plan gives in a row: values, and the truth of conditions.
-use Rattle.std.specs.Prelude.{ℕ, Bool, true, false, List, [], ◌∷◌, map, get_or, Option, Some, None}
+use Rattle.std.specs.Prelude.{ℕ, Bool, true, false, List, [], ◌∷◌, map, get_or, if◌then◌else◌, Option, Some, None}
+use Rattle.std.specs.Str.{chars}
 use Rattle.lp_values.specs.declared.comparison.Compare.TheVariants as how
 use Rattle.lp_values.specs.declared.truth.Truth.{Truth}
 use Rattle.lp_values.specs.declared.truth.Truth.TheVariants.{Yes, No, Unknown}
@@ -7,15 +8,50 @@ use Rattle.lp_values.specs.declared.value.Value.{Value}
 use Rattle.lp_values.specs.declared.value.Value.TheVariants as V
 use Rattle.lp_values.specs.Comparing.{compared as comparison, truth_of}
 use Rattle.lp_values.specs.Truths.{both as and_both, either as or_either, opposite as not_it}
-use Rattle.query_types.specs.declared.meaning.Meaning.{Meaning}
-use Rattle.query_types.specs.declared.meaning.Meaning.TheVariants.{Column, Other, Constant}
-use Rattle.query_types.specs.Conditions.{Filter, either, both, opposite, compared, null, between, within}
+use Rattle.lp_functions.specs.Applied.{applied}
+use Rattle.lp_functions.specs.Moments.{read_as}
+use Rattle.lp_functions.specs.Texts.{written_as}
+use Rattle.query_types.specs.Terms.{Maker, called, branched, written, read, Term, column, other, constant, made, Terms, no_terms, more_terms}
+use Rattle.query_types.specs.Conditions.{Filter, either, both, opposite, compared, null, like, between, within}
+use Rattle.row_engine.specs.Likeness.{is_like}
 
--- a column is its value in the row; a column that the table doesn't list is NULL
-abbrev pub value_in : List Value → Meaning → Value
-value_in row (Column k) = get_or row k V.Null
-value_in row Other = V.Null
-value_in row (Constant value) = value
+abbrev pub is_yes : Truth → Bool
+is_yes Yes = true
+is_yes No = false
+is_yes Unknown = false
+
+-- what stands behind a CASE's subject: the first THEN whose WHEN compares equal, else ELSE, else NULL
+abbrev pub branch_of : Value → List Value → Value
+branch_of subject [] = V.Null
+branch_of subject (otherwise ∷ []) = otherwise
+branch_of subject (test ∷ value ∷ parts) = if is_yes (comparison how.Equal subject test) then value else branch_of subject parts
+
+abbrev pub case_of : List Value → Value
+case_of [] = V.Null
+case_of (subject ∷ parts) = branch_of subject parts
+
+abbrev pub first_of : (Value → Value) → List Value → Value
+first_of give [] = V.Null
+first_of give (value ∷ values) = give value
+
+-- what is made of values
+abbrev pub made_by : Maker → List Value → Value
+made_by (called function) values = applied function values
+made_by branched values = case_of values
+made_by (written pattern) values = first_of (written_as pattern) values
+made_by (read pattern) values = first_of (read_as pattern) values
+
+abbrev mutual
+  -- a column is its value in the row; a column that the table doesn't list is NULL
+  pub value_in : List Value → Term → Value
+  value_in row (column k) = get_or row k V.Null
+  value_in row other = V.Null
+  value_in row (constant value) = value
+  value_in row (made kind by of) = made_by by (values_in row of)
+
+  pub values_in : List Value → Terms → List Value
+  values_in row no_terms = []
+  values_in row (more_terms term terms) = value_in row term ∷ values_in row terms
 
 abbrev pub is_null : Value → Bool
 is_null V.Null = true
@@ -30,9 +66,14 @@ turned false truth = truth
 turned true truth = not_it truth
 
 -- the OR of the equalities with some meanings, No for none
-abbrev pub among : List Value → Value → List Meaning → Truth
+abbrev pub among : List Value → Value → List Term → Truth
 among row value [] = No
 among row value (item ∷ items) = or_either (comparison how.Equal value (value_in row item)) (among row value items)
+
+-- whether a text is like a pattern; NULL and what is no text is unknown
+abbrev pub likeness : Value → List ℕ → Truth
+likeness (V.Text text) pattern = truth_of (is_like (chars pattern) (chars text))
+likeness value pattern = Unknown
 
 -- the truth of a condition in a row
 abbrev pub truth_in : List Value → Filter → Truth
@@ -41,14 +82,10 @@ truth_in row (both a b) = and_both (truth_in row a) (truth_in row b)
 truth_in row (opposite a) = not_it (truth_in row a)
 truth_in row (compared sign left right) = comparison sign (value_in row left) (value_in row right)
 truth_in row (null value negated) = turned negated (truth_of (is_null (value_in row value)))
+truth_in row (like value pattern negated) = turned negated (likeness (value_in row value) pattern)
 truth_in row (between value low high negated) =
     turned negated (and_both (comparison how.MoreEqual (value_in row value) (value_in row low)) (comparison how.LessEqual (value_in row value) (value_in row high)))
 truth_in row (within value items negated) = turned negated (among row (value_in row value) items)
-
-abbrev pub is_yes : Truth → Bool
-is_yes Yes = true
-is_yes No = false
-is_yes Unknown = false
 
 -- WHERE keeps the rows for which its condition is Yes; without WHERE each row is kept
 abbrev pub keeps : Option Filter → List Value → Bool
@@ -56,5 +93,5 @@ keeps None row = true
 keeps (Some filter) row = is_yes (truth_in row filter)
 
 -- the output row
-abbrev pub selected_in : List Value → List Meaning → List Value
+abbrev pub selected_in : List Value → List Term → List Value
 selected_in row items = map (value_in row) items

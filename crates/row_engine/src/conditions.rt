@@ -1,21 +1,35 @@
 // The truth of conditions in a row.
-ghost use Rattle.std.specs.Prelude.{◌≡◌, option_map, unwrap_or, option_copied};
-ghost use Rattle.lp_values.specs.declared.value.Value.TheVariants.{Null};
+ghost use Rattle.std.specs.Prelude.{◌≡◌, ◌↔◌, ℕ, List, IsTrue, IfOk, option_map};
+ghost use Rattle.std.specs.Str.{chars};
 ghost use Rattle.lp_values.specs.Comparing.{truth_of};
 ghost use Rattle.lp_values.specs.Comparing.{compared as comparison};
 ghost use Rattle.lp_values.specs.Truths.{both};
 ghost use Rattle.query_types.specs.Conditions.{filter_of};
-ghost use Rattle.row_engine.specs.Rows.{among, is_yes, keeps, truth_in, turned};
+ghost use Rattle.query_types.specs.Conditions.{Filter as filter};
+ghost use Rattle.text_functions.specs.Likes.{Likes};
+ghost use Rattle.row_engine.specs.Likeness.{is_like};
+ghost use Rattle.row_engine.specs.Rows.{among, is_null, keeps, likeness, truth_in, turned};
 
-use crate::values::{compared, is_null, value};
-use lp_values::{Compare, Truth, Value, ValueList, and, not, or};
-use query_types::{Condition, MeaningList, Plan};
+use crate::values::value;
+use lp_values::{Compare, Text, Truth, Value, ValueList, and, compare, not, or};
+use query_types::{Condition, Meaning, MeaningList, Plan};
+use std::alloc::{AllocError, Global};
+use text_functions::like;
 
-// NOT before BETWEEN, IN and NULL.
+// NOT before LIKE, BETWEEN, IN and NULL.
 fn turned(negated: bool, truth: Truth) -> Truth
     ensures { result ≡ turned negated truth }
 {
     if negated { not(truth) } else { truth }
+}
+
+fn is_null(value: &Value) -> bool
+    ensures { result ≡ is_null value.now }
+{
+    match value {
+        Value::Null => true,
+        Value::Int(_) | Value::Real(_) | Value::Text(_) | Value::Stamp(_) => false,
+    }
 }
 
 fn truth_of(test: bool) -> Truth
@@ -24,70 +38,172 @@ fn truth_of(test: bool) -> Truth
     if test { Truth::Yes } else { Truth::No }
 }
 
+// Whether a text is like a pattern.
+fn is_like(text: &str, pattern: &str) -> bool
+    ensures { result ≡ is_like (chars pattern.now) (chars text.now) }
+{
+    like(text, pattern)
+}
+
+// Whether a value is like a pattern.
+#[tactic(auto, using(crate::proofs::Likeness::tells))]
+fn likeness(value: &Value, pattern: &str) -> Truth
+    ensures value { result ≡ likeness value.now pattern.now }
+    ensures law { (pattern text : List ℕ) → IsTrue (is_like pattern text) ↔ Likes pattern text }
+{
+    match value {
+        Value::Text(text) => truth_of(is_like(text.as_str(), pattern)),
+        _ => Truth::Unknown,
+    }
+}
+
 // Whether a value is one of some meanings: the OR of the equalities.
-fn among(row: &ValueList, sought: Option<&Value>, items: &MeaningList) -> Truth
-    ensures { result ≡ among row.now (unwrap_or (option_copied sought.entry) Null) items.now }
+fn among(
+    alloc: Global,
+    row: &ValueList,
+    sought: &Value,
+    items: &MeaningList,
+) -> Result<Truth, AllocError>
+    ensures { IfOk result (λ truth. truth ≡ among row.now sought.now items.now) }
 {
     let mut truth = Truth::No;
     for item in items.as_slice() {
-        truth = or(truth, compared(Compare::Equal, sought, value(row, item)));
+        let item = value(alloc, row, item)?;
+        truth = or(truth, compare(Compare::Equal, sought, item.get()));
     }
-    truth
+    Ok(truth)
 }
 
 // Whether a value lies between two others.
-fn between(value: Option<&Value>, low: Option<&Value>, high: Option<&Value>) -> Truth
-    ensures { let v = unwrap_or (option_copied value.entry) Null in result ≡ both (comparison Compare.MoreEqual v (unwrap_or (option_copied low.entry) Null)) (comparison Compare.LessEqual v (unwrap_or (option_copied high.entry) Null)) }
+fn between(value: &Value, low: &Value, high: &Value) -> Truth
+    ensures { result ≡ both (comparison Compare.MoreEqual value.now low.now) (comparison Compare.LessEqual value.now high.now) }
 {
     and(
-        compared(Compare::MoreEqual, value, low),
-        compared(Compare::LessEqual, value, high),
+        compare(Compare::MoreEqual, value, low),
+        compare(Compare::LessEqual, value, high),
     )
 }
 
+// The truth of a comparison.
+#[inline(never)]
+fn compared_truth(
+    alloc: Global,
+    row: &ValueList,
+    how: Compare,
+    left: &Meaning,
+    right: &Meaning,
+) -> Result<Truth, AllocError>
+    ensures { IfOk result (λ truth. truth ≡ truth_in row.now (filter.compared how left.now right.now)) }
+{
+    let left = value(alloc, row, left)?;
+    let right = value(alloc, row, right)?;
+    Ok(compare(how, left.get(), right.get()))
+}
+
+// The truth of IS NULL.
+#[inline(never)]
+fn null_truth(
+    alloc: Global,
+    row: &ValueList,
+    of: &Meaning,
+    negated: bool,
+) -> Result<Truth, AllocError>
+    ensures { IfOk result (λ truth. truth ≡ truth_in row.now (filter.null of.now negated)) }
+{
+    let of = value(alloc, row, of)?;
+    Ok(turned(negated, truth_of(is_null(of.get()))))
+}
+
+// The truth of LIKE.
+#[inline(never)]
+fn like_truth(
+    alloc: Global,
+    row: &ValueList,
+    of: &Meaning,
+    pattern: &Text,
+    negated: bool,
+) -> Result<Truth, AllocError>
+    ensures { IfOk result (λ truth. truth ≡ truth_in row.now (filter.like of.now pattern.now negated)) }
+{
+    let of = value(alloc, row, of)?;
+    Ok(turned(negated, likeness(of.get(), pattern.as_str())))
+}
+
+// The truth of BETWEEN.
+#[inline(never)]
+fn between_truth(
+    alloc: Global,
+    row: &ValueList,
+    of: &Meaning,
+    low: &Meaning,
+    high: &Meaning,
+    negated: bool,
+) -> Result<Truth, AllocError>
+    ensures { IfOk result (λ truth. truth ≡ truth_in row.now (filter.between of.now low.now high.now negated)) }
+{
+    let of = value(alloc, row, of)?;
+    let low = value(alloc, row, low)?;
+    let high = value(alloc, row, high)?;
+    Ok(turned(negated, between(of.get(), low.get(), high.get())))
+}
+
+// The truth of IN.
+#[inline(never)]
+fn within_truth(
+    alloc: Global,
+    row: &ValueList,
+    of: &Meaning,
+    items: &MeaningList,
+    negated: bool,
+) -> Result<Truth, AllocError>
+    ensures { IfOk result (λ truth. truth ≡ truth_in row.now (filter.within of.now items.now negated)) }
+{
+    let of = value(alloc, row, of)?;
+    let truth = among(alloc, row, of.get(), items)?;
+    Ok(turned(negated, truth))
+}
+
 // The truth of a condition.
-fn truth(row: &ValueList, condition: &Condition) -> Truth
-    ensures { result ≡ truth_in row.now (filter_of condition.now) }
+fn truth(alloc: Global, row: &ValueList, condition: &Condition) -> Result<Truth, AllocError>
+    ensures { IfOk result (λ truth. truth ≡ truth_in row.now (filter_of condition.now)) }
 {
     match condition {
-        Condition::Or(left, right) => match truth(row, left) {
-            Truth::Yes => Truth::Yes,
-            left => or(left, truth(row, right)),
+        Condition::Or(left, right) => match truth(alloc, row, left)? {
+            Truth::Yes => Ok(Truth::Yes),
+            left => Ok(or(left, truth(alloc, row, right)?)),
         },
-        Condition::And(left, right) => match truth(row, left) {
-            Truth::No => Truth::No,
-            left => and(left, truth(row, right)),
+        Condition::And(left, right) => match truth(alloc, row, left)? {
+            Truth::No => Ok(Truth::No),
+            left => Ok(and(left, truth(alloc, row, right)?)),
         },
-        Condition::Not(inner) => not(truth(row, inner)),
-        Condition::Compare { how, left, right } => {
-            compared(*how, value(row, left), value(row, right))
-        }
-        Condition::IsNull { value: of, negated } => {
-            turned(*negated, truth_of(is_null(value(row, of))))
-        }
+        Condition::Not(inner) => Ok(not(truth(alloc, row, inner)?)),
+        Condition::Compare { how, left, right } => compared_truth(alloc, row, *how, left, right),
+        Condition::IsNull { value: of, negated } => null_truth(alloc, row, of, *negated),
+        Condition::Like {
+            value: of,
+            pattern,
+            negated,
+        } => like_truth(alloc, row, of, pattern, *negated),
         Condition::Between {
             value: of,
             low,
             high,
             negated,
-        } => turned(
-            *negated,
-            between(value(row, of), value(row, low), value(row, high)),
-        ),
+        } => between_truth(alloc, row, of, low, high, *negated),
         Condition::Within {
             value: of,
             items,
             negated,
-        } => turned(*negated, among(row, value(row, of), items)),
+        } => within_truth(alloc, row, of, items, *negated),
     }
 }
 
 /// Whether a plan keeps a row: whether WHERE is Yes.
-pub fn passes(plan: &Plan, row: &ValueList) -> bool
-    ensures { result ≡ keeps (option_map filter_of plan.now.condition) row.now }
+pub fn passes(alloc: Global, plan: &Plan, row: &ValueList) -> Result<bool, AllocError>
+    ensures { IfOk result (λ is_kept. is_kept ≡ keeps (option_map filter_of plan.now.condition) row.now) }
 {
     match &plan.condition {
-        None => true,
-        Some(condition) => truth(row, condition) == Truth::Yes,
+        None => Ok(true),
+        Some(condition) => Ok(truth(alloc, row, condition)? == Truth::Yes),
     }
 }

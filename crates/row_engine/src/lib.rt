@@ -1,10 +1,12 @@
 //! The values of a plan in a row: whether WHERE keeps the row, and what SELECT makes of it.
 //!
 //! To the crate above: [`passes`] tells exactly whether the condition's three-valued truth is Yes, and [`select_row`] makes
-//! exactly the values of the output columns. Nothing is copied to compare, and only what is selected is copied.
+//! exactly the values of the output columns. What stands in the row or in the plan isn't copied to compare, and only what is selected is copied.
 #![tactic(auto)]
 
 mod conditions;
+mod making;
+mod seen;
 mod selecting;
 mod values;
 

@@ -1,7 +1,7 @@
 mod CharacterLemmas
 mod Cutting
 mod EdgeLemmas
-mod LikeLemmas
+pub mod LikeLemmas
 mod PartingLemmas
 mod PieceLemmas
 mod PlaceLemmas

@@ -6,5 +6,5 @@ use Rattle.query_types.specs.Meanings.{joined}
 use Rattle.query_types.proofs.conditions.all_fitting.Given as goal
 
 abbrev pub invariant-loop-item : goal.invariant-loop-item
-invariant-loop-item l = all_fitting l.table l.aliases l.kind (listed (map tree_of l.item-items))
-    ≡ joined l.meanings (all_fitting l.table l.aliases l.kind (listed (map tree_of (drop l.item-index l.item-items))))
+invariant-loop-item l = all_fitting l.table l.moment l.aliases l.kind (listed (map tree_of l.item-items))
+    ≡ joined l.meanings (all_fitting l.table l.moment l.aliases l.kind (listed (map tree_of (drop l.item-index l.item-items))))

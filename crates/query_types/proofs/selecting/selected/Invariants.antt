@@ -7,7 +7,7 @@ use Rattle.query_types.proofs.selecting.selected.Given as goal
 abbrev pub invariant-loop-item : goal.invariant-loop-item
 invariant-loop-item l = record {
   before : l.before ≤ length l.all;
-  all : l.all ≡ with_aliases l.table (take l.before l.all) (map item_of (drop l.item-index l.item-items));
-  found : selected l.table (take l.initial.before l.all) l.all (map item_of l.item-items)
-      ≡ joined l.meanings (selected l.table (take l.before l.all) l.all (map item_of (drop l.item-index l.item-items)));
+  all : l.all ≡ with_aliases l.table l.moment (take l.before l.all) (map item_of (drop l.item-index l.item-items));
+  found : selected l.table l.moment (take l.initial.before l.all) l.all (map item_of l.item-items)
+      ≡ joined l.meanings (selected l.table l.moment (take l.before l.all) l.all (map item_of (drop l.item-index l.item-items)));
 }

@@ -1,7 +1,0 @@
-use Rattle.std.proofs.Common.{◌≡◌, ◌∷◌, take}
-use Rattle.std.specs.List.{flat_map}
-use Rattle.query_types.specs.Names.{doubled}
-use Rattle.query_types.proofs.naming.quoted.Given as goal
-
-abbrev pub invariant-loop-byte : goal.invariant-loop-byte
-invariant-loop-byte l = l.bytes ≡ 39 ∷ flat_map doubled (take l.byte-index l.byte-items)

@@ -1,0 +1,63 @@
+// Stamps that a query names.
+ghost use Rattle.std.specs.Prelude.{◌≡◌, Some, IfOk};
+ghost use Rattle.query_tree.specs.Views.{placed_of};
+ghost use Rattle.lp_time.specs.Readings.{part_of, seconds_in};
+ghost use Rattle.slot_reading.specs.Stamps.{stamp_value};
+ghost use Rattle.lp_values.specs.declared.part.Part.TheVariants.{Both};
+ghost use Rattle.query_types.specs.Meanings.{Answers, moment_as, pattern_of, stamp_means, stamp_read};
+
+use crate::{Meaning, TypeFault};
+use lp_functions::{to_date, to_time};
+use lp_time::{Pattern, read_stamp};
+use lp_values::{Part, Stamp, Text, Value};
+use query_tree::Placed;
+use std::alloc::{AllocError, Global};
+
+/// A text as a pattern, which is to stand at this place.
+pub(crate) fn pattern_of(at: u32, text: &Text) -> Result<Pattern, TypeFault>
+    ensures { Answers (λ pattern. pattern) result (pattern_of at (Some (record { at = at; text = text.now }))) }
+{
+    match Pattern::read(text.as_str()) {
+        Ok(pattern) => Ok(pattern),
+        Err(_) => Err(TypeFault::BadPattern { at }),
+    }
+}
+
+// A value read by a pattern.
+fn stamp_read(value: &Placed, pattern: &Pattern) -> Result<Meaning, TypeFault>
+    ensures { Answers (λ meaning. meaning) result (stamp_read value.now.at (part_of pattern.now) (seconds_in pattern.now value.now.text)) }
+{
+    match read_stamp(pattern, value.text.as_str()) {
+        Some(stamp) => Ok(Meaning::constant(Value::Stamp(stamp))),
+        None => Err(TypeFault::BadPattern { at: value.at }),
+    }
+}
+
+/// TIMESTAMP.
+pub(crate) fn stamp_means(value: &Placed, pattern: &Placed) -> Result<Meaning, TypeFault>
+    ensures { Answers (λ meaning. meaning) result (stamp_means (placed_of value.now) (placed_of pattern.now)) }
+{
+    let pieces = pattern_of(pattern.at, &pattern.text)?;
+    stamp_read(value, &pieces)
+}
+
+/// The moment of a run as a stamp; NULL outside the years of stamps.
+pub(crate) fn moment_value(moment: i64) -> Value
+    ensures { result ≡ stamp_value Both moment }
+{
+    match Stamp::new(moment, Part::Both) {
+        Some(stamp) => Value::Stamp(stamp),
+        None => Value::Null,
+    }
+}
+
+/// The moment of a run, its day or its time of day.
+pub(crate) fn moment_as(alloc: Global, part: Part, moment: &Value) -> Result<Value, AllocError>
+    ensures { IfOk result (λ value. value ≡ moment_as part moment.now) }
+{
+    match part {
+        Part::Both => moment.copy(alloc),
+        Part::Date => Ok(to_date(moment)),
+        Part::Time => Ok(to_time(moment)),
+    }
+}
