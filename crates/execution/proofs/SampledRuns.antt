@@ -1,5 +1,5 @@
 -- What a run over sampled columns says of its query.
-use Rattle.std.proofs.Common.{◌≡◌, ◌⊎◌, true, false, List, ℕ, length, Option, Some, None, Ok, Err, inl, inr, subst}
+use Rattle.std.proofs.Common.{◌≡◌, ◌⊎◌, true, false, List, ℕ, ℤ, length, Option, Some, None, Ok, Err, inl, inr, subst}
 use Rattle.grammar.specs.Trees as model
 use Rattle.lp_model.specs.Outside.{Folder, Told}
 use Rattle.command_words.specs.declared.spec.Spec.{Spec}
@@ -22,15 +22,15 @@ use Rattle.execution.specs.Executed.{IsExecuted, IsStopped, IsParseError, IsUnpl
 abbrev Kept : DelimitedOptions → List Span → Folder → Type 0
 Kept options spans folder = AreKept (delimited_lines options) false spans folder
 
-abbrev pub rules_in : ℕ → Spec → model.Query → Rules
-rules_in limit spec q = rules_of limit spec.ts_format q (csv_of spec.headers)
+abbrev pub rules_in : ℕ → Spec → ℤ → model.Query → Rules
+rules_in limit spec moment q = rules_of limit spec.ts_format moment q (csv_of spec.headers)
 
-written_all : (told : Option Folder) (before now : Option (List ℕ)) (spec : Spec) (q : model.Query) (options : DelimitedOptions) (limit : ℕ) (spans : List Span) (counts : Counts)
-    → Told told (λ folder. Kept options spans folder → IsSampled (rules_in limit spec q) before (past_of (delimited_lines options) false folder spans) (delimited_lines options) folder spans counts now)
+written_all : (told : Option Folder) (before now : Option (List ℕ)) (spec : Spec) (moment : ℤ) (q : model.Query) (options : DelimitedOptions) (limit : ℕ) (spans : List Span) (counts : Counts)
+    → Told told (λ folder. Kept options spans folder → IsSampled (rules_in limit spec moment q) before (past_of (delimited_lines options) false folder spans) (delimited_lines options) folder spans counts now)
     → IsWithin spec.errors counts.bad
-    → IsExecuted (F.Sampled options limit) told before now spec q spans counts
-written_all None before now spec q options limit spans counts ran within = tt
-written_all (Some folder) before now spec q options limit spans counts ran within = λ kept.
+    → IsExecuted (F.Sampled options limit) told before now spec moment q spans counts
+written_all None before now spec moment q options limit spans counts ran within = tt
+written_all (Some folder) before now spec moment q options limit spans counts ran within = λ kept.
     let all = ran kept in
     record {
       plan = all.written.plan;
@@ -38,70 +38,70 @@ written_all (Some folder) before now spec q options limit spans counts ran withi
       written = λ again. record { text = all.written.text; processed = all.processed; output = all.written.output; bad = all.bad; within = within };
     }
 
-pub executed : (told : Option Folder) (before now : Option (List ℕ)) (spec : Spec) (q : model.Query) (options : DelimitedOptions) (limit : ℕ) (slice spans : List Span) (counts : Counts) (most : Option ℕ)
+pub executed : (told : Option Folder) (before now : Option (List ℕ)) (spec : Spec) (moment : ℤ) (q : model.Query) (options : DelimitedOptions) (limit : ℕ) (slice spans : List Span) (counts : Counts) (most : Option ℕ)
     → slice ≡ spans → most ≡ spec.errors
-    → Told told (λ folder. Kept options slice folder → IsSampled (rules_in limit spec q) before (past_of (delimited_lines options) false folder slice) (delimited_lines options) folder slice counts now)
+    → Told told (λ folder. Kept options slice folder → IsSampled (rules_in limit spec moment q) before (past_of (delimited_lines options) false folder slice) (delimited_lines options) folder slice counts now)
     → IsWithin most counts.bad
-    → IsExecuted (F.Sampled options limit) told before now spec q spans counts
-executed told before now spec q options limit slice spans counts most listed same ran within =
-    subst (λ (s : List Span). IsExecuted (F.Sampled options limit) told before now spec q s counts) listed
-    (written_all told before now spec q options limit slice counts ran (subst (λ (m : Option ℕ). IsWithin m counts.bad) same within))
+    → IsExecuted (F.Sampled options limit) told before now spec moment q spans counts
+executed told before now spec moment q options limit slice spans counts most listed same ran within =
+    subst (λ (s : List Span). IsExecuted (F.Sampled options limit) told before now spec moment q s counts) listed
+    (written_all told before now spec moment q options limit slice counts ran (subst (λ (m : Option ℕ). IsWithin m counts.bad) same within))
 
-stopped_all : (told : Option Folder) (before now : Option (List ℕ)) (spec : Spec) (q : model.Query) (options : DelimitedOptions) (limit : ℕ) (spans : List Span)
-    → Told told (λ folder. Kept options spans folder → IsFront (rules_in limit spec q) before (past_of (delimited_lines options) false folder spans) now)
-    → IsStopped (F.Sampled options limit) told before now spec q spans
-stopped_all None before now spec q options limit spans front = tt
-stopped_all (Some folder) before now spec q options limit spans front = λ kept. elim (front kept) [
+stopped_all : (told : Option Folder) (before now : Option (List ℕ)) (spec : Spec) (moment : ℤ) (q : model.Query) (options : DelimitedOptions) (limit : ℕ) (spans : List Span)
+    → Told told (λ folder. Kept options spans folder → IsFront (rules_in limit spec moment q) before (past_of (delimited_lines options) false folder spans) now)
+    → IsStopped (F.Sampled options limit) told before now spec moment q spans
+stopped_all None before now spec moment q options limit spans front = tt
+stopped_all (Some folder) before now spec moment q options limit spans front = λ kept. elim (front kept) [
   | inl same ↦ inl same
   | inr within ↦ inr (record { plan = within.plan; is_planned = within.planned; front = λ again. within.front })
 ]
 
-pub stopped : (told : Option Folder) (before now : Option (List ℕ)) (spec : Spec) (q : model.Query) (options : DelimitedOptions) (limit : ℕ) (slice spans : List Span)
+pub stopped : (told : Option Folder) (before now : Option (List ℕ)) (spec : Spec) (moment : ℤ) (q : model.Query) (options : DelimitedOptions) (limit : ℕ) (slice spans : List Span)
     → slice ≡ spans
-    → Told told (λ folder. Kept options slice folder → IsFront (rules_in limit spec q) before (past_of (delimited_lines options) false folder slice) now)
-    → IsStopped (F.Sampled options limit) told before now spec q spans
-stopped told before now spec q options limit slice spans listed front =
-    subst (λ (s : List Span). IsStopped (F.Sampled options limit) told before now spec q s) listed (stopped_all told before now spec q options limit slice front)
+    → Told told (λ folder. Kept options slice folder → IsFront (rules_in limit spec moment q) before (past_of (delimited_lines options) false folder slice) now)
+    → IsStopped (F.Sampled options limit) told before now spec moment q spans
+stopped told before now spec moment q options limit slice spans listed front =
+    subst (λ (s : List Span). IsStopped (F.Sampled options limit) told before now spec moment q s) listed (stopped_all told before now spec moment q options limit slice front)
 
 -- no plan was made, and nothing written
 
-abbrev Refuses : Option Folder → Option (List ℕ) → Option (List ℕ) → Spec → model.Query → DelimitedOptions → ℕ → List Span → TypeFault → Type 0
-Refuses told before now spec q options limit spans fault = Told told (λ folder. Kept options spans folder → IsRefused (rules_in limit spec q) before (past_of (delimited_lines options) false folder spans) fault now)
+abbrev Refuses : Option Folder → Option (List ℕ) → Option (List ℕ) → Spec → ℤ → model.Query → DelimitedOptions → ℕ → List Span → TypeFault → Type 0
+Refuses told before now spec moment q options limit spans fault = Told told (λ folder. Kept options spans folder → IsRefused (rules_in limit spec moment q) before (past_of (delimited_lines options) false folder spans) fault now)
 
-unplanned_all : (told : Option Folder) (before now : Option (List ℕ)) (spec : Spec) (q : model.Query) (options : DelimitedOptions) (limit : ℕ) (spans : List Span) (fault : TypeFault)
-    → Refuses told before now spec q options limit spans fault → IsUnplanned (F.Sampled options limit) told spec q spans fault
-unplanned_all None before now spec q options limit spans fault refused = tt
-unplanned_all (Some folder) before now spec q options limit spans fault refused = λ kept. (refused kept).fault
+unplanned_all : (told : Option Folder) (before now : Option (List ℕ)) (spec : Spec) (moment : ℤ) (q : model.Query) (options : DelimitedOptions) (limit : ℕ) (spans : List Span) (fault : TypeFault)
+    → Refuses told before now spec moment q options limit spans fault → IsUnplanned (F.Sampled options limit) told spec moment q spans fault
+unplanned_all None before now spec moment q options limit spans fault refused = tt
+unplanned_all (Some folder) before now spec moment q options limit spans fault refused = λ kept. (refused kept).fault
 
-pub unplanned : (told : Option Folder) (before now : Option (List ℕ)) (spec : Spec) (q : model.Query) (options : DelimitedOptions) (limit : ℕ) (slice spans : List Span) (fault : TypeFault)
-    → slice ≡ spans → Refuses told before now spec q options limit slice fault → IsUnplanned (F.Sampled options limit) told spec q spans fault
-unplanned told before now spec q options limit slice spans fault listed refused =
-    subst (λ (s : List Span). IsUnplanned (F.Sampled options limit) told spec q s fault) listed (unplanned_all told before now spec q options limit slice fault refused)
+pub unplanned : (told : Option Folder) (before now : Option (List ℕ)) (spec : Spec) (moment : ℤ) (q : model.Query) (options : DelimitedOptions) (limit : ℕ) (slice spans : List Span) (fault : TypeFault)
+    → slice ≡ spans → Refuses told before now spec moment q options limit slice fault → IsUnplanned (F.Sampled options limit) told spec moment q spans fault
+unplanned told before now spec moment q options limit slice spans fault listed refused =
+    subst (λ (s : List Span). IsUnplanned (F.Sampled options limit) told spec moment q s fault) listed (unplanned_all told before now spec moment q options limit slice fault refused)
 
-untouched_all : (told : Option Folder) (before now : Option (List ℕ)) (spec : Spec) (q : model.Query) (options : DelimitedOptions) (limit : ℕ) (spans : List Span) (fault : TypeFault)
-    → Refuses told before now spec q options limit spans fault → IsUntouched (F.Sampled options limit) told before now spec spans
-untouched_all None before now spec q options limit spans fault refused = tt
-untouched_all (Some folder) before now spec q options limit spans fault refused = λ kept. (refused kept).nothing
+untouched_all : (told : Option Folder) (before now : Option (List ℕ)) (spec : Spec) (moment : ℤ) (q : model.Query) (options : DelimitedOptions) (limit : ℕ) (spans : List Span) (fault : TypeFault)
+    → Refuses told before now spec moment q options limit spans fault → IsUntouched (F.Sampled options limit) told before now spec spans
+untouched_all None before now spec moment q options limit spans fault refused = tt
+untouched_all (Some folder) before now spec moment q options limit spans fault refused = λ kept. (refused kept).nothing
 
-pub untouched : (told : Option Folder) (before now : Option (List ℕ)) (spec : Spec) (q : model.Query) (options : DelimitedOptions) (limit : ℕ) (slice spans : List Span) (fault : TypeFault)
-    → slice ≡ spans → Refuses told before now spec q options limit slice fault → IsUntouched (F.Sampled options limit) told before now spec spans
-untouched told before now spec q options limit slice spans fault listed refused =
-    subst (λ (s : List Span). IsUntouched (F.Sampled options limit) told before now spec s) listed (untouched_all told before now spec q options limit slice fault refused)
+pub untouched : (told : Option Folder) (before now : Option (List ℕ)) (spec : Spec) (moment : ℤ) (q : model.Query) (options : DelimitedOptions) (limit : ℕ) (slice spans : List Span) (fault : TypeFault)
+    → slice ≡ spans → Refuses told before now spec moment q options limit slice fault → IsUntouched (F.Sampled options limit) told before now spec spans
+untouched told before now spec moment q options limit slice spans fault listed refused =
+    subst (λ (s : List Span). IsUntouched (F.Sampled options limit) told before now spec s) listed (untouched_all told before now spec moment q options limit slice fault refused)
 
-pub refused_stopped : (told : Option Folder) (before now : Option (List ℕ)) (spec : Spec) (q : model.Query) (options : DelimitedOptions) (limit : ℕ) (slice spans : List Span) (fault : TypeFault)
-    → slice ≡ spans → Refuses told before now spec q options limit slice fault → IsStopped (F.Sampled options limit) told before now spec q spans
-refused_stopped told before now spec q options limit slice spans fault listed refused =
-    stopped told before now spec q options limit slice spans listed (front_of told refused)
+pub refused_stopped : (told : Option Folder) (before now : Option (List ℕ)) (spec : Spec) (moment : ℤ) (q : model.Query) (options : DelimitedOptions) (limit : ℕ) (slice spans : List Span) (fault : TypeFault)
+    → slice ≡ spans → Refuses told before now spec moment q options limit slice fault → IsStopped (F.Sampled options limit) told before now spec moment q spans
+refused_stopped told before now spec moment q options limit slice spans fault listed refused =
+    stopped told before now spec moment q options limit slice spans listed (front_of told refused)
   where
-    front_of : (told : Option Folder) → Refuses told before now spec q options limit slice fault
-        → Told told (λ folder. Kept options slice folder → IsFront (rules_in limit spec q) before (past_of (delimited_lines options) false folder slice) now)
+    front_of : (told : Option Folder) → Refuses told before now spec moment q options limit slice fault
+        → Told told (λ folder. Kept options slice folder → IsFront (rules_in limit spec moment q) before (past_of (delimited_lines options) false folder slice) now)
     front_of None refused = tt
     front_of (Some folder) refused = λ kept. inl (refused kept).nothing
 
-pub parse_error : (told : Option Folder) (spec : Spec) (q : model.Query) (options : DelimitedOptions) (limit : ℕ) (slice spans : List Span) (most : Option ℕ) (line : BadLine)
+pub parse_error : (told : Option Folder) (spec : Spec) (moment : ℤ) (q : model.Query) (options : DelimitedOptions) (limit : ℕ) (slice spans : List Span) (most : Option ℕ) (line : BadLine)
     → slice ≡ spans → most ≡ spec.errors
     → Told told (λ folder. Kept options slice folder → IsTooMany most 0 (spans_bad_lines (delimited_lines options) false folder slice) line)
-    → IsParseError (F.Sampled options limit) told spec q spans line
-parse_error told spec q options limit slice spans most line listed same exceeds =
+    → IsParseError (F.Sampled options limit) told spec moment q spans line
+parse_error told spec moment q options limit slice spans most line listed same exceeds =
     let Of : List Span → Option ℕ → Type 0 = λ s m. Told told (λ folder. Kept options s folder → IsTooMany m 0 (spans_bad_lines (delimited_lines options) false folder s) line) in
     record { typed = tt; exceeds = subst (λ (m : Option ℕ). Of spans m) same (subst (λ (s : List Span). Of s most) listed exceeds) }

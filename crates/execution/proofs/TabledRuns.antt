@@ -1,5 +1,5 @@
 -- What the run of a plan says of its query, where the format has a table.
-use Rattle.std.proofs.Common.{◌≡◌, true, false, List, ℕ, length, Option, Some, None, Ok, subst}
+use Rattle.std.proofs.Common.{◌≡◌, true, false, List, ℕ, ℤ, length, Option, Some, None, Ok, subst}
 use Rattle.grammar.specs.Trees as model
 use Rattle.lp_model.specs.Outside.{Folder, Told, Gains, GainsSome}
 use Rattle.command_words.specs.declared.spec.Spec.{Spec}
@@ -32,15 +32,15 @@ written_all None before now spec format plan spans counts text processed output 
 written_all (Some folder) before now spec format plan spans counts text processed output bad within =
     λ kept. record { text = text kept; processed = processed kept; output = output kept; bad = bad kept; within = within }
 
-pub executed : (told : Option Folder) (before now : Option (List ℕ)) (spec : Spec) (q : model.Query) (format : TableFormat) (plan : Planned) (slice spans : List Span) (counts : Counts) (most : Option ℕ)
-    → slice ≡ spans → plan_of (table_of format) q ≡ Ok plan → most ≡ spec.errors
+pub executed : (told : Option Folder) (before now : Option (List ℕ)) (spec : Spec) (moment : ℤ) (q : model.Query) (format : TableFormat) (plan : Planned) (slice spans : List Span) (counts : Counts) (most : Option ℕ)
+    → slice ≡ spans → plan_of (table_of format) moment q ≡ Ok plan → most ≡ spec.errors
     → Told told (λ folder. Kept format slice folder → Gains before now (text_of spec format plan folder slice))
     → Told told (λ folder. Kept format slice folder → counts.processed ≡ length (spans_found (lines_of format) false folder slice))
     → Told told (λ folder. Kept format slice folder → counts.output ≡ length (plan_rows (readings_of format) plan (lines_of format) folder slice))
     → Told told (λ folder. Kept format slice folder → counts.bad ≡ length (spans_bad (lines_of format) false folder slice))
     → IsWithin most counts.bad
-    → IsExecuted (F.Tabled format) told before now spec q spans counts
-executed told before now spec q format plan slice spans counts most listed planned limit text processed output bad within =
+    → IsExecuted (F.Tabled format) told before now spec moment q spans counts
+executed told before now spec moment q format plan slice spans counts most listed planned limit text processed output bad within =
     let Of : List Span → Type 0 = λ s. Told told (λ folder. Kept format s folder → Writes before now spec (F.Tabled format) plan s counts folder) in
     record {
       plan = plan;
@@ -48,18 +48,18 @@ executed told before now spec q format plan slice spans counts most listed plann
       written = subst Of listed (written_all told before now spec format plan slice counts text processed output bad (subst (λ (m : Option ℕ). IsWithin m counts.bad) limit within));
     }
 
-pub front : (told : Option Folder) (before now : Option (List ℕ)) (spec : Spec) (q : model.Query) (format : TableFormat) (plan : Planned) (slice spans : List Span)
-    → slice ≡ spans → plan_of (table_of format) q ≡ Ok plan
+pub front : (told : Option Folder) (before now : Option (List ℕ)) (spec : Spec) (moment : ℤ) (q : model.Query) (format : TableFormat) (plan : Planned) (slice spans : List Span)
+    → slice ≡ spans → plan_of (table_of format) moment q ≡ Ok plan
     → Told told (λ folder. Kept format slice folder → GainsSome before now (text_of spec format plan folder slice))
-    → HoldsFront (F.Tabled format) told before now spec q spans (table_of format)
-front told before now spec q format plan slice spans listed planned text =
+    → HoldsFront (F.Tabled format) told before now spec moment q spans (table_of format)
+front told before now spec moment q format plan slice spans listed planned text =
     let Of : List Span → Type 0 = λ s. Told told (λ folder. Kept format s folder → GainsSome before now (text_of spec format plan folder s)) in
     record { plan = plan; is_planned = planned; front = subst Of listed text }
 
-pub parse_error : (told : Option Folder) (spec : Spec) (q : model.Query) (format : TableFormat) (plan : Planned) (slice spans : List Span) (most : Option ℕ) (line : BadLine)
-    → slice ≡ spans → plan_of (table_of format) q ≡ Ok plan → most ≡ spec.errors
+pub parse_error : (told : Option Folder) (spec : Spec) (moment : ℤ) (q : model.Query) (format : TableFormat) (plan : Planned) (slice spans : List Span) (most : Option ℕ) (line : BadLine)
+    → slice ≡ spans → plan_of (table_of format) moment q ≡ Ok plan → most ≡ spec.errors
     → Told told (λ folder. Kept format slice folder → IsTooMany most 0 (spans_bad_lines (lines_of format) false folder slice) line)
-    → IsParseError (F.Tabled format) told spec q spans line
-parse_error told spec q format plan slice spans most line listed planned limit exceeds =
+    → IsParseError (F.Tabled format) told spec moment q spans line
+parse_error told spec moment q format plan slice spans most line listed planned limit exceeds =
     let Of : List Span → Option ℕ → Type 0 = λ s m. Told told (λ folder. Kept format s folder → IsTooMany m 0 (spans_bad_lines (lines_of format) false folder s) line) in
     record { typed = (plan, planned); exceeds = subst (λ (m : Option ℕ). Of spans m) limit (subst (λ (s : List Span). Of s most) listed exceeds) }

@@ -62,38 +62,38 @@ pub record Writes (before now : Option (List ℕ)) (spec : Spec) (format : LogFo
   pub within : IsWithin spec.errors counts.bad
 
 -- where each span begins as its log was kept, the output gains the text of the rows of the query's plan over a table
-pub record WritesAll (format : LogFormat) (told : Option Folder) (before now : Option (List ℕ)) (spec : Spec) (q : model.Query) (spans : List Span) (counts : Counts) (table : TableColumns) : Type 0 where
+pub record WritesAll (format : LogFormat) (told : Option Folder) (before now : Option (List ℕ)) (spec : Spec) (moment : ℤ) (q : model.Query) (spans : List Span) (counts : Counts) (table : TableColumns) : Type 0 where
   pub plan : Planned
-  pub is_planned : plan_of table q ≡ Ok plan
+  pub is_planned : plan_of table moment q ≡ Ok plan
   pub written : Told told (λ folder. AreKept (lines_in format) false spans folder → Writes before now spec format plan spans counts folder)
 
 -- the output gains the text of the query's rows
-abbrev pub IsExecuted : LogFormat → Option Folder → Option (List ℕ) → Option (List ℕ) → Spec → model.Query → List Span → Counts → Type 0
-IsExecuted format told before now spec q spans counts = OnTable format spec.ts_format told spans (WritesAll format told before now spec q spans counts)
+abbrev pub IsExecuted : LogFormat → Option Folder → Option (List ℕ) → Option (List ℕ) → Spec → ℤ → model.Query → List Span → Counts → Type 0
+IsExecuted format told before now spec moment q spans counts = OnTable format spec.ts_format told spans (WritesAll format told before now spec moment q spans counts)
 
 -- the output holds the front of that text
-pub record HoldsFront (format : LogFormat) (told : Option Folder) (before now : Option (List ℕ)) (spec : Spec) (q : model.Query) (spans : List Span) (table : TableColumns) : Type 0 where
+pub record HoldsFront (format : LogFormat) (told : Option Folder) (before now : Option (List ℕ)) (spec : Spec) (moment : ℤ) (q : model.Query) (spans : List Span) (table : TableColumns) : Type 0 where
   pub plan : Planned
-  pub is_planned : plan_of table q ≡ Ok plan
+  pub is_planned : plan_of table moment q ≡ Ok plan
   pub front : Told told (λ folder. AreKept (lines_in format) false spans folder → GainsSome before now (text_in spec format plan folder spans))
 
 -- a run stopped before it wrote anything, or within the text
-abbrev pub IsStopped : LogFormat → Option Folder → Option (List ℕ) → Option (List ℕ) → Spec → model.Query → List Span → Type 0
-IsStopped format told before now spec q spans = OnTable format spec.ts_format told spans (λ table. (now ≡ before) ⊎ HoldsFront format told before now spec q spans table)
+abbrev pub IsStopped : LogFormat → Option Folder → Option (List ℕ) → Option (List ℕ) → Spec → ℤ → model.Query → List Span → Type 0
+IsStopped format told before now spec moment q spans = OnTable format spec.ts_format told spans (λ table. (now ≡ before) ⊎ HoldsFront format told before now spec moment q spans table)
 
 -- over a table that is known before a log is read, the query has a plan
-abbrev pub IsTyped : LogFormat → model.Query → Type 0
-IsTyped (F.Tabled format) q = (plan : Planned) × (plan_of (table_of format) q ≡ Ok plan)
-IsTyped (F.Sampled options limit) q = ⊤
+abbrev pub IsTyped : LogFormat → ℤ → model.Query → Type 0
+IsTyped (F.Tabled format) moment q = (plan : Planned) × (plan_of (table_of format) moment q ≡ Ok plan)
+IsTyped (F.Sampled options limit) moment q = ⊤
 
 -- of the bad lines of the spans, in order, this is the first that is one too many
-pub record IsParseError (format : LogFormat) (told : Option Folder) (spec : Spec) (q : model.Query) (spans : List Span) (line : BadLine) : Type 0 where
-  pub typed : IsTyped format q
+pub record IsParseError (format : LogFormat) (told : Option Folder) (spec : Spec) (moment : ℤ) (q : model.Query) (spans : List Span) (line : BadLine) : Type 0 where
+  pub typed : IsTyped format moment q
   pub exceeds : Told told (λ folder. AreKept (lines_in format) false spans folder → IsTooMany spec.errors 0 (spans_bad_lines (lines_in format) false folder spans) line)
 
 -- a query has no plan, by this fault
-abbrev pub IsUnplanned : LogFormat → Option Folder → Spec → model.Query → List Span → TypeFault → Type 0
-IsUnplanned format told spec q spans fault = OnTable format spec.ts_format told spans (λ table. plan_of table q ≡ Err fault)
+abbrev pub IsUnplanned : LogFormat → Option Folder → Spec → ℤ → model.Query → List Span → TypeFault → Type 0
+IsUnplanned format told spec moment q spans fault = OnTable format spec.ts_format told spans (λ table. plan_of table moment q ≡ Err fault)
 
 -- nothing is written
 abbrev pub IsUntouched : LogFormat → Option Folder → Option (List ℕ) → Option (List ℕ) → Spec → List Span → Type 0

@@ -29,5 +29,7 @@ abbrev pub unplanned : TypeFault → RunFault
 unplanned (T.UnknownField at) = F.Plan (T.UnknownField at)
 unplanned (T.UnknownFunction at) = F.Plan (T.UnknownFunction at)
 unplanned (T.KindMismatch at) = F.Plan (T.KindMismatch at)
+unplanned (T.WrongArity at) = F.Plan (T.WrongArity at)
 unplanned (T.TooFewColumns at) = F.Plan (T.TooFewColumns at)
+unplanned (T.BadPattern at) = F.Plan (T.BadPattern at)
 unplanned T.Memory = F.Memory

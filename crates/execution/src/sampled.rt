@@ -38,11 +38,11 @@ pub(crate) fn execute_sampled<L: Logs, G: Stage>(
     requires spans { AllSpans spans.now IsSpan }
     requires there { Told (L.folder logs.old) (λ folder. AllSpans spans.now (λ span. span.listed ≤ length (bytes_in folder span.name))) }
     ensures grows { OnlyGrow (L.folder logs.old) (L.folder logs.new) }
-    ensures ran { IfOk result (λ ran. IsExecuted (F.Sampled options limit) (L.folder logs.new) (G.state stage.old).written (G.state stage.new).written spec.now (query_of query.now) spans.now ran.counts) }
-    ensures stopped { OnErr result (IsStopped (F.Sampled options limit) (L.folder logs.new) (G.state stage.old).written (G.state stage.new).written spec.now (query_of query.now) spans.now) }
-    ensures plan { IfPlan result (IsUnplanned (F.Sampled options limit) (L.folder logs.new) spec.now (query_of query.now) spans.now) }
+    ensures ran { IfOk result (λ ran. IsExecuted (F.Sampled options limit) (L.folder logs.new) (G.state stage.old).written (G.state stage.new).written spec.now moment (query_of query.now) spans.now ran.counts) }
+    ensures stopped { OnErr result (IsStopped (F.Sampled options limit) (L.folder logs.new) (G.state stage.old).written (G.state stage.new).written spec.now moment (query_of query.now) spans.now) }
+    ensures plan { IfPlan result (IsUnplanned (F.Sampled options limit) (L.folder logs.new) spec.now moment (query_of query.now) spans.now) }
     ensures before { IfPlan result (λ fault. IsUntouched (F.Sampled options limit) (L.folder logs.new) (G.state stage.old).written (G.state stage.new).written spec.now spans.now) }
-    ensures parse { IfParse result (IsParseError (F.Sampled options limit) (L.folder logs.new) spec.now (query_of query.now) spans.now) }
+    ensures parse { IfParse result (IsParseError (F.Sampled options limit) (L.folder logs.new) spec.now moment (query_of query.now) spans.now) }
     ensures given { L.given logs.new ≤ L.given logs.old + spans_size spans.now }
     ensures later_logs { L.faults logs.old ≤ L.faults logs.new }
     ensures logs { IsErrOf result RunFault.LogsFault → Rose (L.faults logs.old) (L.faults logs.new) }

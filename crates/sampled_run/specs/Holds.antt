@@ -1,5 +1,5 @@
 -- What the state of a run stands for.
-use Rattle.std.specs.Prelude.{◌≡◌, ◌≤◌, ◌<◌, ◌⊎◌, ℕ, true, List, length, map, Option, Some, Ok, Err}
+use Rattle.std.specs.Prelude.{◌≡◌, ◌≤◌, ◌<◌, ◌⊎◌, ℕ, ℤ, true, List, length, map, Option, Some, Ok, Err}
 use Rattle.grammar.specs.Trees.{Query}
 use Rattle.lp_model.specs.Outside.{Gains, GainsSome}
 use Rattle.lp_time.specs.declared.piece.Piece.{Piece}
@@ -52,14 +52,15 @@ PhaseHolds text has_text rules start past (P.Refused fault) now = ⊥
 PhaseHolds text has_text rules start past P.Lost now = ⊥
 
 -- a run is asked by these rules
-pub record Asks (most : ℕ) (times : List Piece) (asked : Query) (rules : Rules) : Type 0 where
+pub record Asks (most : ℕ) (times : List Piece) (when : ℤ) (asked : Query) (rules : Rules) : Type 0 where
   pub limit : most ≡ rules.limit
   pub pattern : times ≡ rules.pattern
+  pub moment : when ≡ rules.moment
   pub query : asked ≡ rules.query
 
 -- a run goes by these rules, and its phase stands for these records
 pub record Holds {F : Type 0} (text : TextOf F) (has_text : HasTextOf F) (rules : Rules) (start : Option (List ℕ)) (past : Past) (sampling : Sampling F) (now : Option (List ℕ)) : Type 0 where
-  pub asks : Asks sampling.limit sampling.pattern.now (query_of sampling.query.now) rules
+  pub asks : Asks sampling.limit sampling.pattern.now sampling.moment (query_of sampling.query.now) rules
   pub phase : PhaseHolds text has_text rules start past sampling.phase now
 
 -- the query has no plan, by this fault, and nothing is written

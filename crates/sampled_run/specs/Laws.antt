@@ -92,7 +92,7 @@ within_later text has_text begins rules start now past later writer same follows
     let Of : List ℕ → Type 0 = λ t. GainsSome start now t in
     record {
       plan = plan;
-      planned = ap (λ told. plan_of (table_of told) rules.query) same ∙ begun.planned;
+      planned = ap (λ told. plan_of (table_of told) rules.moment rules.query) same ∙ begun.planned;
       front = subst Of whole (front_of text has_text begins writer.shape true plan.names (rows_at rules past plan) more start now writer.buffers.held begun.under_way);
     }
 

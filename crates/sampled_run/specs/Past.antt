@@ -1,5 +1,5 @@
 -- What is known of a run's records so far, and the run that they make.
-use Rattle.std.specs.Prelude.{◌≡◌, ℕ, Bool, true, List, [], ◌∷◌, ◌++◌, Option, Some, None, Result}
+use Rattle.std.specs.Prelude.{◌≡◌, ℕ, ℤ, Bool, true, List, [], ◌∷◌, ◌++◌, Option, Some, None, Result}
 use Rattle.grammar.specs.Trees.{Query}
 use Rattle.lp_model.specs.Reading.{Columns}
 use Rattle.lp_time.specs.declared.piece.Piece.{Piece}
@@ -54,10 +54,11 @@ pub record Later (before after : Past) : Type 0 where
   pub founds : after.founds ≡ before.founds ++ more
   pub first : (log : FirstLog) → before.first ≡ Some log → after.first ≡ Some log
 
--- what a run is asked: from how many records kinds are judged, how times are read, the query, and the text of named rows
+-- what a run is asked: from how many records kinds are judged, how times are read, the moment, the query, and the text of named rows
 pub record Rules : Type 0 where
   pub limit : ℕ
   pub pattern : List Piece
+  pub moment : ℤ
   pub query : Query
   pub text : Bool → List (List ℕ) → List (List Value) → List ℕ
 
@@ -67,7 +68,7 @@ told_at rules past = judged rules.limit rules.pattern past.first past.founds
 
 -- the plan over that table, or its fault
 abbrev pub plan_at : Rules → Past → Result Planned TypeFault
-plan_at rules past = plan_of (table_of (told_at rules past)) rules.query
+plan_at rules past = plan_of (table_of (told_at rules past)) rules.moment rules.query
 
 -- the output rows of records
 abbrev pub rows_with : List Piece → Judged → Planned → List Found → List (List Value)
@@ -79,5 +80,5 @@ rows_at rules past plan = rows_with rules.pattern (told_at rules past) plan past
 abbrev pub text_at : Rules → Past → Planned → List ℕ
 text_at rules past plan = rules.text true plan.names (rows_at rules past plan)
 
-abbrev pub rules_of : ℕ → List Piece → Query → (Bool → List (List ℕ) → List (List Value) → List ℕ) → Rules
-rules_of limit pattern query text = record { limit = limit; pattern = pattern; query = query; text = text }
+abbrev pub rules_of : ℕ → List Piece → ℤ → Query → (Bool → List (List ℕ) → List (List Value) → List ℕ) → Rules
+rules_of limit pattern moment query text = record { limit = limit; pattern = pattern; moment = moment; query = query; text = text }

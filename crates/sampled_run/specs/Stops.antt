@@ -15,7 +15,9 @@ abbrev pub unplanned : TypeFault → Stop
 unplanned (T.UnknownField at) = S.Plan (T.UnknownField at)
 unplanned (T.UnknownFunction at) = S.Plan (T.UnknownFunction at)
 unplanned (T.KindMismatch at) = S.Plan (T.KindMismatch at)
+unplanned (T.WrongArity at) = S.Plan (T.WrongArity at)
 unplanned (T.TooFewColumns at) = S.Plan (T.TooFewColumns at)
+unplanned (T.BadPattern at) = S.Plan (T.BadPattern at)
 unplanned T.Memory = S.Memory
 
 -- how a run stopped, of which these are all records

@@ -43,12 +43,13 @@ pub fn finish_run<'a, F: Shape + Drop, G: Stage>(
     let Sampling {
         limit,
         pattern,
+        moment,
         query,
         phase,
     } = sampling;
     match phase {
         Phase::Gathering(gathering) => {
-            match begin(alloc, limit, pattern, query, gathering, stage) {
+            match begin(alloc, limit, pattern, moment, query, gathering, stage) {
                 Ok(writer) => end_text(writer, stage),
                 Err(stop) => Err(stop),
             }

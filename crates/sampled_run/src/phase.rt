@@ -39,6 +39,8 @@ pub struct Sampling<'a, F> {
     pub limit: u32,
     /// How times are read.
     pub pattern: &'a Pattern,
+    /// The moment of the run, in seconds since 1970-01-01.
+    pub moment: i64,
     pub query: &'a Query,
     pub phase: Phase<'a, F>,
     ghost built: { is_built (query_of query.now) ≡ true },

@@ -126,6 +126,7 @@ impl<'a, F: Shape + Drop, G: Stage> Taker<G> for Sampling<'a, F> {
                         alloc,
                         self.limit,
                         self.pattern,
+                        self.moment,
                         self.query,
                         &mut self.phase,
                         stage,

@@ -120,6 +120,7 @@ fn ran(alloc: Global, case: &Case) -> Result<bool, Fail> {
         options,
         case.limit,
         &pattern,
+        0,
         Headers::Auto,
         &query,
         None,

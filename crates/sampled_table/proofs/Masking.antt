@@ -2,7 +2,7 @@
 use Rattle.std.proofs.Common.{◌≡◌, ◌+◌, ◌≤◌, length, Bool, true, false, List, Option, Some, None, sym, ◌∙◌, ap, arith}
 use Rattle.lp_time.specs.declared.piece.Piece.{Piece}
 use Rattle.lp_values.specs.declared.value.Value.{Value}
-use Rattle.query_types.specs.declared.meaning.Meaning.{Meaning}
+use Rattle.query_types.specs.Terms.{Term}
 use Rattle.query_types.specs.Conditions.{Filter}
 use Rattle.query_types.specs.Planned.{Covers}
 use Rattle.row_engine.specs.Rows.{keeps, selected_in}
@@ -18,7 +18,7 @@ row_fits : (pattern : List Piece) (told : Judged) (found : Found) (used : List B
 row_fits pattern told found used fits = let size = indexed_length (value_in_column pattern (is_first told.log found.identity) found.row.columns found.row.slots) 0 told.columns in omega arith
 
 -- a record whose row isn't kept
-pub picks_none : (used : List Bool) (pattern : List Piece) (told : Judged) (items : List Meaning) (condition : Option Filter) (found : Found) (values : List Value)
+pub picks_none : (used : List Bool) (pattern : List Piece) (told : Judged) (items : List Term) (condition : Option Filter) (found : Found) (values : List Value)
     → length told.columns + 2 ≤ length used → Covers used items condition → values ≡ masked used (row_of pattern told found) 0 → keeps condition values ≡ false
     → None ≡ sampled_picks pattern told items condition found
 picks_none used pattern told items condition found values fits covers values_is kept =
@@ -28,7 +28,7 @@ picks_none used pattern told items condition found values fits covers values_is 
     sym (ap (λ (b : Bool). if_kept b (selected_in row items)) is)
 
 -- a record whose row is kept
-pub picks_some : (used : List Bool) (pattern : List Piece) (told : Judged) (items : List Meaning) (condition : Option Filter) (found : Found) (values out : List Value)
+pub picks_some : (used : List Bool) (pattern : List Piece) (told : Judged) (items : List Term) (condition : Option Filter) (found : Found) (values out : List Value)
     → length told.columns + 2 ≤ length used → Covers used items condition → values ≡ masked used (row_of pattern told found) 0 → keeps condition values ≡ true
     → out ≡ selected_in values items → Some out ≡ sampled_picks pattern told items condition found
 picks_some used pattern told items condition found values out fits covers values_is kept out_is =

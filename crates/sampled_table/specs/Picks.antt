@@ -6,7 +6,7 @@ use Rattle.lp_values.specs.declared.value.Value.{Value}
 use Rattle.lp_values.specs.declared.value.Value.TheVariants.{Int, Text}
 use Rattle.log_reading.specs.Found.{Found}
 use Rattle.delimited_input.specs.Values.{field_value}
-use Rattle.query_types.specs.declared.meaning.Meaning.{Meaning}
+use Rattle.query_types.specs.Terms.{Term}
 use Rattle.query_types.specs.declared.table.NamedKind.{NamedKind}
 use Rattle.query_types.specs.Conditions.{Filter}
 use Rattle.row_engine.specs.Rows.{keeps, selected_in}
@@ -27,5 +27,5 @@ abbrev pub row_of : List Piece → Judged → Found → List Value
 row_of pattern told found = Text found.identity ∷ Int (pos found.row.number) ∷ values_under pattern told.log found told.columns
 
 -- the output row of a record, if its condition is Yes
-abbrev pub sampled_picks : List Piece → Judged → List Meaning → Option Filter → Found → Option (List Value)
+abbrev pub sampled_picks : List Piece → Judged → List Term → Option Filter → Found → Option (List Value)
 sampled_picks pattern told items condition found = let row = row_of pattern told found in if_kept (keeps condition row) (selected_in row items)

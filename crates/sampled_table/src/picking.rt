@@ -51,7 +51,7 @@ impl<'a> Picker for SampledPicker<'a> {
             fields,
             values,
         )?;
-        if !passes(&self.plan, values) {
+        if !passes(alloc, &self.plan, values)? {
             return Ok(false);
         }
         select_row(alloc, &self.plan, values, row)?;
