@@ -12,19 +12,20 @@ use query_tree::Query;
 use query_types::{Plan, TypeFault, plan};
 use std::alloc::Global;
 
-/// The plan of a query over the table of a format.
+/// The plan of a query over the table of a format, in a run of this moment.
 pub(crate) fn plan_over(
     alloc: Global,
     format: TableFormat,
     query: &Query,
+    moment: i64,
 ) -> Result<Plan, TypeFault>
     requires { is_built (query_of query.now) ≡ true }
-    ensures plan { Answers planned_in result (plan_of (table_of format) (query_of query.now)) }
+    ensures plan { Answers planned_in result (plan_of (table_of format) moment (query_of query.now)) }
     ensures size { IfOk result (λ plan. length plan.used ≡ length (columns_of format)) }
     ensures covers { IfOk result (λ plan. Covers plan.used plan.items (option_map filter_of plan.condition)) }
 {
     let Ok(table) = table_of(alloc, format) else {
         return Err(TypeFault::Memory);
     };
-    plan(alloc, query, &table)
+    plan(alloc, query, &table, moment)
 }

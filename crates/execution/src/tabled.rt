@@ -38,6 +38,7 @@ pub(crate) fn execute_tabled<L: Logs, G: Stage>(
     spec: &Spec,
     format: TableFormat,
     query: &Query,
+    moment: i64,
     logs: &mut L,
     spans: &Spans,
     target: Target,
@@ -59,7 +60,7 @@ pub(crate) fn execute_tabled<L: Logs, G: Stage>(
     ensures later { G.faults stage.old ≤ G.faults stage.new }
     ensures stage { IsErrOf result RunFault.StageFault → Rose (G.faults stage.old) (G.faults stage.new) }
 {
-    let plan = match plan_over(alloc, format, query) {
+    let plan = match plan_over(alloc, format, query, moment) {
         Ok(plan) => plan,
         Err(fault) => return Err(unplanned(fault)),
     };

@@ -36,7 +36,7 @@ use Rattle.logparser_cli.proofs.Wholes.{logs_earlier, logs_later, on_whole, whol
 pub on_refused : (status : Status) (P : Type 0) → P → OnRefused status P
 on_refused Done P p = tt
 on_refused Memory P p = p
-on_refused (Clock moment) P p = p
+on_refused (Clock at) P p = p
 on_refused (Usage fault) P p = p
 on_refused (Query fault) P p = p
 on_refused NotBuilt P p = p
@@ -52,28 +52,28 @@ pub rose_since : (a b c : ℕ) → a ≤ b → Rose b c → Rose a c
 rose_since a b c later rose = omega arith
 
 -- the FROM names list no logs
-pub unlisted_answers : (old new : World) (spec : Spec) (q : model.Query) (status : Status) → IsUnlisted new.folder q status → new.out ≡ old.out → (status ≡ LogsFault → Rose old.logs_faults new.logs_faults) → AnswersBuilt old new spec q status
-unlisted_answers old new spec q Done is same rose = absurd is
-unlisted_answers old new spec q Memory is same rose = inl same
-unlisted_answers old new spec q (Clock moment) is same rose = absurd is
-unlisted_answers old new spec q (Usage fault) is same rose = absurd is
-unlisted_answers old new spec q (Query fault) is same rose = absurd is
-unlisted_answers old new spec q NotBuilt is same rose = absurd is
-unlisted_answers old new spec q (NoSuchLog name) is same rose = (is, same)
-unlisted_answers old new spec q (BadName fault) is same rose = (is, same)
-unlisted_answers old new spec q TooManyLogs is same rose = (is, same)
-unlisted_answers old new spec q LogsFault is same rose = (inl same, rose refl)
-unlisted_answers old new spec q SinkFault is same rose = absurd is
-unlisted_answers old new spec q (ParseErrors log row) is same rose = absurd is
+pub unlisted_answers : (old new : World) (spec : Spec) (moment : ℤ) (q : model.Query) (status : Status) → IsUnlisted new.folder q status → new.out ≡ old.out → (status ≡ LogsFault → Rose old.logs_faults new.logs_faults) → AnswersBuilt old new spec moment q status
+unlisted_answers old new spec moment q Done is same rose = absurd is
+unlisted_answers old new spec moment q Memory is same rose = inl same
+unlisted_answers old new spec moment q (Clock at) is same rose = absurd is
+unlisted_answers old new spec moment q (Usage fault) is same rose = absurd is
+unlisted_answers old new spec moment q (Query fault) is same rose = absurd is
+unlisted_answers old new spec moment q NotBuilt is same rose = absurd is
+unlisted_answers old new spec moment q (NoSuchLog name) is same rose = (is, same)
+unlisted_answers old new spec moment q (BadName fault) is same rose = (is, same)
+unlisted_answers old new spec moment q TooManyLogs is same rose = (is, same)
+unlisted_answers old new spec moment q LogsFault is same rose = (inl same, rose refl)
+unlisted_answers old new spec moment q SinkFault is same rose = absurd is
+unlisted_answers old new spec moment q (ParseErrors log row) is same rose = absurd is
 
 -- a query was run over whole logs
-pub whole : (old new : World) (mid : Option Folder) (spec : Spec) (q : model.Query) (spans : List Span) (counts : Counts) → AreSpans old.folder mid q spans → OnlyGrow mid new.folder
-    → IsExecuted (log_format spec q) new.folder old.out new.out spec q spans counts → Tells old.err new.err (told_statistics spec.stats counts) (Rose old.err_faults new.err_faults) → IsWhole old new spec q
-whole old new mid spec q spans counts found grow ran told = record {
+pub whole : (old new : World) (mid : Option Folder) (spec : Spec) (moment : ℤ) (q : model.Query) (spans : List Span) (counts : Counts) → AreSpans old.folder mid q spans → OnlyGrow mid new.folder
+    → IsExecuted (log_format spec q) new.folder old.out new.out spec moment q spans counts → Tells old.err new.err (told_statistics spec.stats counts) (Rose old.err_faults new.err_faults) → IsWhole old new spec moment q
+whole old new mid spec moment q spans counts found grow ran told = record {
   logs = found.logs;
   are_logs = logs_later old.folder mid new.folder q found.logs grow found.are_logs;
   counts = counts;
-  written = on_whole new.folder (log_format spec q) spec.ts_format found.logs spans (WritesSpans (log_format spec q) new.folder old.out new.out spec q spans counts) (WritesAll new.folder old.out new.out spec q found.logs counts) found.wholes
+  written = on_whole new.folder (log_format spec q) spec.ts_format found.logs spans (WritesSpans (log_format spec q) new.folder old.out new.out spec moment q spans counts) (WritesAll new.folder old.out new.out spec moment q found.logs counts) found.wholes
       (λ table w. record {
         plan = w.plan;
         is_planned = w.is_planned;
@@ -84,102 +84,102 @@ whole old new mid spec q spans counts found grow ran told = record {
 }
 
 -- nothing is written, or the front of the text
-front_of : (old new : World) (spec : Spec) (q : model.Query) (logs : List NameLength) (spans : List Span) (table : TableColumns) → spans ≡ whole_spans logs
-    → (new.out ≡ old.out) ⊎ HoldsSpans (log_format spec q) new.folder old.out new.out spec q spans table → (new.out ≡ old.out) ⊎ HoldsFront new.folder old.out new.out spec q logs table
-front_of old new spec q logs spans table wholes (inl same) = inl same
-front_of old new spec q logs spans table wholes (inr front) = inr (record {
+front_of : (old new : World) (spec : Spec) (moment : ℤ) (q : model.Query) (logs : List NameLength) (spans : List Span) (table : TableColumns) → spans ≡ whole_spans logs
+    → (new.out ≡ old.out) ⊎ HoldsSpans (log_format spec q) new.folder old.out new.out spec moment q spans table → (new.out ≡ old.out) ⊎ HoldsFront new.folder old.out new.out spec moment q logs table
+front_of old new spec moment q logs spans table wholes (inl same) = inl same
+front_of old new spec moment q logs spans table wholes (inr front) = inr (record {
   plan = front.plan;
   is_planned = front.is_planned;
   front = whole_told new.folder (log_format spec q) logs spans (λ s folder. GainsSome old.out new.out (text_in spec (log_format spec q) front.plan folder s)) wholes front.front;
 })
 
-stopped_front : (old new : World) (spec : Spec) (q : model.Query) (logs : List NameLength) (spans : List Span) → spans ≡ whole_spans logs → IsStoppedIn (log_format spec q) new.folder old.out new.out spec q spans → IsFront new.folder old.out new.out spec q logs
-stopped_front old new spec q logs spans wholes stop =
-    on_whole new.folder (log_format spec q) spec.ts_format logs spans (λ table. (new.out ≡ old.out) ⊎ HoldsSpans (log_format spec q) new.folder old.out new.out spec q spans table)
-    (λ table. (new.out ≡ old.out) ⊎ HoldsFront new.folder old.out new.out spec q logs table) wholes (λ table front. front_of old new spec q logs spans table wholes front) stop
+stopped_front : (old new : World) (spec : Spec) (moment : ℤ) (q : model.Query) (logs : List NameLength) (spans : List Span) → spans ≡ whole_spans logs → IsStoppedIn (log_format spec q) new.folder old.out new.out spec moment q spans → IsFront new.folder old.out new.out spec moment q logs
+stopped_front old new spec moment q logs spans wholes stop =
+    on_whole new.folder (log_format spec q) spec.ts_format logs spans (λ table. (new.out ≡ old.out) ⊎ HoldsSpans (log_format spec q) new.folder old.out new.out spec moment q spans table)
+    (λ table. (new.out ≡ old.out) ⊎ HoldsFront new.folder old.out new.out spec moment q logs table) wholes (λ table front. front_of old new spec moment q logs spans table wholes front) stop
 
 -- it stopped
-halted : (old new : World) (mid : Option Folder) (spec : Spec) (q : model.Query) (spans : List Span) → AreSpans old.folder mid q spans → OnlyGrow mid new.folder → IsStoppedIn (log_format spec q) new.folder old.out new.out spec q spans → IsHalted old.folder new.folder old.out new.out spec q
-halted old new mid spec q spans found grow stop = record {
+halted : (old new : World) (mid : Option Folder) (spec : Spec) (moment : ℤ) (q : model.Query) (spans : List Span) → AreSpans old.folder mid q spans → OnlyGrow mid new.folder → IsStoppedIn (log_format spec q) new.folder old.out new.out spec moment q spans → IsHalted old.folder new.folder old.out new.out spec moment q
+halted old new mid spec moment q spans found grow stop = record {
   logs = found.logs;
   are_logs = logs_later old.folder mid new.folder q found.logs grow found.are_logs;
-  front = stopped_front old new spec q found.logs spans found.wholes stop;
+  front = stopped_front old new spec moment q found.logs spans found.wholes stop;
 }
 
 -- a bad line was one too many
-exceeded : (old new : World) (mid : Option Folder) (spec : Spec) (q : model.Query) (spans : List Span) (line : BadLine) → AreSpans old.folder mid q spans → OnlyGrow mid new.folder
-    → IsStoppedIn (log_format spec q) new.folder old.out new.out spec q spans → IsExceeded (log_format spec q) new.folder spec q spans line → IsParseError old.folder new.folder old.out new.out spec q line
-exceeded old new mid spec q spans line found grow stop e = record {
+exceeded : (old new : World) (mid : Option Folder) (spec : Spec) (moment : ℤ) (q : model.Query) (spans : List Span) (line : BadLine) → AreSpans old.folder mid q spans → OnlyGrow mid new.folder
+    → IsStoppedIn (log_format spec q) new.folder old.out new.out spec moment q spans → IsExceeded (log_format spec q) new.folder spec moment q spans line → IsParseError old.folder new.folder old.out new.out spec moment q line
+exceeded old new mid spec moment q spans line found grow stop e = record {
   logs = found.logs;
   are_logs = logs_later old.folder mid new.folder q found.logs grow found.are_logs;
   typed = e.typed;
   exceeds = whole_told new.folder (log_format spec q) found.logs spans (λ s folder. IsTooMany spec.errors 0 (spans_bad_lines (lines_in (log_format spec q)) false folder s) line) found.wholes e.exceeds;
-  front = stopped_front old new spec q found.logs spans found.wholes stop;
+  front = stopped_front old new spec moment q found.logs spans found.wholes stop;
 }
 
 -- no plan was made
-unplanned : (old new : World) (mid : Option Folder) (spec : Spec) (q : model.Query) (spans : List Span) (fault : TypeFault) → AreSpans old.folder mid q spans → OnlyGrow mid new.folder
-    → IsUnplannedIn (log_format spec q) new.folder spec q spans fault → IsUntouched (log_format spec q) new.folder old.out new.out spec spans → IsUnplanned old.folder new.folder old.out new.out spec q fault
-unplanned old new mid spec q spans fault found grow plan before = record {
+unplanned : (old new : World) (mid : Option Folder) (spec : Spec) (moment : ℤ) (q : model.Query) (spans : List Span) (fault : TypeFault) → AreSpans old.folder mid q spans → OnlyGrow mid new.folder
+    → IsUnplannedIn (log_format spec q) new.folder spec moment q spans fault → IsUntouched (log_format spec q) new.folder old.out new.out spec spans → IsUnplanned old.folder new.folder old.out new.out spec moment q fault
+unplanned old new mid spec moment q spans fault found grow plan before = record {
   logs = found.logs;
   are_logs = logs_later old.folder mid new.folder q found.logs grow found.are_logs;
-  unplanned = on_whole new.folder (log_format spec q) spec.ts_format found.logs spans (λ table. plan_of table q ≡ Err fault) (λ table. plan_of table q ≡ Err fault) found.wholes (λ table is. is) plan;
+  unplanned = on_whole new.folder (log_format spec q) spec.ts_format found.logs spans (λ table. plan_of table moment q ≡ Err fault) (λ table. plan_of table moment q ≡ Err fault) found.wholes (λ table is. is) plan;
   unwritten = on_whole new.folder (log_format spec q) spec.ts_format found.logs spans (λ table. new.out ≡ old.out) (λ table. new.out ≡ old.out) found.wholes (λ table same. same) before;
 }
 
-pub stopped_answers : (old new : World) (mid : Option Folder) (spec : Spec) (q : model.Query) (spans : List Span) (fault : RunFault) → AreSpans old.folder mid q spans → OnlyGrow mid new.folder
-    → IsStoppedIn (log_format spec q) new.folder old.out new.out spec q spans → IfPlan {T = Unit {0}} (Err fault) (IsUnplannedIn (log_format spec q) new.folder spec q spans)
+pub stopped_answers : (old new : World) (mid : Option Folder) (spec : Spec) (moment : ℤ) (q : model.Query) (spans : List Span) (fault : RunFault) → AreSpans old.folder mid q spans → OnlyGrow mid new.folder
+    → IsStoppedIn (log_format spec q) new.folder old.out new.out spec moment q spans → IfPlan {T = Unit {0}} (Err fault) (IsUnplannedIn (log_format spec q) new.folder spec moment q spans)
     → IfPlan {T = Unit {0}} (Err fault) (λ f. IsUntouched (log_format spec q) new.folder old.out new.out spec spans)
-    → IfParse {T = Unit {0}} (Err fault) (IsExceeded (log_format spec q) new.folder spec q spans)
-    → (fault ≡ X.LogsFault → Rose old.logs_faults new.logs_faults) → (fault ≡ X.StageFault → Rose old.out_faults new.out_faults) → AnswersBuilt old new spec q (stopped fault)
-stopped_answers old new mid spec q spans (X.Plan fault) found grow stop plan before parse logs stage = unplanned old new mid spec q spans fault found grow plan before
-stopped_answers old new mid spec q spans X.LogsFault found grow stop plan before parse logs stage = (inr (halted old new mid spec q spans found grow stop), logs refl)
-stopped_answers old new mid spec q spans X.StageFault found grow stop plan before parse logs stage = (inr (halted old new mid spec q spans found grow stop), stage refl)
-stopped_answers old new mid spec q spans (X.ParseErrors log row) found grow stop plan before parse logs stage = exceeded old new mid spec q spans (bad_line log row) found grow stop parse
-stopped_answers old new mid spec q spans X.Memory found grow stop plan before parse logs stage = inr (halted old new mid spec q spans found grow stop)
+    → IfParse {T = Unit {0}} (Err fault) (IsExceeded (log_format spec q) new.folder spec moment q spans)
+    → (fault ≡ X.LogsFault → Rose old.logs_faults new.logs_faults) → (fault ≡ X.StageFault → Rose old.out_faults new.out_faults) → AnswersBuilt old new spec moment q (stopped fault)
+stopped_answers old new mid spec moment q spans (X.Plan fault) found grow stop plan before parse logs stage = unplanned old new mid spec moment q spans fault found grow plan before
+stopped_answers old new mid spec moment q spans X.LogsFault found grow stop plan before parse logs stage = (inr (halted old new mid spec moment q spans found grow stop), logs refl)
+stopped_answers old new mid spec moment q spans X.StageFault found grow stop plan before parse logs stage = (inr (halted old new mid spec moment q spans found grow stop), stage refl)
+stopped_answers old new mid spec moment q spans (X.ParseErrors log row) found grow stop plan before parse logs stage = exceeded old new mid spec moment q spans (bad_line log row) found grow stop parse
+stopped_answers old new mid spec moment q spans X.Memory found grow stop plan before parse logs stage = inr (halted old new mid spec moment q spans found grow stop)
 
 -- the same world with the logs as they were before
 abbrev with_logs : World → Option Folder → ℕ → World
 with_logs world folder faults = record { folder = folder; logs_faults = faults; out = world.out; out_faults = world.out_faults; err = world.err; err_faults = world.err_faults }
 
-stop_earlier : (mid new : World) (before : Option Folder) (faults : ℕ) (spec : Spec) (q : model.Query) → OnlyGrow before mid.folder → IsStopped mid new spec q → IsStopped (with_logs mid before faults) new spec q
-stop_earlier mid new before faults spec q grow (inl same) = inl same
-stop_earlier mid new before faults spec q grow (inr stop) = inr (record { logs = stop.logs; are_logs = logs_earlier before mid.folder new.folder q stop.logs grow stop.are_logs; front = stop.front })
+stop_earlier : (mid new : World) (before : Option Folder) (faults : ℕ) (spec : Spec) (moment : ℤ) (q : model.Query) → OnlyGrow before mid.folder → IsStopped mid new spec moment q → IsStopped (with_logs mid before faults) new spec moment q
+stop_earlier mid new before faults spec moment q grow (inl same) = inl same
+stop_earlier mid new before faults spec moment q grow (inr stop) = inr (record { logs = stop.logs; are_logs = logs_earlier before mid.folder new.folder q stop.logs grow stop.are_logs; front = stop.front })
 
-unplannable_earlier : (mid new : World) (before : Option Folder) (faults : ℕ) (spec : Spec) (q : model.Query) (fault : QueryFault) → OnlyGrow before mid.folder → IsUnplannable mid new spec q fault → IsUnplannable (with_logs mid before faults) new spec q fault
-unplannable_earlier mid new before faults spec q Q.TooLong grow s = absurd s
-unplannable_earlier mid new before faults spec q Q.NotUtf8 grow s = absurd s
-unplannable_earlier mid new before faults spec q (Q.Lex fault) grow s = absurd s
-unplannable_earlier mid new before faults spec q (Q.Parse fault) grow s = absurd s
-unplannable_earlier mid new before faults spec q (Q.StdinMisplaced at) grow s = absurd s
-unplannable_earlier mid new before faults spec q (Q.Plan fault) grow s =
+unplannable_earlier : (mid new : World) (before : Option Folder) (faults : ℕ) (spec : Spec) (moment : ℤ) (q : model.Query) (fault : QueryFault) → OnlyGrow before mid.folder → IsUnplannable mid new spec moment q fault → IsUnplannable (with_logs mid before faults) new spec moment q fault
+unplannable_earlier mid new before faults spec moment q Q.TooLong grow s = absurd s
+unplannable_earlier mid new before faults spec moment q Q.NotUtf8 grow s = absurd s
+unplannable_earlier mid new before faults spec moment q (Q.Lex fault) grow s = absurd s
+unplannable_earlier mid new before faults spec moment q (Q.Parse fault) grow s = absurd s
+unplannable_earlier mid new before faults spec moment q (Q.StdinMisplaced at) grow s = absurd s
+unplannable_earlier mid new before faults spec moment q (Q.Plan fault) grow s =
     record { logs = s.logs; are_logs = logs_earlier before mid.folder new.folder q s.logs grow s.are_logs; unplanned = s.unplanned; unwritten = s.unwritten }
 
-built_earlier : (mid new : World) (before : Option Folder) (faults : ℕ) (spec : Spec) (q : model.Query) (status : Status) → OnlyGrow before mid.folder → faults ≤ mid.logs_faults
-    → AnswersBuilt mid new spec q status → AnswersBuilt (with_logs mid before faults) new spec q status
-built_earlier mid new before faults spec q Done grow later w = record { logs = w.logs; are_logs = logs_earlier before mid.folder new.folder q w.logs grow w.are_logs; counts = w.counts; written = w.written; told = w.told }
-built_earlier mid new before faults spec q Memory grow later s = stop_earlier mid new before faults spec q grow s
-built_earlier mid new before faults spec q (Clock moment) grow later s = absurd s
-built_earlier mid new before faults spec q (Usage fault) grow later s = absurd s
-built_earlier mid new before faults spec q (Query fault) grow later s = unplannable_earlier mid new before faults spec q fault grow s
-built_earlier mid new before faults spec q NotBuilt grow later s = absurd s
-built_earlier mid new before faults spec q (NoSuchLog name) grow later s = s
-built_earlier mid new before faults spec q (BadName fault) grow later s = s
-built_earlier mid new before faults spec q TooManyLogs grow later s = s
-built_earlier mid new before faults spec q LogsFault grow later s = (stop_earlier mid new before faults spec q grow s.0, rose_since faults mid.logs_faults new.logs_faults later s.1)
-built_earlier mid new before faults spec q SinkFault grow later s = (stop_earlier mid new before faults spec q grow s.0, s.1)
-built_earlier mid new before faults spec q (ParseErrors log row) grow later s = record { logs = s.logs; are_logs = logs_earlier before mid.folder new.folder q s.logs grow s.are_logs; typed = s.typed; exceeds = s.exceeds; front = s.front }
+built_earlier : (mid new : World) (before : Option Folder) (faults : ℕ) (spec : Spec) (moment : ℤ) (q : model.Query) (status : Status) → OnlyGrow before mid.folder → faults ≤ mid.logs_faults
+    → AnswersBuilt mid new spec moment q status → AnswersBuilt (with_logs mid before faults) new spec moment q status
+built_earlier mid new before faults spec moment q Done grow later w = record { logs = w.logs; are_logs = logs_earlier before mid.folder new.folder q w.logs grow w.are_logs; counts = w.counts; written = w.written; told = w.told }
+built_earlier mid new before faults spec moment q Memory grow later s = stop_earlier mid new before faults spec moment q grow s
+built_earlier mid new before faults spec moment q (Clock at) grow later s = absurd s
+built_earlier mid new before faults spec moment q (Usage fault) grow later s = absurd s
+built_earlier mid new before faults spec moment q (Query fault) grow later s = unplannable_earlier mid new before faults spec moment q fault grow s
+built_earlier mid new before faults spec moment q NotBuilt grow later s = absurd s
+built_earlier mid new before faults spec moment q (NoSuchLog name) grow later s = s
+built_earlier mid new before faults spec moment q (BadName fault) grow later s = s
+built_earlier mid new before faults spec moment q TooManyLogs grow later s = s
+built_earlier mid new before faults spec moment q LogsFault grow later s = (stop_earlier mid new before faults spec moment q grow s.0, rose_since faults mid.logs_faults new.logs_faults later s.1)
+built_earlier mid new before faults spec moment q SinkFault grow later s = (stop_earlier mid new before faults spec moment q grow s.0, s.1)
+built_earlier mid new before faults spec moment q (ParseErrors log row) grow later s = record { logs = s.logs; are_logs = logs_earlier before mid.folder new.folder q s.logs grow s.are_logs; typed = s.typed; exceeds = s.exceeds; front = s.front }
 
-query_earlier : (mid new : World) (before : Option Folder) (faults : ℕ) (spec : Spec) (q : model.Query) (status : Status) → OnlyGrow before mid.folder → faults ≤ mid.logs_faults
-    → AnswersQuery mid new spec q status → AnswersQuery (with_logs mid before faults) new spec q status
-query_earlier mid new before faults spec q status grow later (inl none) = inl none
-query_earlier mid new before faults spec q status grow later (inr (built, answers)) = inr (built, built_earlier mid new before faults spec q status grow later answers)
+query_earlier : (mid new : World) (before : Option Folder) (faults : ℕ) (spec : Spec) (moment : ℤ) (q : model.Query) (status : Status) → OnlyGrow before mid.folder → faults ≤ mid.logs_faults
+    → AnswersQuery mid new spec moment q status → AnswersQuery (with_logs mid before faults) new spec moment q status
+query_earlier mid new before faults spec moment q status grow later (inl none) = inl none
+query_earlier mid new before faults spec moment q status grow later (inr (built, answers)) = inr (built, built_earlier mid new before faults spec moment q status grow later answers)
 
 -- the words ask for a query, and the answer tells of it
 pub asked_answers : (mid new : World) (before : Option Folder) (faults : ℕ) (moment : ℤ) (words : List (List ℕ)) (spec : Spec) (q : model.Query) (status : Status) → IsMoment moment → OnlyGrow before mid.folder → faults ≤ mid.logs_faults
-    → OnlyGrow mid.folder new.folder → Asks before mid.folder words spec q → AnswersQuery mid new spec q status → Answers moment words (with_logs mid before faults) new status
+    → OnlyGrow mid.folder new.folder → Asks before mid.folder words spec q → AnswersQuery mid new spec moment q status → Answers moment words (with_logs mid before faults) new status
 asked_answers mid new before faults moment words spec q status now grow later grew asks answers =
-    inr (now, inr (record { spec = spec; q = q; asks = asks_grown before mid.folder new.folder words spec q grew asks; answers = query_earlier mid new before faults spec q status grow later answers }))
+    inr (now, inr (record { spec = spec; q = q; asks = asks_grown before mid.folder new.folder words spec q grew asks; answers = query_earlier mid new before faults spec moment q status grow later answers }))
 
 is_unasked : (old new : World) (words : List (List ℕ)) (fault : RequestFault) → IsRefused old.folder new.folder words fault → new.out ≡ old.out → (fault ≡ R.Logs → Rose old.logs_faults new.logs_faults) → IsUnasked old new words (unasked fault)
 is_unasked old new words (R.Usage fault) refused same rose = (refused, same)
@@ -198,28 +198,28 @@ unasked_answers old new moment words fault now refused same rose = inr (now, inl
 abbrev with_err : World → Option (List ℕ) → ℕ → World
 with_err world err faults = record { folder = world.folder; logs_faults = world.logs_faults; out = world.out; out_faults = world.out_faults; err = err; err_faults = faults }
 
-built_told : (old new : World) (err : Option (List ℕ)) (faults : ℕ) (spec : Spec) (q : model.Query) (status : Status) → (status ≡ Done → ⊥) → AnswersBuilt old new spec q status → AnswersBuilt old (with_err new err faults) spec q status
-built_told old new err faults spec q Done refused s = absurd (refused refl)
-built_told old new err faults spec q Memory refused s = s
-built_told old new err faults spec q (Clock moment) refused s = s
-built_told old new err faults spec q (Usage fault) refused s = s
-built_told old new err faults spec q (Query fault) refused s = s
-built_told old new err faults spec q NotBuilt refused s = s
-built_told old new err faults spec q (NoSuchLog name) refused s = s
-built_told old new err faults spec q (BadName fault) refused s = s
-built_told old new err faults spec q TooManyLogs refused s = s
-built_told old new err faults spec q LogsFault refused s = s
-built_told old new err faults spec q SinkFault refused s = s
-built_told old new err faults spec q (ParseErrors log row) refused s = s
+built_told : (old new : World) (err : Option (List ℕ)) (faults : ℕ) (spec : Spec) (moment : ℤ) (q : model.Query) (status : Status) → (status ≡ Done → ⊥) → AnswersBuilt old new spec moment q status → AnswersBuilt old (with_err new err faults) spec moment q status
+built_told old new err faults spec moment q Done refused s = absurd (refused refl)
+built_told old new err faults spec moment q Memory refused s = s
+built_told old new err faults spec moment q (Clock at) refused s = s
+built_told old new err faults spec moment q (Usage fault) refused s = s
+built_told old new err faults spec moment q (Query fault) refused s = s
+built_told old new err faults spec moment q NotBuilt refused s = s
+built_told old new err faults spec moment q (NoSuchLog name) refused s = s
+built_told old new err faults spec moment q (BadName fault) refused s = s
+built_told old new err faults spec moment q TooManyLogs refused s = s
+built_told old new err faults spec moment q LogsFault refused s = s
+built_told old new err faults spec moment q SinkFault refused s = s
+built_told old new err faults spec moment q (ParseErrors log row) refused s = s
 
-query_told : (old new : World) (err : Option (List ℕ)) (faults : ℕ) (spec : Spec) (q : model.Query) (status : Status) → (status ≡ Done → ⊥) → AnswersQuery old new spec q status → AnswersQuery old (with_err new err faults) spec q status
-query_told old new err faults spec q status refused (inl none) = inl none
-query_told old new err faults spec q status refused (inr (built, answers)) = inr (built, built_told old new err faults spec q status refused answers)
+query_told : (old new : World) (err : Option (List ℕ)) (faults : ℕ) (spec : Spec) (moment : ℤ) (q : model.Query) (status : Status) → (status ≡ Done → ⊥) → AnswersQuery old new spec moment q status → AnswersQuery old (with_err new err faults) spec moment q status
+query_told old new err faults spec moment q status refused (inl none) = inl none
+query_told old new err faults spec moment q status refused (inr (built, answers)) = inr (built, built_told old new err faults spec moment q status refused answers)
 
 unasked_told : (old new : World) (err : Option (List ℕ)) (faults : ℕ) (words : List (List ℕ)) (status : Status) → IsUnasked old new words status → IsUnasked old (with_err new err faults) words status
 unasked_told old new err faults words Done s = s
 unasked_told old new err faults words Memory s = s
-unasked_told old new err faults words (Clock moment) s = s
+unasked_told old new err faults words (Clock at) s = s
 unasked_told old new err faults words (Usage fault) s = s
 unasked_told old new err faults words (Query fault) s = s
 unasked_told old new err faults words NotBuilt s = s
@@ -235,13 +235,13 @@ pub told_answers : (old new : World) (err : Option (List ℕ)) (faults : ℕ) (m
 told_answers old new err faults moment words status refused (inl clock) = inl (record { same = clock.same; none = clock.none; unwritten = clock.unwritten })
 told_answers old new err faults moment words status refused (inr (now, inl none)) = inr (now, inl (unasked_told old new err faults words status none))
 told_answers old new err faults moment words status refused (inr (now, inr asked)) =
-    inr (now, inr (record { spec = asked.spec; q = asked.q; asks = asked.asks; answers = query_told old new err faults asked.spec asked.q status refused asked.answers }))
+    inr (now, inr (record { spec = asked.spec; q = asked.q; asks = asked.asks; answers = query_told old new err faults asked.spec moment asked.q status refused asked.answers }))
 
 -- what a refusal says
 pub refused_is : (status : Status) (P : Type 0) → (status ≡ Done → ⊥) → OnRefused status P → P
 refused_is Done P refused p = absurd (refused refl)
 refused_is Memory P refused p = p
-refused_is (Clock moment) P refused p = p
+refused_is (Clock at) P refused p = p
 refused_is (Usage fault) P refused p = p
 refused_is (Query fault) P refused p = p
 refused_is NotBuilt P refused p = p

@@ -19,49 +19,49 @@ use Rattle.logparser_cli.specs.Logs.{IsUnlisted}
 use Rattle.logparser_cli.specs.Whole.{World, IsWhole, IsHalted, IsParseError, IsUnplanned, IsUnwritten}
 
 -- the query's fault is one of its plan
-abbrev pub IsUnplannable : World → World → Spec → model.Query → QueryFault → Type 0
-IsUnplannable old new spec q Q.TooLong = ⊥
-IsUnplannable old new spec q Q.NotUtf8 = ⊥
-IsUnplannable old new spec q (Q.Lex fault) = ⊥
-IsUnplannable old new spec q (Q.Parse fault) = ⊥
-IsUnplannable old new spec q (Q.StdinMisplaced at) = ⊥
-IsUnplannable old new spec q (Q.Plan fault) = IsUnplanned old.folder new.folder old.out new.out spec q fault
+abbrev pub IsUnplannable : World → World → Spec → ℤ → model.Query → QueryFault → Type 0
+IsUnplannable old new spec moment q Q.TooLong = ⊥
+IsUnplannable old new spec moment q Q.NotUtf8 = ⊥
+IsUnplannable old new spec moment q (Q.Lex fault) = ⊥
+IsUnplannable old new spec moment q (Q.Parse fault) = ⊥
+IsUnplannable old new spec moment q (Q.StdinMisplaced at) = ⊥
+IsUnplannable old new spec moment q (Q.Plan fault) = IsUnplanned old.folder new.folder old.out new.out spec moment q fault
 
 -- the run stopped before it wrote anything, or while it wrote
-abbrev pub IsStopped : World → World → Spec → model.Query → Type 0
-IsStopped old new spec q = IsUnwritten old new ⊎ IsHalted old.folder new.folder old.out new.out spec q
+abbrev pub IsStopped : World → World → Spec → ℤ → model.Query → Type 0
+IsStopped old new spec moment q = IsUnwritten old new ⊎ IsHalted old.folder new.folder old.out new.out spec moment q
 
 -- what an answer says of a query that is built
-abbrev pub AnswersBuilt : World → World → Spec → model.Query → Status → Type 0
-AnswersBuilt old new spec q Done = IsWhole old new spec q
-AnswersBuilt old new spec q Memory = IsStopped old new spec q
-AnswersBuilt old new spec q (Clock moment) = ⊥
-AnswersBuilt old new spec q (Usage fault) = ⊥
-AnswersBuilt old new spec q (Query fault) = IsUnplannable old new spec q fault
-AnswersBuilt old new spec q NotBuilt = ⊥
-AnswersBuilt old new spec q (NoSuchLog name) = IsUnlisted new.folder q (NoSuchLog name) × IsUnwritten old new
-AnswersBuilt old new spec q (BadName fault) = IsUnlisted new.folder q (BadName fault) × IsUnwritten old new
-AnswersBuilt old new spec q TooManyLogs = IsUnlisted new.folder q TooManyLogs × IsUnwritten old new
-AnswersBuilt old new spec q LogsFault = IsStopped old new spec q × Rose old.logs_faults new.logs_faults
-AnswersBuilt old new spec q SinkFault = IsStopped old new spec q × Rose old.out_faults new.out_faults
-AnswersBuilt old new spec q (ParseErrors log row) = IsParseError old.folder new.folder old.out new.out spec q (bad_line log row)
+abbrev pub AnswersBuilt : World → World → Spec → ℤ → model.Query → Status → Type 0
+AnswersBuilt old new spec moment q Done = IsWhole old new spec moment q
+AnswersBuilt old new spec moment q Memory = IsStopped old new spec moment q
+AnswersBuilt old new spec moment q (Clock at) = ⊥
+AnswersBuilt old new spec moment q (Usage fault) = ⊥
+AnswersBuilt old new spec moment q (Query fault) = IsUnplannable old new spec moment q fault
+AnswersBuilt old new spec moment q NotBuilt = ⊥
+AnswersBuilt old new spec moment q (NoSuchLog name) = IsUnlisted new.folder q (NoSuchLog name) × IsUnwritten old new
+AnswersBuilt old new spec moment q (BadName fault) = IsUnlisted new.folder q (BadName fault) × IsUnwritten old new
+AnswersBuilt old new spec moment q TooManyLogs = IsUnlisted new.folder q TooManyLogs × IsUnwritten old new
+AnswersBuilt old new spec moment q LogsFault = IsStopped old new spec moment q × Rose old.logs_faults new.logs_faults
+AnswersBuilt old new spec moment q SinkFault = IsStopped old new spec moment q × Rose old.out_faults new.out_faults
+AnswersBuilt old new spec moment q (ParseErrors log row) = IsParseError old.folder new.folder old.out new.out spec moment q (bad_line log row)
 
 -- what an answer says of a query: that it isn't built, or what became of it
-abbrev pub AnswersQuery : World → World → Spec → model.Query → Status → Type 0
-AnswersQuery old new spec q status = (all_built spec q ≡ false) × (status ≡ NotBuilt) × IsUnwritten old new ⊎ (all_built spec q ≡ true) × AnswersBuilt old new spec q status
+abbrev pub AnswersQuery : World → World → Spec → ℤ → model.Query → Status → Type 0
+AnswersQuery old new spec moment q status = (all_built spec q ≡ false) × (status ≡ NotBuilt) × IsUnwritten old new ⊎ (all_built spec q ≡ true) × AnswersBuilt old new spec moment q status
 
 -- the words ask for these options and this query, of which the answer tells
-pub record Asked (old new : World) (words : List (List ℕ)) (status : Status) : Type 0 where
+pub record Asked (moment : ℤ) (old new : World) (words : List (List ℕ)) (status : Status) : Type 0 where
   pub spec : Spec
   pub q : model.Query
   pub asks : Asks old.folder new.folder words spec q
-  pub answers : AnswersQuery old new spec q status
+  pub answers : AnswersQuery old new spec moment q status
 
 -- the words ask for nothing that can be done, and the answer tells why
 abbrev pub IsUnasked : World → World → List (List ℕ) → Status → Type 0
 IsUnasked old new words Done = ⊥
 IsUnasked old new words Memory = IsUnwritten old new
-IsUnasked old new words (Clock moment) = ⊥
+IsUnasked old new words (Clock at) = ⊥
 IsUnasked old new words (Usage fault) = IsRefused old.folder new.folder words (R.Usage fault) × IsUnwritten old new
 IsUnasked old new words (Query fault) = IsRefused old.folder new.folder words (R.Query fault) × IsUnwritten old new
 IsUnasked old new words NotBuilt = ⊥
@@ -80,7 +80,7 @@ pub record IsClock (moment : ℤ) (old new : World) (status : Status) : Type 0 w
 
 -- what an answer says of words at a moment
 abbrev pub Answers : ℤ → List (List ℕ) → World → World → Status → Type 0
-Answers moment words old new status = IsClock moment old new status ⊎ IsMoment moment × (IsUnasked old new words status ⊎ Asked old new words status)
+Answers moment words old new status = IsClock moment old new status ⊎ IsMoment moment × (IsUnasked old new words status ⊎ Asked moment old new words status)
 
 -- what a refusal of the words or the query is
 abbrev pub unasked : RequestFault → Status

@@ -33,7 +33,7 @@ pub record AreSpans (before now : Option Folder) (q : model.Query) (spans : List
 abbrev pub IsUnlisted : Option Folder → model.Query → Status → Type 0
 IsUnlisted now q Done = ⊥
 IsUnlisted now q Memory = ⊤
-IsUnlisted now q (Clock moment) = ⊥
+IsUnlisted now q (Clock at) = ⊥
 IsUnlisted now q (Usage fault) = ⊥
 IsUnlisted now q (Query fault) = ⊥
 IsUnlisted now q NotBuilt = ⊥

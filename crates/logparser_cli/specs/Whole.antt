@@ -1,5 +1,5 @@
 -- What a run writes.
-use Rattle.std.specs.Prelude.{◌≡◌, ◌⊎◌, ℕ, Bool, true, false, List, [], Option, Ok, Err}
+use Rattle.std.specs.Prelude.{◌≡◌, ◌⊎◌, ℕ, ℤ, Bool, true, false, List, [], Option, Ok, Err}
 use Rattle.grammar.specs.Trees as model
 use Rattle.lp_model.specs.Outside.{Folder, Told, Gains, GainsSome, Rose}
 use Rattle.lp_model.specs.Report.{statistics}
@@ -44,48 +44,48 @@ told_statistics true counts = statistics counts.processed counts.output counts.b
 told_statistics false counts = []
 
 -- the output gains the text of the rows of the query's plan over a table
-pub record WritesAll (told : Option Folder) (before now : Option (List ℕ)) (spec : Spec) (q : model.Query) (logs : List NameLength) (counts : Counts) (table : TableColumns) : Type 0 where
+pub record WritesAll (told : Option Folder) (before now : Option (List ℕ)) (spec : Spec) (moment : ℤ) (q : model.Query) (logs : List NameLength) (counts : Counts) (table : TableColumns) : Type 0 where
   pub plan : Planned
-  pub is_planned : plan_of table q ≡ Ok plan
+  pub is_planned : plan_of table moment q ≡ Ok plan
   pub written : Told told (Writes before now spec (log_format spec q) plan (whole_spans logs) counts)
 
 -- a whole run: the output gains the text of the query's rows over the whole logs, and the other output the statistics
-pub record IsWhole (old new : World) (spec : Spec) (q : model.Query) : Type 0 where
+pub record IsWhole (old new : World) (spec : Spec) (moment : ℤ) (q : model.Query) : Type 0 where
   pub logs : List NameLength
   pub are_logs : AreLogs old.folder new.folder q logs
   pub counts : Counts
-  pub written : OnWhole (log_format spec q) spec.ts_format new.folder logs (WritesAll new.folder old.out new.out spec q logs counts)
+  pub written : OnWhole (log_format spec q) spec.ts_format new.folder logs (WritesAll new.folder old.out new.out spec moment q logs counts)
   pub told : Tells old.err new.err (told_statistics spec.stats counts) (Rose old.err_faults new.err_faults)
 
 -- the output holds the front of that text
-pub record HoldsFront (told : Option Folder) (before now : Option (List ℕ)) (spec : Spec) (q : model.Query) (logs : List NameLength) (table : TableColumns) : Type 0 where
+pub record HoldsFront (told : Option Folder) (before now : Option (List ℕ)) (spec : Spec) (moment : ℤ) (q : model.Query) (logs : List NameLength) (table : TableColumns) : Type 0 where
   pub plan : Planned
-  pub is_planned : plan_of table q ≡ Ok plan
+  pub is_planned : plan_of table moment q ≡ Ok plan
   pub front : Told told (λ folder. GainsSome before now (text_in spec (log_format spec q) plan folder (whole_spans logs)))
 
 -- nothing was written, or the front of the text
-abbrev pub IsFront : Option Folder → Option (List ℕ) → Option (List ℕ) → Spec → model.Query → List NameLength → Type 0
-IsFront told before now spec q logs = OnWhole (log_format spec q) spec.ts_format told logs (λ table. (now ≡ before) ⊎ HoldsFront told before now spec q logs table)
+abbrev pub IsFront : Option Folder → Option (List ℕ) → Option (List ℕ) → Spec → ℤ → model.Query → List NameLength → Type 0
+IsFront told before now spec moment q logs = OnWhole (log_format spec q) spec.ts_format told logs (λ table. (now ≡ before) ⊎ HoldsFront told before now spec moment q logs table)
 
 -- a run over logs stopped
-pub record IsHalted (before now : Option Folder) (out_before out_now : Option (List ℕ)) (spec : Spec) (q : model.Query) : Type 0 where
+pub record IsHalted (before now : Option Folder) (out_before out_now : Option (List ℕ)) (spec : Spec) (moment : ℤ) (q : model.Query) : Type 0 where
   pub logs : List NameLength
   pub are_logs : AreLogs before now q logs
-  pub front : IsFront now out_before out_now spec q logs
+  pub front : IsFront now out_before out_now spec moment q logs
 
 -- of the bad lines of the whole logs, in order, this is the first that is one too many
-pub record IsParseError (before now : Option Folder) (out_before out_now : Option (List ℕ)) (spec : Spec) (q : model.Query) (line : BadLine) : Type 0 where
+pub record IsParseError (before now : Option Folder) (out_before out_now : Option (List ℕ)) (spec : Spec) (moment : ℤ) (q : model.Query) (line : BadLine) : Type 0 where
   pub logs : List NameLength
   pub are_logs : AreLogs before now q logs
-  pub typed : IsTyped (log_format spec q) q
+  pub typed : IsTyped (log_format spec q) moment q
   pub exceeds : Told now (λ folder. IsTooMany spec.errors 0 (spans_bad_lines (lines_in (log_format spec q)) false folder (whole_spans logs)) line)
-  pub front : IsFront now out_before out_now spec q logs
+  pub front : IsFront now out_before out_now spec moment q logs
 
 -- the query has no plan, by this fault, and nothing was written
-pub record IsUnplanned (before now : Option Folder) (out_before out_now : Option (List ℕ)) (spec : Spec) (q : model.Query) (fault : TypeFault) : Type 0 where
+pub record IsUnplanned (before now : Option Folder) (out_before out_now : Option (List ℕ)) (spec : Spec) (moment : ℤ) (q : model.Query) (fault : TypeFault) : Type 0 where
   pub logs : List NameLength
   pub are_logs : AreLogs before now q logs
-  pub unplanned : OnWhole (log_format spec q) spec.ts_format now logs (λ table. plan_of table q ≡ Err fault)
+  pub unplanned : OnWhole (log_format spec q) spec.ts_format now logs (λ table. plan_of table moment q ≡ Err fault)
   pub unwritten : OnWhole (log_format spec q) spec.ts_format now logs (λ table. out_now ≡ out_before)
 
 -- nothing was written

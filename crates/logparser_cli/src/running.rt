@@ -93,7 +93,7 @@ fn run_built<L: Logs, I: Source, S: Sink, E: Sink>(
     ensures answers { AnswersBuilt
         (record { folder = L.folder logs.old; logs_faults = L.faults logs.old; out = S.written out.old; out_faults = S.faults out.old; err = E.written err.old; err_faults = E.faults err.old })
         (record { folder = L.folder logs.new; logs_faults = L.faults logs.new; out = S.written out.new; out_faults = S.faults out.new; err = E.written err.new; err_faults = E.faults err.new })
-        spec.now (query_of query.now) result }
+        spec.now moment (query_of query.now) result }
     ensures input { input.new ≡ input.old }
     ensures silent { OnRefused result (err.new ≡ err.old) }
 {
@@ -128,7 +128,7 @@ fn run_query<L: Logs, I: Source, S: Sink, E: Sink>(
     ensures answers { AnswersQuery
         (record { folder = L.folder logs.old; logs_faults = L.faults logs.old; out = S.written out.old; out_faults = S.faults out.old; err = E.written err.old; err_faults = E.faults err.old })
         (record { folder = L.folder logs.new; logs_faults = L.faults logs.new; out = S.written out.new; out_faults = S.faults out.new; err = E.written err.new; err_faults = E.faults err.new })
-        spec.now (query_of query.now) result }
+        spec.now moment (query_of query.now) result }
     ensures input { input.new ≡ input.old }
     ensures silent { OnRefused result (err.new ≡ err.old) }
 {

@@ -10,12 +10,12 @@ pub returns-in-Ok-execute-clause-answers : goal.returns-in-Ok-execute-clause-ans
 returns-in-Ok-execute-clause-answers g c =
     let old : World = record { folder = g.L.Logs.folder c.args.logs.now; logs_faults = g.L.Logs.faults c.args.logs.now; out = g.S.Sink.written c.args.out.now; out_faults = g.S.Sink.faults c.args.out.now; err = g.E.Sink.written c.args.err.now; err_faults = g.E.Sink.faults c.args.err.now } in
     let new : World = record { folder = g.L.Logs.folder c.execute.new.logs; logs_faults = g.L.Logs.faults c.execute.new.logs; out = g.S.Sink.written c.execute.new.stage; out_faults = g.S.Sink.faults c.execute.new.stage; err = g.E.Sink.written c.tell_statistics.new.err; err_faults = g.E.Sink.faults c.tell_statistics.new.err } in
-    whole old new (g.L.Logs.folder c.find_spans.new.logs) c.args.spec.now (query_of c.args.query.now) c.in-Ok.spans c.in-Ok-execute.ran.counts c.in-Ok.ensures.found c.in-Ok-execute.ensures.grows c.in-Ok-execute.ensures.ran c.tell_statistics.ensures.told
+    whole old new (g.L.Logs.folder c.find_spans.new.logs) c.args.spec.now c.args.moment (query_of c.args.query.now) c.in-Ok.spans c.in-Ok-execute.ran.counts c.in-Ok.ensures.found c.in-Ok-execute.ensures.grows c.in-Ok-execute.ensures.ran c.tell_statistics.ensures.told
 
 pub returns-clause-answers : goal.returns-clause-answers
 returns-clause-answers g c =
     let old : World = record { folder = g.L.Logs.folder c.args.logs.now; logs_faults = g.L.Logs.faults c.args.logs.now; out = g.S.Sink.written c.args.out.now; out_faults = g.S.Sink.faults c.args.out.now; err = g.E.Sink.written c.args.err.now; err_faults = g.E.Sink.faults c.args.err.now } in
     let new : World = record { folder = g.L.Logs.folder c.execute.new.logs; logs_faults = g.L.Logs.faults c.execute.new.logs; out = g.S.Sink.written c.execute.new.stage; out_faults = g.S.Sink.faults c.execute.new.stage; err = g.E.Sink.written c.args.err.now; err_faults = g.E.Sink.faults c.args.err.now } in
     let q = query_of c.args.query.now in
-    subst (λ (status : Status). AnswersBuilt old new c.args.spec.now q status) (sym c.stopped.ensures)
-    (stopped_answers old new (g.L.Logs.folder c.find_spans.new.logs) c.args.spec.now q c.in-Ok.spans c.in-Err-execute.fault c.in-Ok.ensures.found c.in-Err-execute.ensures.grows c.in-Err-execute.ensures.stopped c.in-Err-execute.ensures.plan c.in-Err-execute.ensures.before c.in-Err-execute.ensures.parse (λ e. rose_since _ _ _ c.in-Ok.ensures.later (c.in-Err-execute.ensures.logs (ap Err e))) (λ e. c.in-Err-execute.ensures.stage (ap Err e)))
+    subst (λ (status : Status). AnswersBuilt old new c.args.spec.now c.args.moment q status) (sym c.stopped.ensures)
+    (stopped_answers old new (g.L.Logs.folder c.find_spans.new.logs) c.args.spec.now c.args.moment q c.in-Ok.spans c.in-Err-execute.fault c.in-Ok.ensures.found c.in-Err-execute.ensures.grows c.in-Err-execute.ensures.stopped c.in-Err-execute.ensures.plan c.in-Err-execute.ensures.before c.in-Err-execute.ensures.parse (λ e. rose_since _ _ _ c.in-Ok.ensures.later (c.in-Err-execute.ensures.logs (ap Err e))) (λ e. c.in-Err-execute.ensures.stage (ap Err e)))
