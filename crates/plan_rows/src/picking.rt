@@ -70,7 +70,8 @@ impl Picker for PlanPicker {
             fields,
             values,
         )?;
-        if !passes(alloc, &self.plan, values)? {
+        let is_kept = passes(alloc, &self.plan, values)?;
+        if !is_kept {
             return Ok(false);
         }
         read_columns(

@@ -5,14 +5,14 @@ use Rattle.query_types.specs.Conditions.{filter_of}
 use Rattle.plan_rows.proofs.Picked.{picks_none, picks_some}
 use Rattle.plan_rows.proofs.picking.PlanPickerPicker.pick.Goals as goal
 
-pub returns-then-not-passes : goal.returns-then-not-passes
-returns-then-not-passes c =
+pub returns-then-not-is_kept : goal.returns-then-not-is_kept
+returns-then-not-is_kept c =
     let self = c.args.self.now in
     let found : Found = record { identity = c.args.identity.now; row = record { number = c.args.number; slots = slots_of c.args.line.now c.args.fields.now; columns = c.args._columns.now } } in
-    picks_none (length self.plan.used) self.columns.asked self.columns.rest self.readings self.plan.items (option_map filter_of self.plan.condition) found c.make_room.new.values c.read_columns.new.values self.fits (c.in_ok-make_room.ensures ∙ c.len.ensures) self.parted c.in_ok-read_columns.ensures (sym c.passes.ensures ∙ c.if-not-passes.true)
+    picks_none (length self.plan.used) self.columns.asked self.columns.rest self.readings self.plan.items (option_map filter_of self.plan.condition) found c.make_room.new.values c.read_columns.new.values self.fits (c.in_ok-make_room.ensures ∙ c.len.ensures) self.parted c.in_ok-read_columns.ensures (sym c.in_ok-is_kept.ensures ∙ c.if-not-is_kept.true)
 
 pub returns : goal.returns
 returns c =
     let self = c.args.self.now in
     let found : Found = record { identity = c.args.identity.now; row = record { number = c.args.number; slots = slots_of c.args.line.now c.args.fields.now; columns = c.args._columns.now } } in
-    picks_some (length self.plan.used) self.columns.asked self.columns.rest self.readings self.plan.items (option_map filter_of self.plan.condition) found c.make_room.new.values c.read_columns.new.values c.read_columns-2.new.values c.select_row.new.to self.fits (c.in_ok-make_room.ensures ∙ c.len.ensures) self.parted c.in_ok-read_columns.ensures (sym c.passes.ensures ∙ c.if-not-passes.false) c.in_ok-read_columns-2.ensures c.in_ok-select_row.ensures
+    picks_some (length self.plan.used) self.columns.asked self.columns.rest self.readings self.plan.items (option_map filter_of self.plan.condition) found c.make_room.new.values c.read_columns.new.values c.read_columns-2.new.values c.select_row.new.to self.fits (c.in_ok-make_room.ensures ∙ c.len.ensures) self.parted c.in_ok-read_columns.ensures (sym c.in_ok-is_kept.ensures ∙ c.if-not-is_kept.false) c.in_ok-read_columns-2.ensures c.in_ok-select_row.ensures
