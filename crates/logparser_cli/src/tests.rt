@@ -67,7 +67,38 @@ const W3C: &[u8] =
 const NCSA: &[u8] = b"10.0.0.1 - frank [10/Oct/2000:13:55:36 -0700] \"GET /a HTTP/1.0\" 200 -\n";
 
 // Cases whose expected texts were written by hand.
-const CASES: [Case; 24] = [
+const CASES: [Case; 27] = [
+    Case {
+        name: "f.txt",
+        log: b"q",
+        words: &[
+            "-o:CSV",
+            "SELECT EXTRACT_TOKEN('a,b,c', 1) AS a, EXTRACT_VALUE('x=1&y=2', 'y') AS b, QUANTIZE(-7, 5) AS c, DIV(1.0, 3) AS d, MOD(-7, 3) AS e, SUBSTR('a\u{e9}\u{20ac}b', 1, 2) AS f, TO_STRING(TIMESTAMP('2000-10-10','yyyy-MM-dd'), 'd MMM yyyy') AS g FROM f.txt",
+        ],
+        code: 0,
+        out: b"a,b,c,d,e,f,g\nb,2,-10,0.333333,-1,\xC3\xA9\xE2\x82\xAC,10 Oct 2000\n",
+        err: b"Statistics:\n-----------\nElements processed: 1\nElements output:    1\n",
+    },
+    Case {
+        name: "f.txt",
+        log: b"a\nb\n",
+        words: &[
+            "-o:CSV",
+            "-stats:OFF",
+            "SELECT SYSTEM_TIMESTAMP(), system_date(), SYSTEM_TIME(), CASE Text WHEN 'a' THEN Index END AS c FROM f.txt WHERE TO_UPPERCASE(Text) LIKE '_'",
+        ],
+        code: 0,
+        out: b"SYSTEM_TIMESTAMP(),SYSTEM_DATE(),SYSTEM_TIME(),c\n1970-01-01 00:00:00,1970-01-01,00:00:00,1\n1970-01-01 00:00:00,1970-01-01,00:00:00,\n",
+        err: b"",
+    },
+    Case {
+        name: "f.txt",
+        log: b"q",
+        words: &["-o:CSV", "SELECT STRLEN(1) FROM f.txt"],
+        code: 3,
+        out: b"",
+        err: b"logparser: query: at 7: kind mismatch\n",
+    },
     Case {
         name: "e.log",
         log: b"",

@@ -51,7 +51,8 @@ impl<'a> Picker for SampledPicker<'a> {
             fields,
             values,
         )?;
-        if !passes(alloc, &self.plan, values)? {
+        let is_kept = passes(alloc, &self.plan, values)?;
+        if !is_kept {
             return Ok(false);
         }
         select_row(alloc, &self.plan, values, row)?;

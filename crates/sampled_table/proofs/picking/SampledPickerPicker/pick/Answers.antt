@@ -5,14 +5,14 @@ use Rattle.query_types.specs.Conditions.{filter_of}
 use Rattle.sampled_table.proofs.Masking.{picks_none, picks_some}
 use Rattle.sampled_table.proofs.picking.SampledPickerPicker.pick.Goals as goal
 
-pub returns-then-not-passes : goal.returns-then-not-passes
-returns-then-not-passes c =
+pub returns-then-not-is_kept : goal.returns-then-not-is_kept
+returns-then-not-is_kept c =
     let self = c.args.self.now in
     let found : Found = record { identity = c.args.identity.now; row = record { number = c.args.number; slots = slots_of c.args.line.now c.args.fields.now; columns = c.args.columns.now } } in
-    picks_none self.plan.used self.pattern.now self.told self.plan.items (option_map filter_of self.plan.condition) found c.read_row.new.values self.fits self.covers c.in_ok-read_row.ensures (sym c.passes.ensures ∙ c.if-not-passes.true)
+    picks_none self.plan.used self.pattern.now self.told self.plan.items (option_map filter_of self.plan.condition) found c.read_row.new.values self.fits self.covers c.in_ok-read_row.ensures (sym c.in_ok-is_kept.ensures ∙ c.if-not-is_kept.true)
 
 pub returns : goal.returns
 returns c =
     let self = c.args.self.now in
     let found : Found = record { identity = c.args.identity.now; row = record { number = c.args.number; slots = slots_of c.args.line.now c.args.fields.now; columns = c.args.columns.now } } in
-    picks_some self.plan.used self.pattern.now self.told self.plan.items (option_map filter_of self.plan.condition) found c.read_row.new.values c.select_row.new.to self.fits self.covers c.in_ok-read_row.ensures (sym c.passes.ensures ∙ c.if-not-passes.false) c.in_ok-select_row.ensures
+    picks_some self.plan.used self.pattern.now self.told self.plan.items (option_map filter_of self.plan.condition) found c.read_row.new.values c.select_row.new.to self.fits self.covers c.in_ok-read_row.ensures (sym c.in_ok-is_kept.ensures ∙ c.if-not-is_kept.false) c.in_ok-select_row.ensures
