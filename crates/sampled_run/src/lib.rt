@@ -14,8 +14,6 @@ mod planning;
 mod running;
 mod spans;
 mod taking;
-#[cfg(test)]
-mod tests;
 mod turning;
 
 pub use ending::finish_run;
