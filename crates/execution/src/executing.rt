@@ -62,7 +62,9 @@ pub fn execute<L: Logs, I: Source, G: Stage>(
     let target = standard_output();
     match log_format(spec, query) {
         LogFormat::Tabled(format) => {
-            execute_tabled(alloc, spec, format, query, moment, logs, spans, target, stage)
+            execute_tabled(
+                alloc, spec, format, query, moment, logs, spans, target, stage,
+            )
         }
         LogFormat::Sampled(options, limit) => execute_sampled(
             alloc, spec, options, limit, query, moment, logs, spans, target, stage,

@@ -135,7 +135,9 @@ pub(crate) fn sample_reader<'a, R: LineReader, L: Logs, F: Shape + Drop, G: Stag
     let Ok(mut chunk) = zeros(alloc, CHUNK) else {
         return Err(SampleFault::Memory);
     };
-    let mut page = first_page(alloc, limit, pattern, moment, query, most_bad, shape, target);
+    let mut page = first_page(
+        alloc, limit, pattern, moment, query, most_bad, shape, target,
+    );
     let mut took = TookList::new(alloc);
     match take_all(
         alloc, reader, false, logs, spans, &mut chunk, &mut page, &mut took, stage,

@@ -22,7 +22,7 @@ call_meant-returns-in_err-callee t c =
     faulty (λ m. m) c.from_residual.result fault _ c.from_residual.ensures.1
     (hands_on (λ m. m) (λ m. m) fault _ _ c.in_err-callee.ensures
     (λ e. call_known c.args.table.now c.args.moment.now c.args.aliases.now c.args.at c.args.name.now c.args.arguments.now.items.items c.len.result c.of.result (Err fault)
-        c.len.ensures (c.of.ensures ∙ ap callee c.as_str.ensures) e))
+    c.len.ensures (c.of.ensures ∙ ap callee c.as_str.ensures) e))
 
 pub call_meant-returns-in_err-meaning : goal.call_meant-returns-in_err-meaning
 call_meant-returns-in_err-meaning t c =
@@ -34,9 +34,9 @@ call_meant-returns-in_err-meaning t c =
     faulty (λ m. m) c.from_residual-in_err-meaning.result fault _ c.from_residual-in_err-meaning.ensures.1
     (hands_on (λ m. m) (λ m. m) fault _ _ c.in_err-meaning.ensures
     (λ e. call_given table moment aliases c.args.at c.args.name.now c.args.arguments.now.items.items c.len.result c.of.result c.in_ok-callee.callee (Err fault)
-        c.len.ensures (c.of.ensures ∙ ap callee c.as_str.ensures) c.in_ok-callee.ensures
-        (ap (λ (l : List Expr). all_meant table moment aliases (listed (map tree_of l))) (sym c.deref-argument-items.ensures.value) ∙ c.loop-argument.invariant
-        ∙ argument_step table moment aliases (map term_of c.loop-argument.forms.items) items c.loop-argument.argument-index c.argument-item.result (Err fault) c.loop-argument-test.true c.argument-item.is e)))
+    c.len.ensures (c.of.ensures ∙ ap callee c.as_str.ensures) c.in_ok-callee.ensures
+    (ap (λ (l : List Expr). all_meant table moment aliases (listed (map tree_of l))) (sym c.deref-argument-items.ensures.value) ∙ c.loop-argument.invariant
+    ∙ argument_step table moment aliases (map term_of c.loop-argument.forms.items) items c.loop-argument.argument-index c.argument-item.result (Err fault) c.loop-argument-test.true c.argument-item.is e)))
 
 pub call_meant-loop-argument-preserved : goal.call_meant-loop-argument-preserved
 call_meant-loop-argument-preserved t c =
@@ -60,9 +60,9 @@ call_meant-returns t c =
     let front = map term_of c.loop-argument.forms.items in
     subst (λ (r : Result Term TypeFault). Answers (λ (m : Term). m) c.call_means.result r)
     (sym (call_given table moment aliases c.args.at c.args.name.now c.args.arguments.now.items.items c.len.result c.of.result c.in_ok-callee.callee (Ok front)
-        c.len.ensures (c.of.ensures ∙ ap callee c.as_str.ensures) c.in_ok-callee.ensures
-        (ap (λ (l : List Expr). all_meant table moment aliases (listed (map tree_of l))) (sym c.deref-argument-items.ensures.value) ∙ c.loop-argument.invariant
-        ∙ ap (λ (l : List Expr). joined front (all_meant table moment aliases (listed (map tree_of l)))) (drop_all c.loop-argument.argument-index items (omega arith)) ∙ all_known front)))
+    c.len.ensures (c.of.ensures ∙ ap callee c.as_str.ensures) c.in_ok-callee.ensures
+    (ap (λ (l : List Expr). all_meant table moment aliases (listed (map tree_of l))) (sym c.deref-argument-items.ensures.value) ∙ c.loop-argument.invariant
+    ∙ ap (λ (l : List Expr). joined front (all_meant table moment aliases (listed (map tree_of l)))) (drop_all c.loop-argument.argument-index items (omega arith)) ∙ all_known front)))
     c.call_means.ensures
 
 pub meant-returns-in-Call : goal.meant-returns-in-Call
@@ -83,8 +83,8 @@ meant-returns-in_err-parts-in-Case t c =
     faulty (λ m. m) c.from_residual-in_err-parts-in-Case.result fault _ c.from_residual-in_err-parts-in-Case.ensures.1
     (hands_on (λ (v : Vec Form Global). map term_of v.items) (λ m. m) fault _ _ c.in_err-parts-in-Case.ensures
     (λ e. ap (λ (x : Expr). meant table moment aliases (tree_of x)) c.in-Case.is
-        ∙ case_parts table moment aliases c.in-Case.at c.in-Case.subject c.in-Case.branches c.in-Case.otherwise c.in-Case.otherwise c.in_ok-subject-in-Case.subject c.kind-kind.result (Err fault)
-        (ap (λ (x : Expr). meant table moment aliases (tree_of x)) (sym c.deref.ensures) ∙ c.in_ok-subject-in-Case.ensures) c.kind-kind.ensures e refl))
+    ∙ case_parts table moment aliases c.in-Case.at c.in-Case.subject c.in-Case.branches c.in-Case.otherwise c.in-Case.otherwise c.in_ok-subject-in-Case.subject c.kind-kind.result (Err fault)
+    (ap (λ (x : Expr). meant table moment aliases (tree_of x)) (sym c.deref.ensures) ∙ c.in_ok-subject-in-Case.ensures) c.kind-kind.ensures e refl))
 
 pub meant-returns-in_err-last-in-Some : goal.meant-returns-in_err-last-in-Some
 meant-returns-in_err-last-in-Some t c =
@@ -95,9 +95,9 @@ meant-returns-in_err-last-in-Some t c =
     faulty (λ m. m) c.from_residual-in_err-last-in-Some.result fault _ c.from_residual-in_err-last-in-Some.ensures.1
     (hands_on (λ m. m) (λ m. m) fault _ _ c.in_err-last-in-Some.ensures
     (λ e. ap (λ (x : Expr). meant table moment aliases (tree_of x)) c.in-Case.is
-        ∙ case_last table moment aliases c.in-Case.at c.in-Case.subject c.in-Case.branches c.in-Case.otherwise c.in-Some.value c.in_ok-subject-in-Case.subject c.kind-kind.result (map term_of c.in_ok-parts-in-Case.parts.items) (Err fault)
-        (ap (λ (x : Expr). meant table moment aliases (tree_of x)) (sym c.deref.ensures) ∙ c.in_ok-subject-in-Case.ensures) c.kind-kind.ensures c.in_ok-parts-in-Case.ensures c.in-Some.is
-        (ap (λ (x : Expr). meant table moment aliases (tree_of x)) (sym c.deref-in-Some.ensures) ∙ e)))
+    ∙ case_last table moment aliases c.in-Case.at c.in-Case.subject c.in-Case.branches c.in-Case.otherwise c.in-Some.value c.in_ok-subject-in-Case.subject c.kind-kind.result (map term_of c.in_ok-parts-in-Case.parts.items) (Err fault)
+    (ap (λ (x : Expr). meant table moment aliases (tree_of x)) (sym c.deref.ensures) ∙ c.in_ok-subject-in-Case.ensures) c.kind-kind.ensures c.in_ok-parts-in-Case.ensures c.in-Some.is
+    (ap (λ (x : Expr). meant table moment aliases (tree_of x)) (sym c.deref-in-Some.ensures) ∙ e)))
 
 pub meant-returns-in_ok-case_means-in-None : goal.meant-returns-in_ok-case_means-in-None
 meant-returns-in_ok-case_means-in-None t c =
@@ -122,8 +122,8 @@ meant-returns-in_ok-last-in-Some t c =
     subst (λ (r : Result Term TypeFault). Answers (λ (m : Term). m) c.case_ended.result r)
     (sym (ap (λ (e : Expr). meant table moment aliases (tree_of e)) c.in-Case.is
     ∙ case_last table moment aliases c.in-Case.at c.in-Case.subject c.in-Case.branches c.in-Case.otherwise c.in-Some.value x c.kind-kind.result parts (Ok last)
-        (ap (λ (e : Expr). meant table moment aliases (tree_of e)) (sym c.deref.ensures) ∙ c.in_ok-subject-in-Case.ensures) c.kind-kind.ensures c.in_ok-parts-in-Case.ensures c.in-Some.is
-        (ap (λ (e : Expr). meant table moment aliases (tree_of e)) (sym c.deref-in-Some.ensures) ∙ c.in_ok-last-in-Some.ensures)
+    (ap (λ (e : Expr). meant table moment aliases (tree_of e)) (sym c.deref.ensures) ∙ c.in_ok-subject-in-Case.ensures) c.kind-kind.ensures c.in_ok-parts-in-Case.ensures c.in-Some.is
+    (ap (λ (e : Expr). meant table moment aliases (tree_of e)) (sym c.deref-in-Some.ensures) ∙ c.in_ok-last-in-Some.ensures)
     ∙ ended table.columns x parts _ last
     ∙ ap (λ at. case_ended table.columns x parts at last) (ap (λ (e : Expr). place_of (tree_of e)) (sym c.deref-in-Some-2.ensures) ∙ sym c.place.ensures)))
     c.case_ended.ensures

@@ -29,7 +29,7 @@ spell_expression-returns-in-None t c =
     let first = more to (codes "CASE ") subject c.spell-in-Case.new.to c.spell_expression.new.to c.in_ok-spell-in-Case.ensures one in
     let second = more to (codes "CASE " ++ subject) branches c.spell_expression.new.to c.spell_branches.new.to first c.in_ok-spell_branches-in-Case.ensures in
     on_ok_weaker _ (λ last. more to (codes "CASE " ++ subject ++ branches) (codes " END") c.spell_branches.new.to c.spell-in-None.new.to second last
-        ∙ ap (λ text. to ++ (text ++ codes " END")) (sym (append-nil (codes "CASE " ++ subject ++ branches))) ∙ ap (λ text. to ++ text) (sym whole)) c.spell-in-None.ensures
+    ∙ ap (λ text. to ++ (text ++ codes " END")) (sym (append-nil (codes "CASE " ++ subject ++ branches))) ∙ ap (λ text. to ++ text) (sym whole)) c.spell-in-None.ensures
 
 pub spell_expression-returns-in_ok-spell_expression-in-Some : goal.spell_expression-returns-in_ok-spell_expression-in-Some
 spell_expression-returns-in_ok-spell_expression-in-Some t c =
