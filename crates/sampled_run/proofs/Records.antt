@@ -171,7 +171,7 @@ halts_gathering text has_text old first last u founds is = λ rules start past h
 -- the record with which the columns are told
 pub samples_turning : {F : Type 0} (text : TextOf F) (has_text : HasTextOf F) (old : Sampling F) (new : Phase F) (first last : Gathering F) (u v : Option (List ℕ)) (found : Found)
     → old.phase ≡ P.Gathering first → last.first ≡ first_seen first.first (found ∷ []) → map found_in last.rows ≡ map found_in first.rows ++ found ∷ [] → last.shape ≡ first.shape → old.limit ≤ length last.rows
-    → ((rules : Rules) (start : Option (List ℕ)) (past : Past) → Asks old.limit old.pattern.now old.moment (query_of old.query.now) rules → Gathers text rules start past last u → IsTold rules past → PhaseHolds text has_text rules start past new v)
+    → ((rules : Rules) (start : Option (List ℕ)) (past : Past) → Asks old.limit old.pattern.now old.moment.seconds (query_of old.query.now) rules → Gathers text rules start past last u → IsTold rules past → PhaseHolds text has_text rules start past new v)
     → SamplesTo text has_text old u (found ∷ []) new v
 samples_turning text has_text old new first last u v found is log rows shape enough turned = λ rules start past holds.
     let gathers = gathers_more text rules start u past first last found log rows shape (phase_is text has_text rules start u past old (P.Gathering first) is holds) in
@@ -180,7 +180,7 @@ samples_turning text has_text old new first last u v found is log rows shape eno
 
 pub halts_turning : {F : Type 0} (text : TextOf F) (has_text : HasTextOf F) (old : Sampling F) (new : Phase F) (first last : Gathering F) (u v : Option (List ℕ)) (found : Found)
     → old.phase ≡ P.Gathering first → last.first ≡ first_seen first.first (found ∷ []) → map found_in last.rows ≡ map found_in first.rows ++ found ∷ [] → last.shape ≡ first.shape → old.limit ≤ length last.rows
-    → ((rules : Rules) (start : Option (List ℕ)) (past later : Past) → Asks old.limit old.pattern.now old.moment (query_of old.query.now) rules → Gathers text rules start past last u → IsTold rules past → Later past later → PhaseStopped rules start later new v)
+    → ((rules : Rules) (start : Option (List ℕ)) (past later : Past) → Asks old.limit old.pattern.now old.moment.seconds (query_of old.query.now) rules → Gathers text rules start past last u → IsTold rules past → Later past later → PhaseStopped rules start later new v)
     → HaltsAt text has_text old u (found ∷ []) new v
 halts_turning text has_text old new first last u v found is log rows shape enough stopped = λ rules start past holds later follows.
     let gathers = gathers_more text rules start u past first last found log rows shape (phase_is text has_text rules start u past old (P.Gathering first) is holds) in

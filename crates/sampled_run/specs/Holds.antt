@@ -60,7 +60,7 @@ pub record Asks (most : ℕ) (times : List Piece) (when : ℤ) (asked : Query) (
 
 -- a run goes by these rules, and its phase stands for these records
 pub record Holds {F : Type 0} (text : TextOf F) (has_text : HasTextOf F) (rules : Rules) (start : Option (List ℕ)) (past : Past) (sampling : Sampling F) (now : Option (List ℕ)) : Type 0 where
-  pub asks : Asks sampling.limit sampling.pattern.now sampling.moment (query_of sampling.query.now) rules
+  pub asks : Asks sampling.limit sampling.pattern.now sampling.moment.seconds (query_of sampling.query.now) rules
   pub phase : PhaseHolds text has_text rules start past sampling.phase now
 
 -- the query has no plan, by this fault, and nothing is written

@@ -15,7 +15,7 @@ ghost use Rattle.sampled_run.specs.Stops.{IsStop, stop_of};
 
 use crate::giving::give_kept;
 use crate::planning::picker_for;
-use crate::{Gathering, Stop};
+use crate::{Gathering, Moment, Stop};
 use log_reading::TakeFault;
 use lp_outside::Stage;
 use lp_time::Pattern;
@@ -110,16 +110,16 @@ pub(crate) fn begin<'a, F: Shape + Drop, G: Stage>(
     alloc: Global,
     limit: u32,
     pattern: &'a Pattern,
-    moment: i64,
+    moment: Moment,
     query: &Query,
     gathering: Gathering<F>,
     stage: &mut G,
 ) -> Result<Writer<F, SampledPicker<'a>>, Stop>
     requires { is_built (query_of query.now) ≡ true }
-    ensures begun { IfOk result (λ writer. (rules : Rules) (start : Option (List ℕ)) (past : Past) → Asks limit pattern.now moment (query_of query.now) rules → Gathers F.text rules start past gathering (G.state stage.old).written
+    ensures begun { IfOk result (λ writer. (rules : Rules) (start : Option (List ℕ)) (past : Past) → Asks limit pattern.now moment.seconds (query_of query.now) rules → Gathers F.text rules start past gathering (G.state stage.old).written
         → Begun F.text F.has_text rules start past writer (G.state stage.new).written) }
     ensures taken { IfOk result (λ writer. writer.taken ≡ length gathering.rows) }
-    ensures stopped { IfErr result (λ stop. (rules : Rules) (start : Option (List ℕ)) (past later : Past) → Asks limit pattern.now moment (query_of query.now) rules → Gathers F.text rules start past gathering (G.state stage.old).written
+    ensures stopped { IfErr result (λ stop. (rules : Rules) (start : Option (List ℕ)) (past later : Past) → Asks limit pattern.now moment.seconds (query_of query.now) rules → Gathers F.text rules start past gathering (G.state stage.old).written
         → Later past later → told_at rules later ≡ told_at rules past → IsStop rules start later stop (G.state stage.new).written) }
     ensures later { G.faults stage.old ≤ G.faults stage.new }
     ensures failed { IsErrOf result Stop.Output → Rose (G.faults stage.old) (G.faults stage.new) }

@@ -12,8 +12,8 @@ ghost use Rattle.sampled_run.specs.Past.{rules_of};
 ghost use Rattle.sampled_run.specs.Spans.{past_of};
 ghost use Rattle.sampled_run.specs.Ran.{IsSampled, IsStoppedBy, OnBadOne};
 
-use crate::SampleFault;
 use crate::running::sample_reader;
+use crate::{Moment, SampleFault};
 use delimited_input::{Delimited, DelimitedOptions};
 use log_reading::Span;
 use lp_outside::{Logs, Stage};
@@ -29,7 +29,7 @@ pub fn run_sampled<'a, L: Logs, G: Stage>(
     options: DelimitedOptions,
     limit: u32,
     pattern: &'a Pattern,
-    moment: i64,
+    moment: Moment,
     headers: Headers,
     query: &'a Query,
     most_bad: Option<u64>,
@@ -45,9 +45,9 @@ pub fn run_sampled<'a, L: Logs, G: Stage>(
     requires there { Told (L.folder logs.old) (λ folder. AllSpans spans.now (λ span. span.listed ≤ length (bytes_in folder span.name))) }
     ensures grows { OnlyGrow (L.folder logs.old) (L.folder logs.new) }
     ensures ran { IfOk result (λ counts. Told (L.folder logs.new) (λ folder. AreKept (delimited_lines options) false spans.now folder
-        → IsSampled (rules_of limit pattern.now moment (query_of query.now) (csv_of headers)) (G.state stage.old).written (past_of (delimited_lines options) false folder spans.now) (delimited_lines options) folder spans.now counts (G.state stage.new).written)) }
+        → IsSampled (rules_of limit pattern.now moment.seconds (query_of query.now) (csv_of headers)) (G.state stage.old).written (past_of (delimited_lines options) false folder spans.now) (delimited_lines options) folder spans.now counts (G.state stage.new).written)) }
     ensures stopped { IfErr result (λ fault. Told (L.folder logs.new) (λ folder. AreKept (delimited_lines options) false spans.now folder
-        → IsStoppedBy (rules_of limit pattern.now moment (query_of query.now) (csv_of headers)) (G.state stage.old).written (past_of (delimited_lines options) false folder spans.now) fault (G.state stage.new).written)) }
+        → IsStoppedBy (rules_of limit pattern.now moment.seconds (query_of query.now) (csv_of headers)) (G.state stage.old).written (past_of (delimited_lines options) false folder spans.now) fault (G.state stage.new).written)) }
     ensures within { IfOk result (λ counts. IsWithin most_bad counts.bad) }
     ensures too_many { IfErr result (λ fault. OnBadOne fault (λ line. Told (L.folder logs.new) (λ folder. AreKept (delimited_lines options) false spans.now folder
         → IsTooMany most_bad 0 (spans_bad_lines (delimited_lines options) false folder spans.now) line))) }

@@ -4,6 +4,7 @@ ghost use Rattle.query_tree.specs.Views.{query_of};
 ghost use Rattle.query_types.specs.Built.{is_built};
 ghost use Rattle.sampled_run.specs.Counts.{kept_in};
 
+use crate::Moment;
 use lp_time::Pattern;
 use query_run::{Target, Writer};
 use query_tree::Query;
@@ -39,8 +40,7 @@ pub struct Sampling<'a, F> {
     pub limit: u32,
     /// How times are read.
     pub pattern: &'a Pattern,
-    /// The moment of the run, in seconds since 1970-01-01.
-    pub moment: i64,
+    pub moment: Moment,
     pub query: &'a Query,
     pub phase: Phase<'a, F>,
     ghost built: { is_built (query_of query.now) ≡ true },

@@ -7,7 +7,7 @@ ghost use Rattle.sampled_table.specs.Judged.{judged, table_of};
 ghost use Rattle.sampled_table.specs.Kept.{found_in};
 ghost use Rattle.sampled_run.specs.Stops.{IsFaultOf, unplanned};
 
-use crate::Stop;
+use crate::{Moment, Stop};
 use lp_time::Pattern;
 use query_tree::Query;
 use query_types::{TypeFault, plan};
@@ -28,20 +28,20 @@ fn unplanned(fault: TypeFault) -> Stop
 fn picker_over<'a>(
     alloc: Global,
     pattern: &'a Pattern,
-    moment: i64,
+    moment: Moment,
     query: &Query,
     told: Judged,
 ) -> Result<SampledPicker<'a>, Stop>
     requires { is_built (query_of query.now) ≡ true }
-    ensures planned { IfOk result (λ picker. plan_of (table_of told) moment (query_of query.now) ≡ Ok (planned_in picker.plan)) }
+    ensures planned { IfOk result (λ picker. plan_of (table_of told) moment.seconds (query_of query.now) ≡ Ok (planned_in picker.plan)) }
     ensures told { IfOk result (λ picker. picker.told ≡ told) }
     ensures pattern { IfOk result (λ picker. picker.pattern.now ≡ pattern.now) }
-    ensures fault { IfErr result (IsFaultOf (plan_of (table_of told) moment (query_of query.now))) }
+    ensures fault { IfErr result (IsFaultOf (plan_of (table_of told) moment.seconds (query_of query.now))) }
 {
     let Ok(table) = table_of(alloc, &told) else {
         return Err(Stop::Memory);
     };
-    match plan(alloc, query, &table, moment) {
+    match plan(alloc, query, &table, moment.seconds) {
         Ok(plan) => Ok(SampledPicker {
             plan,
             pattern,
@@ -56,16 +56,16 @@ pub(crate) fn picker_for<'a>(
     alloc: Global,
     limit: u32,
     pattern: &'a Pattern,
-    moment: i64,
+    moment: Moment,
     query: &Query,
     first: &Option<FirstLog>,
     rows: &KeptRows,
 ) -> Result<SampledPicker<'a>, Stop>
     requires { is_built (query_of query.now) ≡ true }
-    ensures planned { IfOk result (λ picker. plan_of (table_of (judged limit pattern.now first.now (map found_in rows.now))) moment (query_of query.now) ≡ Ok (planned_in picker.plan)) }
+    ensures planned { IfOk result (λ picker. plan_of (table_of (judged limit pattern.now first.now (map found_in rows.now))) moment.seconds (query_of query.now) ≡ Ok (planned_in picker.plan)) }
     ensures told { IfOk result (λ picker. picker.told ≡ judged limit pattern.now first.now (map found_in rows.now)) }
     ensures pattern { IfOk result (λ picker. picker.pattern.now ≡ pattern.now) }
-    ensures fault { IfErr result (IsFaultOf (plan_of (table_of (judged limit pattern.now first.now (map found_in rows.now))) moment (query_of query.now))) }
+    ensures fault { IfErr result (IsFaultOf (plan_of (table_of (judged limit pattern.now first.now (map found_in rows.now))) moment.seconds (query_of query.now))) }
 {
     let Ok(told) = judge(alloc, limit, pattern, first, rows) else {
         return Err(Stop::Memory);

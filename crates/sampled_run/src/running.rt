@@ -13,7 +13,7 @@ ghost use Rattle.sampled_run.specs.Ran.{IsSampled, IsStoppedBy, OnBadOne, fault_
 
 use crate::ending::finish_run;
 use crate::spans::take_all;
-use crate::{Gathering, Phase, SampleFault, Sampling, Stop};
+use crate::{Gathering, Moment, Phase, SampleFault, Sampling, Stop};
 use line_input::{Fields, LineReader, Splitter, Standing};
 use log_reading::{Page, RunFault, Span, TookList};
 use lp_outside::{Logs, Stage};
@@ -64,14 +64,14 @@ fn first_page<'a, F: Shape + Drop>(
     alloc: Global,
     limit: u32,
     pattern: &'a Pattern,
-    moment: i64,
+    moment: Moment,
     query: &'a Query,
     most_bad: Option<u64>,
     shape: F,
     target: Target,
 ) -> Page<Sampling<'a, F>>
     requires { is_built (query_of query.now) ≡ true }
-    ensures holds { (start : Option (List ℕ)) → Holds F.text F.has_text (rules_of limit pattern.now moment (query_of query.now) (F.text shape)) start (record { first = None; founds = [] }) result.taker start }
+    ensures holds { (start : Option (List ℕ)) → Holds F.text F.has_text (rules_of limit pattern.now moment.seconds (query_of query.now) (F.text shape)) start (record { first = None; founds = [] }) result.taker start }
     ensures taken { taken_in result.taker.phase ≡ 0 }
     ensures rows { result.rows ≡ 0 }
     ensures bad { result.bad ≡ 0 }
@@ -105,7 +105,7 @@ pub(crate) fn sample_reader<'a, R: LineReader, L: Logs, F: Shape + Drop, G: Stag
     reader: &R,
     limit: u32,
     pattern: &'a Pattern,
-    moment: i64,
+    moment: Moment,
     query: &'a Query,
     most_bad: Option<u64>,
     logs: &mut L,
@@ -120,9 +120,9 @@ pub(crate) fn sample_reader<'a, R: LineReader, L: Logs, F: Shape + Drop, G: Stag
     requires there { Told (L.folder logs.old) (λ folder. AllSpans spans.now (λ span. span.listed ≤ length (bytes_in folder span.name))) }
     ensures grows { OnlyGrow (L.folder logs.old) (L.folder logs.new) }
     ensures ran { IfOk result (λ counts. Told (L.folder logs.new) (λ folder. AreKept (R.format reader.now) false spans.now folder
-        → IsSampled (rules_of limit pattern.now moment (query_of query.now) (F.text shape)) (G.state stage.old).written (past_behind (R.format reader.now) false folder (record { first = None; founds = [] }) spans.now) (R.format reader.now) folder spans.now counts (G.state stage.new).written)) }
+        → IsSampled (rules_of limit pattern.now moment.seconds (query_of query.now) (F.text shape)) (G.state stage.old).written (past_behind (R.format reader.now) false folder (record { first = None; founds = [] }) spans.now) (R.format reader.now) folder spans.now counts (G.state stage.new).written)) }
     ensures stopped { IfErr result (λ fault. Told (L.folder logs.new) (λ folder. AreKept (R.format reader.now) false spans.now folder
-        → IsStoppedBy (rules_of limit pattern.now moment (query_of query.now) (F.text shape)) (G.state stage.old).written (past_behind (R.format reader.now) false folder (record { first = None; founds = [] }) spans.now) fault (G.state stage.new).written)) }
+        → IsStoppedBy (rules_of limit pattern.now moment.seconds (query_of query.now) (F.text shape)) (G.state stage.old).written (past_behind (R.format reader.now) false folder (record { first = None; founds = [] }) spans.now) fault (G.state stage.new).written)) }
     ensures within { IfOk result (λ counts. IsWithin most_bad counts.bad) }
     ensures too_many { IfErr result (λ fault. OnBadOne fault (λ line. Told (L.folder logs.new) (λ folder. AreKept (R.format reader.now) false spans.now folder
         → IsTooMany most_bad 0 (spans_bad_lines (R.format reader.now) false folder spans.now) line))) }

@@ -8,7 +8,7 @@ ghost use Rattle.sampled_run.specs.Past.{Past, Later, Rules};
 ghost use Rattle.sampled_run.specs.Holds.{Asks, IsTold, PhaseHolds, PhaseStopped};
 
 use crate::beginning::begin;
-use crate::{Gathering, Phase, Stop};
+use crate::{Gathering, Moment, Phase, Stop};
 use log_reading::TakeFault;
 use lp_outside::Stage;
 use lp_time::Pattern;
@@ -40,15 +40,15 @@ pub(crate) fn turn<'a, F: Shape + Drop, G: Stage>(
     alloc: Global,
     limit: u32,
     pattern: &'a Pattern,
-    moment: i64,
+    moment: Moment,
     query: &'a Query,
     phase: &mut Phase<'a, F>,
     stage: &mut G,
 ) -> Result<(), TakeFault>
     requires { is_built (query_of query.now) ≡ true }
-    ensures turned { OnOk result ((rules : Rules) (start : Option (List ℕ)) (past : Past) → Asks limit pattern.now moment (query_of query.now) rules → PhaseHolds F.text F.has_text rules start past phase.old (G.state stage.old).written → IsTold rules past
+    ensures turned { OnOk result ((rules : Rules) (start : Option (List ℕ)) (past : Past) → Asks limit pattern.now moment.seconds (query_of query.now) rules → PhaseHolds F.text F.has_text rules start past phase.old (G.state stage.old).written → IsTold rules past
         → PhaseHolds F.text F.has_text rules start past phase.new (G.state stage.new).written) }
-    ensures stopped { OnErr result ((rules : Rules) (start : Option (List ℕ)) (past later : Past) → Asks limit pattern.now moment (query_of query.now) rules → PhaseHolds F.text F.has_text rules start past phase.old (G.state stage.old).written → IsTold rules past → Later past later
+    ensures stopped { OnErr result ((rules : Rules) (start : Option (List ℕ)) (past later : Past) → Asks limit pattern.now moment.seconds (query_of query.now) rules → PhaseHolds F.text F.has_text rules start past phase.old (G.state stage.old).written → IsTold rules past → Later past later
         → PhaseStopped rules start later phase.new (G.state stage.new).written) }
     ensures count { OnOk result (taken_in phase.new ≡ taken_in phase.old) }
     ensures few { kept_in phase.new ≡ 0 }

@@ -23,7 +23,7 @@ returns-clause-ran g c =
     let u = (g.G.Stage.state c.args.stage.now).written in
     let v = (g.G.Stage.state c.sample_reader.new.stage).written in
     let spans = c.args.spans.now in
-    let rules : Headers → Rules = λ headers. rules_of c.args.limit c.args.pattern.now c.args.moment (query_of c.args.query.now) (csv_of headers) in
+    let rules : Headers → Rules = λ headers. rules_of c.args.limit c.args.pattern.now c.args.moment.seconds (query_of c.args.query.now) (csv_of headers) in
     let Behind : DelimitedOptions → Headers → Counts → Type 0 = λ options headers counts. Told told (λ folder. AreKept (delimited_lines options) false spans folder
     → IsSampled (rules headers) u (past_behind (delimited_lines options) false folder nothing spans) (delimited_lines options) folder spans counts v) in
     let given = subst (λ (options : DelimitedOptions). IfOk c.sample_reader.result (Behind options c.new-shape.result)) c.in-Ok.ensures.ok c.sample_reader.ensures.ran in
@@ -41,7 +41,7 @@ returns-clause-stopped g c =
     let u = (g.G.Stage.state c.args.stage.now).written in
     let v = (g.G.Stage.state c.sample_reader.new.stage).written in
     let spans = c.args.spans.now in
-    let rules : Headers → Rules = λ headers. rules_of c.args.limit c.args.pattern.now c.args.moment (query_of c.args.query.now) (csv_of headers) in
+    let rules : Headers → Rules = λ headers. rules_of c.args.limit c.args.pattern.now c.args.moment.seconds (query_of c.args.query.now) (csv_of headers) in
     let Behind : DelimitedOptions → Headers → SampleFault → Type 0 = λ options headers fault. Told told (λ folder. AreKept (delimited_lines options) false spans folder
     → IsStoppedBy (rules headers) u (past_behind (delimited_lines options) false folder nothing spans) fault v) in
     let given = subst (λ (options : DelimitedOptions). IfErr c.sample_reader.result (Behind options c.new-shape.result)) c.in-Ok.ensures.ok c.sample_reader.ensures.stopped in

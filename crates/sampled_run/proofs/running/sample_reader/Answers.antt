@@ -42,11 +42,11 @@ returns-in_default-clause-grows g c = OnlyGrow-refl _
 
 pub returns-in_default-clause-stopped : goal.returns-in_default-clause-stopped
 returns-in_default-clause-stopped g c =
-    stopped_at_once (rules_of c.args.limit c.args.pattern.now c.args.moment (query_of c.args.query.now) (g.F.Shape.text c.args.shape)) (g.R.LineReader.format c.args.reader.now) (g.L.Logs.folder c.args.logs.now) c.args.spans.now (g.G.Stage.state c.args.stage.now).written
+    stopped_at_once (rules_of c.args.limit c.args.pattern.now c.args.moment.seconds (query_of c.args.query.now) (g.F.Shape.text c.args.shape)) (g.R.LineReader.format c.args.reader.now) (g.L.Logs.folder c.args.logs.now) c.args.spans.now (g.G.Stage.state c.args.stage.now).written
 
 pub returns-in-Err-clause-stopped : goal.returns-in-Err-clause-stopped
 returns-in-Err-clause-stopped g c =
-    let rules = rules_of c.args.limit c.args.pattern.now c.args.moment (query_of c.args.query.now) (g.F.Shape.text c.args.shape) in
+    let rules = rules_of c.args.limit c.args.pattern.now c.args.moment.seconds (query_of c.args.query.now) (g.F.Shape.text c.args.shape) in
     let format = g.R.LineReader.format c.args.reader.now in
     let told = g.L.Logs.folder c.take_all.new.logs in
     let u = (g.G.Stage.state c.args.stage.now).written in
@@ -76,7 +76,7 @@ returns-in-Err-clause-output g c = λ is. c.in-Err.ensures.output (ap (λ (f : R
 
 pub returns-in-Ok-finish_run-clause-ran : goal.returns-in-Ok-finish_run-clause-ran
 returns-in-Ok-finish_run-clause-ran g c =
-    let rules = rules_of c.args.limit c.args.pattern.now c.args.moment (query_of c.args.query.now) (g.F.Shape.text c.args.shape) in
+    let rules = rules_of c.args.limit c.args.pattern.now c.args.moment.seconds (query_of c.args.query.now) (g.F.Shape.text c.args.shape) in
     let format = g.R.LineReader.format c.args.reader.now in
     let told = g.L.Logs.folder c.take_all.new.logs in
     ran g.F.Shape.text g.F.Shape.has_text rules format told c.args.spans.now c.first_page-page.result c.take_all.new.page (g.G.Stage.state c.args.stage.now).written (g.G.Stage.state c.take_all.new.stage).written (g.G.Stage.state c.finish_run.new.stage).written
@@ -85,7 +85,7 @@ returns-in-Ok-finish_run-clause-ran g c =
 
 pub returns-clause-stopped : goal.returns-clause-stopped
 returns-clause-stopped g c =
-    let rules = rules_of c.args.limit c.args.pattern.now c.args.moment (query_of c.args.query.now) (g.F.Shape.text c.args.shape) in
+    let rules = rules_of c.args.limit c.args.pattern.now c.args.moment.seconds (query_of c.args.query.now) (g.F.Shape.text c.args.shape) in
     let format = g.R.LineReader.format c.args.reader.now in
     let told = g.L.Logs.folder c.take_all.new.logs in
     let u = (g.G.Stage.state c.args.stage.now).written in
