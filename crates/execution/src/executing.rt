@@ -18,6 +18,7 @@ use command_words::Spec;
 use lp_outside::{Logs, Name, Source, Stage};
 use query_run::Target;
 use query_tree::Query;
+use sampled_run::Moment;
 use std::alloc::Global;
 
 // The output of a run: the first of its stage, with the name that no log has.
@@ -60,6 +61,7 @@ pub fn execute<L: Logs, I: Source, G: Stage>(
     ensures stage { IsErrOf result RunFault.StageFault → Rose (G.faults stage.old) (G.faults stage.new) }
 {
     let target = standard_output();
+    let moment = Moment { seconds: moment };
     match log_format(spec, query) {
         LogFormat::Tabled(format) => {
             execute_tabled(

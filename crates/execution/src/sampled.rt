@@ -17,7 +17,7 @@ use delimited_input::DelimitedOptions;
 use lp_outside::{Logs, Stage};
 use query_run::Target;
 use query_tree::Query;
-use sampled_run::{SampleFault, run_sampled};
+use sampled_run::{Moment, SampleFault, run_sampled};
 use std::alloc::Global;
 
 /// Runs a query over spans of logs whose fields a byte parts, and whose columns they tell.
@@ -27,7 +27,7 @@ pub(crate) fn execute_sampled<L: Logs, G: Stage>(
     options: DelimitedOptions,
     limit: u32,
     query: &Query,
-    moment: i64,
+    moment: Moment,
     logs: &mut L,
     spans: &Spans,
     target: Target,
@@ -39,11 +39,11 @@ pub(crate) fn execute_sampled<L: Logs, G: Stage>(
     requires spans { AllSpans spans.now IsSpan }
     requires there { Told (L.folder logs.old) (λ folder. AllSpans spans.now (λ span. span.listed ≤ length (bytes_in folder span.name))) }
     ensures grows { OnlyGrow (L.folder logs.old) (L.folder logs.new) }
-    ensures ran { IfOk result (λ ran. IsExecuted (F.Sampled options limit) (L.folder logs.new) (G.state stage.old).written (G.state stage.new).written spec.now moment (query_of query.now) spans.now ran.counts) }
-    ensures stopped { OnErr result (IsStopped (F.Sampled options limit) (L.folder logs.new) (G.state stage.old).written (G.state stage.new).written spec.now moment (query_of query.now) spans.now) }
-    ensures plan { IfPlan result (IsUnplanned (F.Sampled options limit) (L.folder logs.new) spec.now moment (query_of query.now) spans.now) }
+    ensures ran { IfOk result (λ ran. IsExecuted (F.Sampled options limit) (L.folder logs.new) (G.state stage.old).written (G.state stage.new).written spec.now moment.seconds (query_of query.now) spans.now ran.counts) }
+    ensures stopped { OnErr result (IsStopped (F.Sampled options limit) (L.folder logs.new) (G.state stage.old).written (G.state stage.new).written spec.now moment.seconds (query_of query.now) spans.now) }
+    ensures plan { IfPlan result (IsUnplanned (F.Sampled options limit) (L.folder logs.new) spec.now moment.seconds (query_of query.now) spans.now) }
     ensures before { IfPlan result (λ fault. IsUntouched (F.Sampled options limit) (L.folder logs.new) (G.state stage.old).written (G.state stage.new).written spec.now spans.now) }
-    ensures parse { IfParse result (IsParseError (F.Sampled options limit) (L.folder logs.new) spec.now moment (query_of query.now) spans.now) }
+    ensures parse { IfParse result (IsParseError (F.Sampled options limit) (L.folder logs.new) spec.now moment.seconds (query_of query.now) spans.now) }
     ensures given { L.given logs.new ≤ L.given logs.old + spans_size spans.now }
     ensures later_logs { L.faults logs.old ≤ L.faults logs.new }
     ensures logs { IsErrOf result RunFault.LogsFault → Rose (L.faults logs.old) (L.faults logs.new) }

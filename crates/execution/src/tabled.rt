@@ -20,6 +20,7 @@ use plan_run::run_plan;
 use query_run::Target;
 use query_tree::Query;
 use query_types::TypeFault;
+use sampled_run::Moment;
 use std::alloc::Global;
 
 // Why a plan isn't made.
@@ -38,7 +39,7 @@ pub(crate) fn execute_tabled<L: Logs, G: Stage>(
     spec: &Spec,
     format: TableFormat,
     query: &Query,
-    moment: i64,
+    moment: Moment,
     logs: &mut L,
     spans: &Spans,
     target: Target,
@@ -49,11 +50,11 @@ pub(crate) fn execute_tabled<L: Logs, G: Stage>(
     requires spans { AllSpans spans.now IsSpan }
     requires there { Told (L.folder logs.old) (λ folder. AllSpans spans.now (λ span. span.listed ≤ length (bytes_in folder span.name))) }
     ensures grows { OnlyGrow (L.folder logs.old) (L.folder logs.new) }
-    ensures ran { IfOk result (λ ran. IsExecuted (F.Tabled format) (L.folder logs.new) (G.state stage.old).written (G.state stage.new).written spec.now moment (query_of query.now) spans.now ran.counts) }
-    ensures stopped { OnErr result (IsStopped (F.Tabled format) (L.folder logs.new) (G.state stage.old).written (G.state stage.new).written spec.now moment (query_of query.now) spans.now) }
-    ensures plan { IfPlan result (IsUnplanned (F.Tabled format) (L.folder logs.new) spec.now moment (query_of query.now) spans.now) }
+    ensures ran { IfOk result (λ ran. IsExecuted (F.Tabled format) (L.folder logs.new) (G.state stage.old).written (G.state stage.new).written spec.now moment.seconds (query_of query.now) spans.now ran.counts) }
+    ensures stopped { OnErr result (IsStopped (F.Tabled format) (L.folder logs.new) (G.state stage.old).written (G.state stage.new).written spec.now moment.seconds (query_of query.now) spans.now) }
+    ensures plan { IfPlan result (IsUnplanned (F.Tabled format) (L.folder logs.new) spec.now moment.seconds (query_of query.now) spans.now) }
     ensures before { IfPlan result (λ fault. IsUntouched (F.Tabled format) (L.folder logs.new) (G.state stage.old).written (G.state stage.new).written spec.now spans.now) }
-    ensures parse { IfParse result (IsParseError (F.Tabled format) (L.folder logs.new) spec.now moment (query_of query.now) spans.now) }
+    ensures parse { IfParse result (IsParseError (F.Tabled format) (L.folder logs.new) spec.now moment.seconds (query_of query.now) spans.now) }
     ensures given { L.given logs.new ≤ L.given logs.old + spans_size spans.now }
     ensures later_logs { L.faults logs.old ≤ L.faults logs.new }
     ensures logs { IsErrOf result RunFault.LogsFault → Rose (L.faults logs.old) (L.faults logs.new) }

@@ -11,31 +11,31 @@ returns-in-Err-clause-grows g c = OnlyGrow-refl _
 pub returns-in-Ok-run_plan-clause-ran : goal.returns-in-Ok-run_plan-clause-ran
 returns-in-Ok-run_plan-clause-ran g c =
     let run = c.in-Ok-run_plan.ensures in
-    executed (g.L.Logs.folder c.run_plan.new.logs) (g.G.Stage.state c.args.stage.now).written (g.G.Stage.state c.run_plan.new.stage).written c.args.spec.now c.args.moment (query_of c.args.query.now)
+    executed (g.L.Logs.folder c.run_plan.new.logs) (g.G.Stage.state c.args.stage.now).written (g.G.Stage.state c.run_plan.new.stage).written c.args.spec.now c.args.moment.seconds (query_of c.args.query.now)
     c.args.format (planned_in c.in-Ok.plan) c.as_slice.result.now c.args.spans.now c.in-Ok-run_plan.counts c.most_bad.result c.as_slice.ensures c.in-Ok.ensures.plan c.most_bad.ensures
     run.text run.processed run.output run.bad run.within
 
 pub returns-in-Err-Memory-clause-stopped : goal.returns-in-Err-Memory-clause-stopped
 returns-in-Err-Memory-clause-stopped g c = inr
-    (front (g.L.Logs.folder c.run_plan.new.logs) (g.G.Stage.state c.args.stage.now).written (g.G.Stage.state c.run_plan.new.stage).written c.args.spec.now c.args.moment (query_of c.args.query.now)
+    (front (g.L.Logs.folder c.run_plan.new.logs) (g.G.Stage.state c.args.stage.now).written (g.G.Stage.state c.run_plan.new.stage).written c.args.spec.now c.args.moment.seconds (query_of c.args.query.now)
     c.args.format (planned_in c.in-Ok.plan) c.as_slice.result.now c.args.spans.now c.as_slice.ensures c.in-Ok.ensures.plan c.in-Err-Memory.ensures.front)
 
 pub returns-in-Err-Logs-clause-stopped : goal.returns-in-Err-Logs-clause-stopped
 returns-in-Err-Logs-clause-stopped g c = inr
-    (front (g.L.Logs.folder c.run_plan.new.logs) (g.G.Stage.state c.args.stage.now).written (g.G.Stage.state c.run_plan.new.stage).written c.args.spec.now c.args.moment (query_of c.args.query.now)
+    (front (g.L.Logs.folder c.run_plan.new.logs) (g.G.Stage.state c.args.stage.now).written (g.G.Stage.state c.run_plan.new.stage).written c.args.spec.now c.args.moment.seconds (query_of c.args.query.now)
     c.args.format (planned_in c.in-Ok.plan) c.as_slice.result.now c.args.spans.now c.as_slice.ensures c.in-Ok.ensures.plan c.in-Err-Logs.ensures.front)
 
 pub returns-in-Err-Output-clause-stopped : goal.returns-in-Err-Output-clause-stopped
 returns-in-Err-Output-clause-stopped g c = inr
-    (front (g.L.Logs.folder c.run_plan.new.logs) (g.G.Stage.state c.args.stage.now).written (g.G.Stage.state c.run_plan.new.stage).written c.args.spec.now c.args.moment (query_of c.args.query.now)
+    (front (g.L.Logs.folder c.run_plan.new.logs) (g.G.Stage.state c.args.stage.now).written (g.G.Stage.state c.run_plan.new.stage).written c.args.spec.now c.args.moment.seconds (query_of c.args.query.now)
     c.args.format (planned_in c.in-Ok.plan) c.as_slice.result.now c.args.spans.now c.as_slice.ensures c.in-Ok.ensures.plan c.in-Err-Output.ensures.front)
 
 pub returns-in-Err-Bad-clause-stopped : goal.returns-in-Err-Bad-clause-stopped
 returns-in-Err-Bad-clause-stopped g c = inr
-    (front (g.L.Logs.folder c.run_plan.new.logs) (g.G.Stage.state c.args.stage.now).written (g.G.Stage.state c.run_plan.new.stage).written c.args.spec.now c.args.moment (query_of c.args.query.now)
+    (front (g.L.Logs.folder c.run_plan.new.logs) (g.G.Stage.state c.args.stage.now).written (g.G.Stage.state c.run_plan.new.stage).written c.args.spec.now c.args.moment.seconds (query_of c.args.query.now)
     c.args.format (planned_in c.in-Ok.plan) c.as_slice.result.now c.args.spans.now c.as_slice.ensures c.in-Ok.ensures.plan c.in-Err-Bad.ensures.front)
 
 pub returns-in-Err-Bad-clause-parse : goal.returns-in-Err-Bad-clause-parse
 returns-in-Err-Bad-clause-parse g c =
-    parse_error (g.L.Logs.folder c.run_plan.new.logs) c.args.spec.now c.args.moment (query_of c.args.query.now)
+    parse_error (g.L.Logs.folder c.run_plan.new.logs) c.args.spec.now c.args.moment.seconds (query_of c.args.query.now)
     c.args.format (planned_in c.in-Ok.plan) c.as_slice.result.now c.args.spans.now c.most_bad.result _ c.as_slice.ensures c.in-Ok.ensures.plan c.most_bad.ensures (rw c.in-Err-Bad.field-0-is at c.in-Err-Bad.ensures.too_many)
