@@ -1,4 +1,5 @@
-use Rattle.std.proofs.Common.{◌≡◌, ◌⊎◌, List, ℕ, Option, IfOk, OnErr, sym, ◌∙◌, subst}
+use Rattle.std.proofs.Common.{◌≡◌, ◌⊎◌, List, ℕ, Option, IfOk, OnErr, sym, ◌∙◌, subst, FitsSigned, w64}
+use Rattle.std.proofs.lemmas.Int.{to_z-of_z}
 use Rattle.log_reading.specs.Spans.{BadLine}
 use Rattle.query_tree.specs.Views.{query_of}
 use Rattle.query_types.specs.declared.fault.TypeFault.{TypeFault}
@@ -16,24 +17,27 @@ execute_sampled-requires-clause-separator g c =
 
 pub returns-in-Tabled-clause-ran : goal.returns-in-Tabled-clause-ran
 returns-in-Tabled-clause-ran g c =
+    let range : FitsSigned w64 c.args.moment = c.ranges.moment in
     let told = g.L.Logs.folder c.execute_tabled.new.logs in
     let u = (g.G.Stage.state c.args.stage.now).written in
     let v = (g.G.Stage.state c.execute_tabled.new.stage).written in
     let q = query_of c.args.query.now in
-    subst (λ (f : LogFormat). IfOk c.execute_tabled.result (λ (ran : Ran). IsExecuted f told u v c.args.spec.now c.args.moment q c.args.spans.now ran.counts)) (sym c.in-Tabled.is ∙ c.log_format.ensures) c.execute_tabled.ensures.ran
+    subst (λ (f : LogFormat). IfOk c.execute_tabled.result (λ (ran : Ran). IsExecuted f told u v c.args.spec.now c.args.moment q c.args.spans.now ran.counts)) (sym c.in-Tabled.is ∙ c.log_format.ensures) (simp to_z-of_z at c.execute_tabled.ensures.ran)
 
 pub returns-in-Tabled-clause-stopped : goal.returns-in-Tabled-clause-stopped
 returns-in-Tabled-clause-stopped g c =
+    let range : FitsSigned w64 c.args.moment = c.ranges.moment in
     let told = g.L.Logs.folder c.execute_tabled.new.logs in
     let u = (g.G.Stage.state c.args.stage.now).written in
     let v = (g.G.Stage.state c.execute_tabled.new.stage).written in
     let q = query_of c.args.query.now in
-    subst (λ (f : LogFormat). OnErr c.execute_tabled.result (IsStopped f told u v c.args.spec.now c.args.moment q c.args.spans.now)) (sym c.in-Tabled.is ∙ c.log_format.ensures) c.execute_tabled.ensures.stopped
+    subst (λ (f : LogFormat). OnErr c.execute_tabled.result (IsStopped f told u v c.args.spec.now c.args.moment q c.args.spans.now)) (sym c.in-Tabled.is ∙ c.log_format.ensures) (simp to_z-of_z at c.execute_tabled.ensures.stopped)
 
 pub returns-in-Tabled-clause-plan : goal.returns-in-Tabled-clause-plan
 returns-in-Tabled-clause-plan g c =
+    let range : FitsSigned w64 c.args.moment = c.ranges.moment in
     let told = g.L.Logs.folder c.execute_tabled.new.logs in
-    subst (λ (f : LogFormat). IfPlan c.execute_tabled.result (λ (fault : TypeFault). IsUnplanned f told c.args.spec.now c.args.moment (query_of c.args.query.now) c.args.spans.now fault)) (sym c.in-Tabled.is ∙ c.log_format.ensures) c.execute_tabled.ensures.plan
+    subst (λ (f : LogFormat). IfPlan c.execute_tabled.result (λ (fault : TypeFault). IsUnplanned f told c.args.spec.now c.args.moment (query_of c.args.query.now) c.args.spans.now fault)) (sym c.in-Tabled.is ∙ c.log_format.ensures) (simp to_z-of_z at c.execute_tabled.ensures.plan)
 
 pub returns-in-Tabled-clause-before : goal.returns-in-Tabled-clause-before
 returns-in-Tabled-clause-before g c =
@@ -44,29 +48,33 @@ returns-in-Tabled-clause-before g c =
 
 pub returns-in-Tabled-clause-parse : goal.returns-in-Tabled-clause-parse
 returns-in-Tabled-clause-parse g c =
+    let range : FitsSigned w64 c.args.moment = c.ranges.moment in
     let told = g.L.Logs.folder c.execute_tabled.new.logs in
-    subst (λ (f : LogFormat). IfParse c.execute_tabled.result (λ (line : BadLine). IsParseError f told c.args.spec.now c.args.moment (query_of c.args.query.now) c.args.spans.now line)) (sym c.in-Tabled.is ∙ c.log_format.ensures) c.execute_tabled.ensures.parse
+    subst (λ (f : LogFormat). IfParse c.execute_tabled.result (λ (line : BadLine). IsParseError f told c.args.spec.now c.args.moment (query_of c.args.query.now) c.args.spans.now line)) (sym c.in-Tabled.is ∙ c.log_format.ensures) (simp to_z-of_z at c.execute_tabled.ensures.parse)
 
 pub returns-in-Sampled-clause-ran : goal.returns-in-Sampled-clause-ran
 returns-in-Sampled-clause-ran g c =
+    let range : FitsSigned w64 c.args.moment = c.ranges.moment in
     let told = g.L.Logs.folder c.execute_sampled.new.logs in
     let u = (g.G.Stage.state c.args.stage.now).written in
     let v = (g.G.Stage.state c.execute_sampled.new.stage).written in
     let q = query_of c.args.query.now in
-    subst (λ (f : LogFormat). IfOk c.execute_sampled.result (λ (ran : Ran). IsExecuted f told u v c.args.spec.now c.args.moment q c.args.spans.now ran.counts)) (sym c.in-Sampled.is ∙ c.log_format.ensures) c.execute_sampled.ensures.ran
+    subst (λ (f : LogFormat). IfOk c.execute_sampled.result (λ (ran : Ran). IsExecuted f told u v c.args.spec.now c.args.moment q c.args.spans.now ran.counts)) (sym c.in-Sampled.is ∙ c.log_format.ensures) (simp to_z-of_z at c.execute_sampled.ensures.ran)
 
 pub returns-in-Sampled-clause-stopped : goal.returns-in-Sampled-clause-stopped
 returns-in-Sampled-clause-stopped g c =
+    let range : FitsSigned w64 c.args.moment = c.ranges.moment in
     let told = g.L.Logs.folder c.execute_sampled.new.logs in
     let u = (g.G.Stage.state c.args.stage.now).written in
     let v = (g.G.Stage.state c.execute_sampled.new.stage).written in
     let q = query_of c.args.query.now in
-    subst (λ (f : LogFormat). OnErr c.execute_sampled.result (IsStopped f told u v c.args.spec.now c.args.moment q c.args.spans.now)) (sym c.in-Sampled.is ∙ c.log_format.ensures) c.execute_sampled.ensures.stopped
+    subst (λ (f : LogFormat). OnErr c.execute_sampled.result (IsStopped f told u v c.args.spec.now c.args.moment q c.args.spans.now)) (sym c.in-Sampled.is ∙ c.log_format.ensures) (simp to_z-of_z at c.execute_sampled.ensures.stopped)
 
 pub returns-in-Sampled-clause-plan : goal.returns-in-Sampled-clause-plan
 returns-in-Sampled-clause-plan g c =
+    let range : FitsSigned w64 c.args.moment = c.ranges.moment in
     let told = g.L.Logs.folder c.execute_sampled.new.logs in
-    subst (λ (f : LogFormat). IfPlan c.execute_sampled.result (λ (fault : TypeFault). IsUnplanned f told c.args.spec.now c.args.moment (query_of c.args.query.now) c.args.spans.now fault)) (sym c.in-Sampled.is ∙ c.log_format.ensures) c.execute_sampled.ensures.plan
+    subst (λ (f : LogFormat). IfPlan c.execute_sampled.result (λ (fault : TypeFault). IsUnplanned f told c.args.spec.now c.args.moment (query_of c.args.query.now) c.args.spans.now fault)) (sym c.in-Sampled.is ∙ c.log_format.ensures) (simp to_z-of_z at c.execute_sampled.ensures.plan)
 
 pub returns-in-Sampled-clause-before : goal.returns-in-Sampled-clause-before
 returns-in-Sampled-clause-before g c =
@@ -77,5 +85,6 @@ returns-in-Sampled-clause-before g c =
 
 pub returns-in-Sampled-clause-parse : goal.returns-in-Sampled-clause-parse
 returns-in-Sampled-clause-parse g c =
+    let range : FitsSigned w64 c.args.moment = c.ranges.moment in
     let told = g.L.Logs.folder c.execute_sampled.new.logs in
-    subst (λ (f : LogFormat). IfParse c.execute_sampled.result (λ (line : BadLine). IsParseError f told c.args.spec.now c.args.moment (query_of c.args.query.now) c.args.spans.now line)) (sym c.in-Sampled.is ∙ c.log_format.ensures) c.execute_sampled.ensures.parse
+    subst (λ (f : LogFormat). IfParse c.execute_sampled.result (λ (line : BadLine). IsParseError f told c.args.spec.now c.args.moment (query_of c.args.query.now) c.args.spans.now line)) (sym c.in-Sampled.is ∙ c.log_format.ensures) (simp to_z-of_z at c.execute_sampled.ensures.parse)
