@@ -55,9 +55,9 @@ front_written text has_text picks first shape picker names founds more u w same 
 
 -- ---- the rules of a run
 
-told_same : {F : Type 0} (text : TextOf F) (limit : ℕ) (pattern : List Piece) (moment : ℤ) (query : Query) (rules : Rules) (start now : Option (List ℕ)) (past : Past) (gathering : Gathering F)
-    → Asks limit pattern moment query rules → Gathers text rules start past gathering now → judged limit pattern gathering.first (map found_in gathering.rows) ≡ told_at rules past
-told_same text limit pattern moment query rules start now past gathering asks gathers =
+told_same : {F : Type 0} (text : TextOf F) (limit : ℕ) (pattern : List Piece) (moment : ℤ) (q : Query) (rules : Rules) (start now : Option (List ℕ)) (past : Past) (gathering : Gathering F)
+    → Asks limit pattern moment q rules → Gathers text rules start past gathering now → judged limit pattern gathering.first (map found_in gathering.rows) ≡ told_at rules past
+told_same text limit pattern moment q rules start now past gathering asks gathers =
     ap (λ n. judged n pattern gathering.first (map found_in gathering.rows)) asks.limit
     ∙ (ap (λ p. judged rules.limit p gathering.first (map found_in gathering.rows)) asks.pattern
     ∙ ap₂ (judged rules.limit rules.pattern) gathers.first gathers.rows)
@@ -75,20 +75,20 @@ pub record IsPickerOf (times : List Piece) (when : ℤ) (asked : Query) (what : 
   pub told : picker.told ≡ what
   pub pattern : picker.pattern.now ≡ times
 
-pub begun_is : {F : Type 0} (text : TextOf F) (has_text : HasTextOf F) (limit : ℕ) (pattern : List Piece) (moment : ℤ) (query : Query) (gathering : Gathering F) (picker : SampledPicker) (writer : Writer F SampledPicker) (u v : Option (List ℕ))
-    → IsPickerOf pattern moment query (judged limit pattern gathering.first (map found_in gathering.rows)) picker → writer.picker ≡ picker
+pub begun_is : {F : Type 0} (text : TextOf F) (has_text : HasTextOf F) (limit : ℕ) (pattern : List Piece) (moment : ℤ) (q : Query) (gathering : Gathering F) (picker : SampledPicker) (writer : Writer F SampledPicker) (u v : Option (List ℕ))
+    → IsPickerOf pattern moment q (judged limit pattern gathering.first (map found_in gathering.rows)) picker → writer.picker ≡ picker
     → IsUnderWay (has_text writer.shape true picker.plan.names (picked (sampled_picks picker.pattern.now picker.told picker.plan.items (option_map filter_of picker.plan.condition)) (map found_in gathering.rows))) u v writer.buffers.held
     → text writer.shape ≡ text gathering.shape
     → writer.output ≡ length (picked (sampled_picks picker.pattern.now picker.told picker.plan.items (option_map filter_of picker.plan.condition)) (map found_in gathering.rows))
-    → (rules : Rules) (start : Option (List ℕ)) (past : Past) → Asks limit pattern moment query rules → Gathers text rules start past gathering u → Begun text has_text rules start past writer v
-begun_is text has_text limit pattern moment query gathering picker writer u v is same under_way format output rules start past asks gathers =
-    let told = told_same text limit pattern moment query rules start u past gathering asks gathers in
+    → (rules : Rules) (start : Option (List ℕ)) (past : Past) → Asks limit pattern moment q rules → Gathers text rules start past gathering u → Begun text has_text rules start past writer v
+begun_is text has_text limit pattern moment q gathering picker writer u v is same under_way format output rules start past asks gathers =
+    let told = told_same text limit pattern moment q rules start u past gathering asks gathers in
     let rows = rows_same rules (told_at rules past) picker (map found_in gathering.rows) past.founds (is.pattern ∙ asks.pattern) (is.told ∙ told) gathers.rows in
     let Way : SampledPicker → Type 0 = λ p. IsUnderWay (has_text writer.shape true p.plan.names (rows_at rules past (planned_in p.plan))) start v writer.buffers.held in
     let Rows : List (List Value) → Type 0 = λ t. IsUnderWay (has_text writer.shape true picker.plan.names t) start v writer.buffers.held in
     let Start : Option (List ℕ) → Type 0 = λ t. IsUnderWay (has_text writer.shape true picker.plan.names (picked (sampled_picks picker.pattern.now picker.told picker.plan.items (option_map filter_of picker.plan.condition)) (map found_in gathering.rows))) t v writer.buffers.held in
     record {
-      planned = sym (ap (λ t. plan_of (table_of t) moment query) told ∙ ap₂ (λ m q. plan_of (table_of (told_at rules past)) m q) asks.moment asks.query) ∙ (is.planned ∙ ap (λ (p : SampledPicker). Ok (planned_in p.plan)) (sym same));
+      planned = sym (ap (λ t. plan_of (table_of t) moment q) told ∙ ap₂ (λ m q. plan_of (table_of (told_at rules past)) m q) asks.moment asks.query) ∙ (is.planned ∙ ap (λ (p : SampledPicker). Ok (planned_in p.plan)) (sym same));
       told = ap (λ (p : SampledPicker). p.told) same ∙ (is.told ∙ told);
       pattern = ap (λ (p : SampledPicker). p.pattern.now) same ∙ (is.pattern ∙ asks.pattern);
       under_way = subst Way (sym same) (subst Rows rows (subst Start gathers.nothing under_way));
@@ -96,12 +96,12 @@ begun_is text has_text limit pattern moment query gathering picker writer u v is
       output = output ∙ (ap length rows ∙ ap (λ (p : SampledPicker). length (rows_at rules past (planned_in p.plan))) (sym same));
     }
 
-pub begun_within : {F : Type 0} (text : TextOf F) (limit : ℕ) (pattern : List Piece) (moment : ℤ) (query : Query) (gathering : Gathering F) (picker : SampledPicker) (u v : Option (List ℕ))
-    → IsPickerOf pattern moment query (judged limit pattern gathering.first (map found_in gathering.rows)) picker
+pub begun_within : {F : Type 0} (text : TextOf F) (limit : ℕ) (pattern : List Piece) (moment : ℤ) (q : Query) (gathering : Gathering F) (picker : SampledPicker) (u v : Option (List ℕ))
+    → IsPickerOf pattern moment q (judged limit pattern gathering.first (map found_in gathering.rows)) picker
     → ((more : List Found) → GainsSome u v (text gathering.shape true picker.plan.names (picked (sampled_picks picker.pattern.now picker.told picker.plan.items (option_map filter_of picker.plan.condition)) (map found_in gathering.rows ++ more))))
-    → (rules : Rules) (start : Option (List ℕ)) (past later : Past) → Asks limit pattern moment query rules → Gathers text rules start past gathering u → Later past later → told_at rules later ≡ told_at rules past → IsWithin rules start later v
-begun_within text limit pattern moment query gathering picker u v is front rules start past later asks gathers follows stays =
-    let told = told_same text limit pattern moment query rules start u past gathering asks gathers ∙ sym stays in
+    → (rules : Rules) (start : Option (List ℕ)) (past later : Past) → Asks limit pattern moment q rules → Gathers text rules start past gathering u → Later past later → told_at rules later ≡ told_at rules past → IsWithin rules start later v
+begun_within text limit pattern moment q gathering picker u v is front rules start past later asks gathers follows stays =
+    let told = told_same text limit pattern moment q rules start u past gathering asks gathers ∙ sym stays in
     let founds : map found_in gathering.rows ++ follows.more ≡ later.founds = ap (λ t. t ++ follows.more) gathers.rows ∙ sym follows.founds in
     let rows = rows_same rules (told_at rules later) picker (map found_in gathering.rows ++ follows.more) later.founds (is.pattern ∙ asks.pattern) (is.told ∙ told) founds in
     let whole : text gathering.shape true picker.plan.names (picked (sampled_picks picker.pattern.now picker.told picker.plan.items (option_map filter_of picker.plan.condition)) (map found_in gathering.rows ++ follows.more)) ≡ text_at rules later (planned_in picker.plan) =
@@ -109,19 +109,19 @@ begun_within text limit pattern moment query gathering picker u v is front rules
     let Of : Option (List ℕ) → List ℕ → Type 0 = λ s t. GainsSome s v t in
     record {
       plan = planned_in picker.plan;
-      planned = sym (ap (λ t. plan_of (table_of t) moment query) told ∙ ap₂ (λ m q. plan_of (table_of (told_at rules later)) m q) asks.moment asks.query) ∙ is.planned;
+      planned = sym (ap (λ t. plan_of (table_of t) moment q) told ∙ ap₂ (λ m q. plan_of (table_of (told_at rules later)) m q) asks.moment asks.query) ∙ is.planned;
       front = subst (λ (s : Option (List ℕ)). Of s (text_at rules later (planned_in picker.plan))) gathers.nothing (subst (Of u) whole (front follows.more));
     }
 
 -- no plan was made, and nothing written
-pub nothing_begun : {F : Type 0} (text : TextOf F) (limit : ℕ) (pattern : List Piece) (moment : ℤ) (query : Query) (gathering : Gathering F) (stop : Stop) (u : Option (List ℕ))
-    → IsFaultOf (plan_of (table_of (judged limit pattern gathering.first (map found_in gathering.rows))) moment query) stop
-    → (rules : Rules) (start : Option (List ℕ)) (past later : Past) → Asks limit pattern moment query rules → Gathers text rules start past gathering u → told_at rules later ≡ told_at rules past → IsStop rules start later stop u
-nothing_begun text limit pattern moment query gathering (S.Plan fault) u is rules start past later asks gathers stays =
-    let told = told_same text limit pattern moment query rules start u past gathering asks gathers ∙ sym stays in
-    record { fault = sym (ap (λ t. plan_of (table_of t) moment query) told ∙ ap₂ (λ m q. plan_of (table_of (told_at rules later)) m q) asks.moment asks.query) ∙ is; nothing = gathers.nothing }
-nothing_begun text limit pattern moment query gathering S.Output u is rules start past later asks gathers stays = absurd is
-nothing_begun text limit pattern moment query gathering S.Memory u is rules start past later asks gathers stays = inl gathers.nothing
+pub nothing_begun : {F : Type 0} (text : TextOf F) (limit : ℕ) (pattern : List Piece) (moment : ℤ) (q : Query) (gathering : Gathering F) (stop : Stop) (u : Option (List ℕ))
+    → IsFaultOf (plan_of (table_of (judged limit pattern gathering.first (map found_in gathering.rows))) moment q) stop
+    → (rules : Rules) (start : Option (List ℕ)) (past later : Past) → Asks limit pattern moment q rules → Gathers text rules start past gathering u → told_at rules later ≡ told_at rules past → IsStop rules start later stop u
+nothing_begun text limit pattern moment q gathering (S.Plan fault) u is rules start past later asks gathers stays =
+    let told = told_same text limit pattern moment q rules start u past gathering asks gathers ∙ sym stays in
+    record { fault = sym (ap (λ t. plan_of (table_of t) moment q) told ∙ ap₂ (λ m q. plan_of (table_of (told_at rules later)) m q) asks.moment asks.query) ∙ is; nothing = gathers.nothing }
+nothing_begun text limit pattern moment q gathering S.Output u is rules start past later asks gathers stays = absurd is
+nothing_begun text limit pattern moment q gathering S.Memory u is rules start past later asks gathers stays = inl gathers.nothing
 
 -- a writer failed
 pub failed_begun : (rules : Rules) (start : Option (List ℕ)) (later : Past) (fault : TakeFault) (v : Option (List ℕ)) → IsWithin rules start later v → IsStop rules start later (stop_of fault) v
@@ -131,18 +131,18 @@ failed_begun rules start later F.Failed v within = inr within
 
 -- ---- the turn from keeping records to writing
 
-pub turned : {F : Type 0} (text : TextOf F) (has_text : HasTextOf F) (limit : ℕ) (pattern : List Piece) (moment : ℤ) (query : Query) (phase : Phase F) (gathering : Gathering F) (writer : Writer F SampledPicker) (u v : Option (List ℕ)) → phase ≡ P.Gathering gathering
-    → ((rules : Rules) (start : Option (List ℕ)) (past : Past) → Asks limit pattern moment query rules → Gathers text rules start past gathering u → Begun text has_text rules start past writer v)
-    → (rules : Rules) (start : Option (List ℕ)) (past : Past) → Asks limit pattern moment query rules → PhaseHolds text has_text rules start past phase u → IsTold rules past → WritesOn text has_text rules start past writer v
-turned {F = F} text has_text limit pattern moment query phase gathering writer u v is begun rules start past asks holds told =
+pub turned : {F : Type 0} (text : TextOf F) (has_text : HasTextOf F) (limit : ℕ) (pattern : List Piece) (moment : ℤ) (q : Query) (phase : Phase F) (gathering : Gathering F) (writer : Writer F SampledPicker) (u v : Option (List ℕ)) → phase ≡ P.Gathering gathering
+    → ((rules : Rules) (start : Option (List ℕ)) (past : Past) → Asks limit pattern moment q rules → Gathers text rules start past gathering u → Begun text has_text rules start past writer v)
+    → (rules : Rules) (start : Option (List ℕ)) (past : Past) → Asks limit pattern moment q rules → PhaseHolds text has_text rules start past phase u → IsTold rules past → WritesOn text has_text rules start past writer v
+turned {F = F} text has_text limit pattern moment q phase gathering writer u v is begun rules start past asks holds told =
     let Of : Phase F → Type 0 = λ p. PhaseHolds text has_text rules start past p u in
     record { told = told; begun = begun rules start past asks (subst Of is holds) }
 
 -- the same, where it stopped
-pub turn_stopped : {F : Type 0} (text : TextOf F) (has_text : HasTextOf F) (limit : ℕ) (pattern : List Piece) (moment : ℤ) (query : Query) (phase : Phase F) (gathering : Gathering F) (stop : Stop) (u v : Option (List ℕ)) → phase ≡ P.Gathering gathering
-    → ((rules : Rules) (start : Option (List ℕ)) (past later : Past) → Asks limit pattern moment query rules → Gathers text rules start past gathering u → Later past later → told_at rules later ≡ told_at rules past → IsStop rules start later stop v)
-    → (rules : Rules) (start : Option (List ℕ)) (past later : Past) → Asks limit pattern moment query rules → PhaseHolds text has_text rules start past phase u → IsTold rules past → Later past later → IsStop rules start later stop v
-turn_stopped {F = F} text has_text limit pattern moment query phase gathering stop u v is stopped rules start past later asks holds told follows =
+pub turn_stopped : {F : Type 0} (text : TextOf F) (has_text : HasTextOf F) (limit : ℕ) (pattern : List Piece) (moment : ℤ) (q : Query) (phase : Phase F) (gathering : Gathering F) (stop : Stop) (u v : Option (List ℕ)) → phase ≡ P.Gathering gathering
+    → ((rules : Rules) (start : Option (List ℕ)) (past later : Past) → Asks limit pattern moment q rules → Gathers text rules start past gathering u → Later past later → told_at rules later ≡ told_at rules past → IsStop rules start later stop v)
+    → (rules : Rules) (start : Option (List ℕ)) (past later : Past) → Asks limit pattern moment q rules → PhaseHolds text has_text rules start past phase u → IsTold rules past → Later past later → IsStop rules start later stop v
+turn_stopped {F = F} text has_text limit pattern moment q phase gathering stop u v is stopped rules start past later asks holds told follows =
     let Of : Phase F → Type 0 = λ p. PhaseHolds text has_text rules start past p u in
     stopped rules start past later asks (subst Of is holds) follows (told_stays rules past later told follows)
 

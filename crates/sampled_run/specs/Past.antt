@@ -81,4 +81,4 @@ abbrev pub text_at : Rules → Past → Planned → List ℕ
 text_at rules past plan = rules.text true plan.names (rows_at rules past plan)
 
 abbrev pub rules_of : ℕ → List Piece → ℤ → Query → (Bool → List (List ℕ) → List (List Value) → List ℕ) → Rules
-rules_of limit pattern moment query text = record { limit = limit; pattern = pattern; moment = moment; query = query; text = text }
+rules_of limit pattern moment q text = record { limit = limit; pattern = pattern; moment = moment; query = q; text = text }
