@@ -11,3 +11,5 @@ pub mod Carrying
 pub mod Sampling
 pub mod Telling
 pub mod Written
+mod PieceLemmas
+mod Simple

@@ -3,6 +3,7 @@ pub mod Names
 pub mod Lines
 pub mod Shapes
 pub mod Cuts
+pub mod Pieces
 pub mod Kept
 pub mod Separators
 pub mod Setting

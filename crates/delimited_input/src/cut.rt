@@ -1,5 +1,5 @@
 // The fields of a line.
-ghost use Rattle.std.specs.Prelude.{◌≡◌, ◌≤◌, ◌<◌, ◌==◌, true, false, List, ℕ, All, length, take, drop, IfOk, option_map};
+ghost use Rattle.std.specs.Prelude.{◌≡◌, ◌≤◌, ◌<◌, ◌==◌, true, false, List, ℕ, All, length, take, drop, IfOk, IfSome, option_map};
 ghost use Rattle.std.specs.List.{position_or_len, slice_split};
 ghost use Rattle.csv.specs.Records.{fields_of as record_fields};
 ghost use Rattle.memchr.specs.Find.{is_byte};
@@ -10,6 +10,7 @@ ghost use Rattle.delimited_input.specs.Lines.{fields_in, is_broken, slot_of};
 ghost use Rattle.delimited_input.specs.Shapes.{HasShape};
 
 use crate::DelimitedOptions;
+use crate::piece::first_piece;
 use crate::shape::Shape;
 use csv::{ByteRecord, ReaderBuilder};
 use line_input::{Extent, Fields, Slot};
@@ -28,8 +29,8 @@ pub(crate) struct Cut {
     pub(crate) whole: bool,
 }
 
-// How many bytes stand before the first separator.
-fn field_length(separator: u8, bytes: &[u8]) -> usize
+/// How many bytes stand before the first separator.
+pub(crate) fn field_length(separator: u8, bytes: &[u8]) -> usize
     ensures length { result ≡ position_or_len (is_byte separator) bytes.now }
     ensures fits { result ≤ length bytes.now }
 {
@@ -69,6 +70,38 @@ fn cut_plain(alloc: Global, separator: u8, line: &[u8], most: usize) -> Result<C
         fields,
         whole: false,
     })
+}
+
+// The first fields of a line that holds them as they are, in quotes or not, at most so many.
+fn cut_simple(
+    alloc: Global,
+    separator: u8,
+    line: &[u8],
+    most: usize,
+) -> Result<Option<Cut>, AllocError>
+    ensures { IfOk result (λ cut. IfSome cut (IsCut line.now (fields_of separator true line.now) most)) }
+{
+    let mut fields = Fields::new(alloc);
+    let mut at = 0;
+    for _ in 0..most {
+        let Some(piece) = first_piece(separator, line, at) else {
+            return Ok(None);
+        };
+        fields.push(slot_at(alloc, line, piece.from, piece.to)?)?;
+        match piece.next {
+            None => {
+                return Ok(Some(Cut {
+                    fields,
+                    whole: true,
+                }));
+            }
+            Some(next) => at = next,
+        }
+    }
+    Ok(Some(Cut {
+        fields,
+        whole: false,
+    }))
 }
 
 // Reads a line in which a quote may open a field.
@@ -123,8 +156,8 @@ fn keep_fields(alloc: Global, row: &ByteRecord, most: usize) -> Result<Cut, Allo
     })
 }
 
-// The first fields of a line in which a quote may open a field, at most so many.
-fn cut_quoted(alloc: Global, separator: u8, line: &[u8], most: usize) -> Result<Cut, AllocError>
+// The first fields of a line in which a quote may open a field, as they are read, at most so many.
+fn cut_read(alloc: Global, separator: u8, line: &[u8], most: usize) -> Result<Cut, AllocError>
     requires filled { 0 < length line.now }
     requires whole { is_broken line.now ≡ false }
     ensures { IfOk result (IsCut line.now (fields_of separator true line.now) most) }
@@ -135,6 +168,19 @@ fn cut_quoted(alloc: Global, separator: u8, line: &[u8], most: usize) -> Result<
             drop(row);
             cut
         }
+        Err(error) => Err(error),
+    }
+}
+
+// The first fields of a line in which a quote may open a field, at most so many.
+fn cut_quoted(alloc: Global, separator: u8, line: &[u8], most: usize) -> Result<Cut, AllocError>
+    requires filled { 0 < length line.now }
+    requires whole { is_broken line.now ≡ false }
+    ensures { IfOk result (IsCut line.now (fields_of separator true line.now) most) }
+{
+    match cut_simple(alloc, separator, line, most) {
+        Ok(Some(cut)) => Ok(cut),
+        Ok(None) => cut_read(alloc, separator, line, most),
         Err(error) => Err(error),
     }
 }

@@ -8,6 +8,7 @@ mod cut;
 mod header;
 mod laws;
 mod options;
+mod piece;
 mod reader;
 mod row;
 mod sampler;

@@ -1,7 +1,7 @@
 use Rattle.std.proofs.Common.{List, ℕ, subst}
 use Rattle.std.proofs.lemmas.Result.{IfOk-weaker}
 use Rattle.delimited_input.specs.Cuts.{IsCut}
-use Rattle.delimited_input.proofs.cut.cut_quoted.Goals as goal
+use Rattle.delimited_input.proofs.cut.cut_read.Goals as goal
 
 pub returns-in-Ok : goal.returns-in-Ok
 returns-in-Ok c =
