@@ -1,5 +1,5 @@
 -- How the logs of a run are read.
-use Rattle.std.proofs.Common.{◌≡◌, ◌⊎◌, ℕ, [], None, refl, subst, ap, sym, inl, inr, arith}
+use Rattle.std.proofs.Common.{◌≡◌, ℕ, [], None, refl, subst, sym, inl, inr, arith}
 use Rattle.command_words.specs.declared.formats.InputFormat.{InputFormat}
 use Rattle.command_words.specs.declared.formats.InputFormat.TheVariants as I
 use Rattle.command_words.specs.declared.spec.Spec.{Spec}

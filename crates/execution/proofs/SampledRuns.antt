@@ -1,5 +1,5 @@
 -- What a run over sampled columns says of its query.
-use Rattle.std.proofs.Common.{◌≡◌, ◌⊎◌, true, false, List, ℕ, ℤ, length, Option, Some, None, Ok, Err, inl, inr, subst}
+use Rattle.std.proofs.Common.{◌≡◌, false, List, ℕ, ℤ, Option, Some, None, Err, inl, inr, subst}
 use Rattle.grammar.specs.Trees as model
 use Rattle.lp_model.specs.Outside.{Folder, Told}
 use Rattle.command_words.specs.declared.spec.Spec.{Spec}
@@ -11,7 +11,6 @@ use Rattle.log_reading.specs.Spans.{AreKept, BadLine, spans_bad_lines}
 use Rattle.output_formats.specs.Headers.{csv_of}
 use Rattle.query_run.specs.declared.executing.Counts.{Counts}
 use Rattle.query_types.specs.declared.fault.TypeFault.{TypeFault}
-use Rattle.query_types.specs.Planned.{plan_of}
 use Rattle.sampled_run.specs.Holds.{IsFront, IsRefused}
 use Rattle.sampled_run.specs.Past.{Rules, rules_of}
 use Rattle.sampled_run.specs.Ran.{IsSampled}

@@ -1,14 +1,13 @@
 -- Texts that agree with a front and the token behind it.
-use Rattle.std.proofs.Common.{◌≡◌, ◌≢◌, ℕ, ◌+◌, ◌≤◌, ◌<◌, Bool, true, false, not, ◌&&◌, ◌||◌, List, [], ◌∷◌, ◌++◌, length, refl, sym, ◌∙◌, ap, subst, arith, append_assoc, append-nil}
+use Rattle.std.proofs.Common.{◌≡◌, ◌≢◌, ◌+◌, Bool, true, false, not, ◌&&◌, ◌||◌, List, [], ◌∷◌, ◌++◌, sym, ◌∙◌, ap, append_assoc, append-nil}
 use Rattle.std.proofs.lemmas.Bool.{false≢true}
 use Rattle.std.proofs.lemmas.List.{append_cancel_left}
 use Rattle.grammar.specs.Classes.{Class, for_all}
 use Rattle.grammar.specs.Trees.{Token}
 use Rattle.grammar.specs.Forms.{Kind, Form, Seq, is_nullable, Many}
-use Rattle.grammar.specs.Derivations.{Derivation, tokens}
 use Rattle.grammar.specs.Reading.{starts, continues, Apart, Agrees}
 use Rattle.grammar.proofs.Classes.{at_each}
-use Rattle.grammar.proofs.Heads.{Heads, heads, apart_of, or_not_first, or_not_second}
+use Rattle.grammar.proofs.Heads.{Heads, apart_of, or_not_first, or_not_second}
 
 pub agrees_shorter : (text a b rest : List Token) → Agrees text (a ++ b) rest → Agrees text a (b ++ rest)
 agrees_shorter text a [] [] is = is ∙ append-nil a

@@ -1,13 +1,13 @@
 -- What was read of a form, from what was read of its parts.
-use Rattle.std.proofs.Common.{◌≡◌, ℕ, suc, ◌+◌, ◌-◌, ◌<◌, Bool, true, false, not, ◌&&◌, ◌||◌, List, [], ◌∷◌, ◌++◌, length, ℤ, pos, Option, Some, None, refl, sym, ◌∙◌, ap, subst, arith, length-append}
+use Rattle.std.proofs.Common.{◌≡◌, ℕ, suc, ◌+◌, ◌-◌, ◌<◌, Bool, true, false, List, [], ◌∷◌, ◌++◌, length, pos, Some, None, refl, sym, ◌∙◌, ap, subst, arith, length-append}
 use Rattle.std.proofs.lemmas.Bool.{false≢true}
-use Rattle.grammar.specs.Classes.{Class, is_a, for_some}
+use Rattle.grammar.specs.Classes.{Class, for_some}
 use Rattle.grammar.specs.declared.Class.TheVariants as c
 use Rattle.grammar.specs.Trees.{Token}
 use Rattle.grammar.specs.Forms.{Kind, Worth, Rule, kind, Form, Tok, Seq, Alt, Many, Opt, Map, Nest, Ref, is_nullable, can_be}
 use Rattle.grammar.specs.Forms.{Kind as k}
 use Rattle.grammar.specs.Forms.{Rule as r}
-use Rattle.grammar.specs.Rules.{a, behind, before, rule, is_integer, is_word, expr, name, from, values}
+use Rattle.grammar.specs.Rules.{a, behind, before, rule, is_word, expr, name, from, values}
 use Rattle.grammar.specs.Derivations.{Derivation, tok, seq, left, right, none, absent, map, nest, ref, tokens}
 use Rattle.grammar.specs.Reading.{starts, continues, heads_by, Outcome, read, failed, mapped, Reads, Exact}
 use Rattle.grammar.proofs.Classes.{and_left, and_right, one_of}

@@ -1,20 +1,19 @@
 -- Where a form begins, by the class of the first token; and laws on what was read.
-use Rattle.std.proofs.Common.{◌≡◌, ℕ, ◌-◌, ◌<◌, Bool, true, false, not, ◌&&◌, ◌||◌, List, [], ◌∷◌, ◌++◌, ℤ, pos, Option, Some, refl, sym, ◌∙◌, ap, subst}
+use Rattle.std.proofs.Common.{◌≡◌, ℕ, ◌-◌, ◌<◌, Bool, true, false, not, ◌&&◌, ◌||◌, List, [], ◌∷◌, ◌++◌, pos, refl, sym, ◌∙◌, ap, subst}
 use Rattle.std.proofs.lemmas.Bool.{false≢true}
 use Rattle.grammar.specs.declared.Class.{Class}
 use Rattle.grammar.specs.declared.Class.TheVariants as c
-use Rattle.grammar.specs.Classes.{for_all, is_a}
+use Rattle.grammar.specs.Classes.{for_all}
 use Rattle.grammar.specs.Trees.{Token}
-use Rattle.grammar.specs.Forms.{Kind, Worth, Form, Tok, Seq, Alt, Many, Opt, Map, Nest, is_nullable}
+use Rattle.grammar.specs.Forms.{Kind, Worth, Form, Tok, Nest, is_nullable}
 use Rattle.grammar.specs.Rules.{a}
 use Rattle.grammar.specs.Derivations.{Derivation, tok, tokens, worth}
-use Rattle.grammar.specs.Reading.{starts, continues, heads_by, Outcome, read, failed, mapped, Reads, Exact}
+use Rattle.grammar.specs.Reading.{starts, heads_by, Outcome, read, failed, mapped, Reads, Exact}
 use Rattle.grammar.proofs.Classes.{at_each, all_by, same_class}
 use Rattle.grammar.proofs.Heads.{implied, apart_of}
 use Rattle.grammar.proofs.Agreeing.{On, Off, Disjoint}
-use Rattle.grammar.proofs.Laws.{exact_seq, exact_seq_fails}
 use Rattle.grammar.proofs.Opening.{at_tok}
-use Rattle.grammar.proofs.Repeating.{exact_nest, exact_deep, exact_off}
+use Rattle.grammar.proofs.Repeating.{exact_nest, exact_deep}
 
 -- each class of the first set is in the second
 abbrev pub Within : (Class → Bool) → (Class → Bool) → Type 0

@@ -1,5 +1,5 @@
 -- What holds of all classes, or of one.
-use Rattle.std.proofs.Common.{◌≡◌, Bool, true, false, not, ◌&&◌, ◌||◌, refl, sym}
+use Rattle.std.proofs.Common.{◌≡◌, Bool, true, false, ◌&&◌, ◌||◌, refl}
 use Rattle.std.proofs.lemmas.Bool.{false≢true}
 use Rattle.grammar.specs.Classes.{Class, for_all, for_some, is_a, all_numbers, some_numbers, all_words, some_words, all_first_keywords, some_first_keywords, all_second_keywords, some_second_keywords, all_third_keywords, some_third_keywords, all_last_keywords, some_last_keywords, all_signs, some_signs}
 use Rattle.grammar.specs.declared.Class.TheVariants as c

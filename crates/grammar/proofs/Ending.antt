@@ -1,11 +1,11 @@
 -- From exact answers to whole lists of tokens.
-use Rattle.std.proofs.Common.{◌≡◌, ℕ, suc, ◌+◌, ◌≤◌, ◌<◌, Bool, true, false, List, [], ◌∷◌, ◌++◌, length, refl, sym, ◌∙◌, ap, subst, arith, append_assoc, append-nil, length-append}
+use Rattle.std.proofs.Common.{◌≡◌, ℕ, ◌+◌, ◌≤◌, Bool, true, false, List, [], ◌∷◌, ◌++◌, sym, ◌∙◌, ap, append_assoc, append-nil}
 use Rattle.std.proofs.lemmas.List.{append_cancel_left}
 use Rattle.grammar.specs.Trees.{Token}
 use Rattle.grammar.specs.Forms.{Kind, Worth, Form}
-use Rattle.grammar.specs.Derivations.{Derivation, tokens, worth, depth, depth_to}
-use Rattle.grammar.specs.Reading.{Apart, Agrees, Outcome, read, failed, Reads, Fails, Held, Exact, IsExact}
-use Rattle.grammar.specs.Whole.{Derives, Begins, NoneNext, IsSyntax, IsTooDeep}
+use Rattle.grammar.specs.Derivations.{tokens, worth, depth}
+use Rattle.grammar.specs.Reading.{Agrees, Outcome, read, failed, Reads, Fails, Held, Exact, IsExact}
+use Rattle.grammar.specs.Whole.{Derives, NoneNext, IsSyntax, IsTooDeep}
 use Rattle.grammar.proofs.Agreeing.{no_empty}
 
 pub whole_ok : {a : Kind} (f : Form a) (n : ℕ) (all : List Token) (v : Worth a) → Reads n f all v [] → Derives n f all v

@@ -1,15 +1,15 @@
 -- With which token a derivation begins, and how depths compare.
-use Rattle.std.proofs.Common.{◌≡◌, ◌≢◌, ℕ, zero, suc, ◌+◌, ◌-◌, ◌≤◌, ◌<◌, max, Bool, true, false, not, ◌&&◌, ◌||◌, List, [], ◌∷◌, ◌++◌, length, refl, sym, ◌∙◌, ap, arith, rules}
+use Rattle.std.proofs.Common.{◌≡◌, ◌≢◌, ℕ, zero, suc, ◌+◌, ◌-◌, ◌≤◌, max, Bool, true, false, not, ◌&&◌, ◌||◌, List, [], ◌∷◌, ◌++◌, length, refl, sym, ◌∙◌, ap, arith}
 use Rattle.std.proofs.lemmas.Bool.{false≢true}
 use Rattle.grammar.specs.Classes.{Class, for_all}
 use Rattle.grammar.specs.Trees.{Token}
 use Rattle.grammar.specs.declared.Class.TheVariants as c
-use Rattle.grammar.proofs.Classes.{and_left, and_right, at_each}
-use Rattle.grammar.specs.Forms.{Kind, Worth, Rule, kind, Form, Tok, Seq, Alt, Many, Opt, Map, Nest, Ref, is_nullable}
+use Rattle.grammar.proofs.Classes.{at_each}
+use Rattle.grammar.specs.Forms.{Kind, Worth, Rule, Form, Tok, Seq, Alt, Many, Opt, Map, Ref, is_nullable}
 use Rattle.grammar.specs.Forms.{Rule as r}
 use Rattle.grammar.specs.Rules.{rule, begins, goes_on}
-use Rattle.grammar.specs.Derivations.{Derivation, tok, seq, left, right, none, more, absent, present, map, nest, ref, tokens, worth, depth, depth_to}
-use Rattle.grammar.specs.Reading.{starts, continues, Apart, Agrees}
+use Rattle.grammar.specs.Derivations.{Derivation, tok, seq, left, right, none, more, absent, present, map, nest, ref, tokens, depth, depth_to}
+use Rattle.grammar.specs.Reading.{starts, continues}
 
 pub and_true : (a b : Bool) → a ≡ true → b ≡ true → (a && b) ≡ true
 and_true true b one two = two

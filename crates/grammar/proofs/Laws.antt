@@ -1,17 +1,14 @@
 -- An exact answer of a form, from those of its parts.
-use Rattle.std.proofs.Common.{◌≡◌, ◌≢◌, ℕ, zero, suc, ◌+◌, ◌-◌, ◌≤◌, ◌<◌, max, Bool, true, false, not, ◌&&◌, ◌||◌, List, [], ◌∷◌, ◌++◌, length, Option, Some, None, refl, sym, ◌∙◌, ap, ap₂, subst, arith, append_assoc, append-nil, length-append}
-use Rattle.std.proofs.lemmas.Bool.{false≢true}
-use Rattle.std.proofs.lemmas.List.{append_cancel_left}
-use Rattle.grammar.specs.Classes.{Class, for_all}
+use Rattle.std.proofs.Common.{◌≡◌, ℕ, ◌+◌, ◌-◌, ◌≤◌, ◌<◌, max, Bool, true, false, not, List, [], ◌∷◌, ◌++◌, length, refl, sym, ◌∙◌, ap, ap₂, subst, arith, append_assoc, length-append}
 use Rattle.grammar.specs.Trees.{Token}
-use Rattle.grammar.specs.Forms.{Kind, Worth, Rule, kind, Form, Tok, Seq, Alt, Many, Opt, Map, Nest, Ref, is_nullable}
+use Rattle.grammar.specs.Forms.{Kind, Worth, Rule, kind, Form, Tok, Seq, Alt, Map, Ref}
 use Rattle.grammar.specs.Forms.{Kind as k}
-use Rattle.grammar.specs.Rules.{rule, begins, goes_on}
-use Rattle.grammar.specs.Derivations.{Derivation, tok, seq, left, right, none, more, absent, present, map, nest, ref, tokens, worth, depth, depth_to}
+use Rattle.grammar.specs.Rules.{rule, begins}
+use Rattle.grammar.specs.Derivations.{Derivation, tok, seq, left, right, none, more, map, ref, tokens, worth, depth, depth_to}
 use Rattle.grammar.specs.Reading.{IsExact, starts, continues, Apart, Agrees, Outcome, read, failed, mapped, Reads, Fails, Deeper, Held, Exact}
-use Rattle.grammar.proofs.Heads.{Heads, heads, depth_none, depth_below, gone_on, or_not_first, or_not_second}
-use Rattle.grammar.proofs.Opening.{at_tok, at_seq, at_alt, at_many, at_opt, at_map, at_nest, at_ref}
-use Rattle.grammar.proofs.Agreeing.{agrees_shorter, agrees_cancel, agrees_first, agrees_none, no_empty, same_first, Off, On, off_by, on_by, apart_by, apart_second, apart_again, Disjoint}
+use Rattle.grammar.proofs.Heads.{heads, depth_none, depth_below, gone_on, or_not_first, or_not_second}
+use Rattle.grammar.proofs.Opening.{at_seq, at_alt, at_map, at_ref}
+use Rattle.grammar.proofs.Agreeing.{agrees_shorter, agrees_cancel, Off, off_by, apart_by, apart_second, Disjoint}
 
 -- one after another: what agrees with both agrees with each
 pub record Parted {a b : Kind} (f : Form a) (g : Form b) (front : List Token) (v : Worth a) (next rest : List Token) (d : Derivation a f) (e : List Token) (z : List Token) : Type 0 where

@@ -1,5 +1,5 @@
 -- What a derivation of each form is made of.
-use Rattle.std.proofs.Common.{◌≡◌, Bool, true, List, refl, sym, subst, ◌⊎◌, inl, inr, ⊎_elim}
+use Rattle.std.proofs.Common.{◌≡◌, Bool, true, refl, sym, subst, ◌⊎◌, inl, inr}
 use Rattle.grammar.specs.Classes.{Class}
 use Rattle.grammar.specs.Trees.{Token}
 use Rattle.grammar.specs.Forms.{Kind, Worth, Rule, kind, Form, Tok, Seq, Alt, Many, Opt, Map, Nest, Ref}

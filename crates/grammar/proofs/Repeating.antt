@@ -1,18 +1,16 @@
 -- An exact answer where a part may be left out, comes again, or lies one level deeper.
-use Rattle.std.proofs.Common.{◌≡◌, ◌≢◌, ℕ, zero, suc, ◌+◌, ◌-◌, ◌≤◌, ◌<◌, max, Bool, true, false, not, ◌&&◌, ◌||◌, List, [], ◌∷◌, ◌++◌, length, Option, Some, None, refl, sym, ◌∙◌, ap, ap₂, subst, arith, append_assoc, append-nil, length-append}
-use Rattle.std.proofs.lemmas.Bool.{false≢true}
-use Rattle.std.proofs.lemmas.List.{append_cancel_left}
-use Rattle.grammar.specs.Classes.{Class, for_all}
+use Rattle.std.proofs.Common.{◌≡◌, ℕ, suc, ◌+◌, ◌-◌, ◌≤◌, ◌<◌, Bool, true, false, not, List, [], ◌∷◌, ◌++◌, length, Some, None, refl, sym, ◌∙◌, ap, ap₂, subst, arith, append_assoc, length-append}
+use Rattle.grammar.specs.Classes.{Class}
 use Rattle.grammar.specs.Trees.{Token}
-use Rattle.grammar.specs.Forms.{Kind, Worth, Rule, kind, Form, Tok, Seq, Alt, Many, Opt, Map, Nest, Ref, is_nullable}
+use Rattle.grammar.specs.Forms.{Kind, Worth, Form, Tok, Many, Opt, Nest}
 use Rattle.grammar.specs.Forms.{Kind as k}
-use Rattle.grammar.specs.Rules.{rule, begins, goes_on}
-use Rattle.grammar.specs.Derivations.{Derivation, tok, seq, left, right, none, more, absent, present, map, nest, ref, tokens, worth, depth, depth_to}
-use Rattle.grammar.specs.Reading.{IsExact, starts, continues, Apart, Agrees, Outcome, read, failed, mapped, Reads, Fails, Deeper, Held, Exact}
-use Rattle.grammar.proofs.Heads.{Heads, heads, depth_none, depth_below, gone_on, or_not_first, or_not_second}
-use Rattle.grammar.proofs.Opening.{at_tok, at_seq, at_alt, at_many, at_opt, at_map, at_nest, at_ref}
-use Rattle.grammar.proofs.Agreeing.{agrees_shorter, agrees_cancel, agrees_first, agrees_none, no_empty, same_first, Off, On, off_by, on_by, apart_by, apart_second, apart_again, Disjoint}
-use Rattle.grammar.proofs.Laws.{Parted, parted, both_within, first_within, second_within, held_first, held_second}
+use Rattle.grammar.specs.Rules.{begins}
+use Rattle.grammar.specs.Derivations.{Derivation, tok, left, none, more, absent, present, map, nest, ref, tokens, worth, depth, depth_to}
+use Rattle.grammar.specs.Reading.{IsExact, starts, continues, Apart, Agrees, Outcome, read, failed, mapped, Reads, Deeper, Held, Exact}
+use Rattle.grammar.proofs.Heads.{heads, depth_none, depth_below, or_not_second}
+use Rattle.grammar.proofs.Opening.{at_tok, at_many, at_opt, at_nest}
+use Rattle.grammar.proofs.Agreeing.{agrees_first, Off, On, off_by, on_by, apart_again, Disjoint}
+use Rattle.grammar.proofs.Laws.{parted, both_within, held_first, held_second}
 
 -- nothing of the form begins here
 pub exact_off : {a : Kind} {f : Form a} {all : List Token} {n : ℕ} → Derivation a f → Off f all → Exact n f all (failed false all)

@@ -1,9 +1,9 @@
 -- What derives from a form: its tokens, its worth, and how deep it is.
-use Rattle.std.specs.Prelude.{◌≡◌, ℕ, zero, suc, ◌+◌, ◌≤◌, max, Bool, true, false, ◌&&◌, ◌||◌, List, [], ◌∷◌, ◌++◌, length, Option, Some, None, ◌-◌, ◌==◌, if◌then◌else◌}
+use Rattle.std.specs.Prelude.{◌≡◌, ℕ, zero, suc, ◌+◌, max, Bool, true, List, [], ◌∷◌, ◌++◌, length, Some, None, ◌-◌}
 use Rattle.grammar.specs.Classes.{Class}
 use Rattle.grammar.specs.Trees.{Token}
-use Rattle.grammar.specs.Forms.{Kind, Worth, Rule, kind, Form, Tok, Seq, Alt, Many, Opt, Map, Nest, Ref, is_nullable}
-use Rattle.grammar.specs.Rules.{rule, begins, goes_on}
+use Rattle.grammar.specs.Forms.{Kind, Worth, Rule, Form, Tok, Seq, Alt, Many, Opt, Map, Nest, Ref}
+use Rattle.grammar.specs.Rules.{rule}
 
 pub data Derivation : (a : Kind) → Form a → Type 0 where
   tok : {p : Class → Bool} → (t : Token) → p t.class ≡ true → Derivation _ (Tok p)

@@ -1,9 +1,9 @@
 -- What a reader of a form answers, and when its answer is right.
-use Rattle.std.specs.Prelude.{◌≡◌, ℕ, ◌+◌, ◌≤◌, ◌<◌, Bool, true, false, not, ◌&&◌, ◌||◌, List, [], ◌∷◌, ◌++◌, length}
-use Rattle.grammar.specs.Classes.{Class, for_all}
+use Rattle.std.specs.Prelude.{◌≡◌, ℕ, ◌+◌, ◌≤◌, ◌<◌, Bool, true, false, ◌&&◌, ◌||◌, List, [], ◌∷◌, ◌++◌, length}
+use Rattle.grammar.specs.Classes.{Class}
 use Rattle.grammar.specs.Trees.{Token}
-use Rattle.grammar.specs.Forms.{Kind, Worth, Rule, kind, Form, Tok, Seq, Alt, Many, Opt, Map, Nest, Ref, is_nullable}
-use Rattle.grammar.specs.Rules.{rule, begins, goes_on}
+use Rattle.grammar.specs.Forms.{Kind, Worth, Form, Tok, Seq, Alt, Many, Opt, Map, Nest, Ref, is_nullable}
+use Rattle.grammar.specs.Rules.{begins, goes_on}
 use Rattle.grammar.specs.Derivations.{Derivation, tokens, worth, depth, depth_to}
 
 -- the classes with which a form begins

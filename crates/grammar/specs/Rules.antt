@@ -2,16 +2,16 @@
 --
 -- Where two lines begin alike, their common front stands once: a test is an expression and a tail, a call is a word and
 -- its arguments. What the trees are is said beside each rule.
-use Rattle.std.specs.Prelude.{ℕ, ℤ, Bool, true, false, ◌&&◌, ◌||◌, List, [], ◌∷◌, Option, Some, None, is_some}
+use Rattle.std.specs.Prelude.{Bool, true, false, ◌&&◌, ◌||◌, [], ◌∷◌, Some, None, is_some}
 use Rattle.grammar.specs.Classes.{Class, is_a}
 use Rattle.grammar.specs.declared.Class.TheVariants as c
-use Rattle.grammar.specs.Trees.{Token, Tree, placed, whens_of, otherwise_of, word_of, listed_of, counted_of, condition_at, not_of, or_of, and_of, test_of, subquery_of, query_of, held}
+use Rattle.grammar.specs.Trees.{placed, whens_of, otherwise_of, word_of, listed_of, counted_of, condition_at, not_of, or_of, and_of, test_of, subquery_of, query_of, held}
 use Rattle.grammar.specs.Trees.{Tree as tree}
 use Rattle.grammar.specs.Trees.{Arguments as args}
 use Rattle.grammar.specs.Trees.{Set' as set}
 use Rattle.grammar.specs.Trees.{Range as range}
 use Rattle.grammar.specs.Trees.{Tail as tail}
-use Rattle.grammar.specs.Forms.{Kind, Worth, Rule, kind, Form, Tok, Seq, Alt, Many, Opt, Map, Nest, Ref}
+use Rattle.grammar.specs.Forms.{Kind, Rule, kind, Form, Tok, Seq, Alt, Many, Opt, Map, Nest, Ref}
 use Rattle.grammar.specs.Forms.{Kind as k}
 use Rattle.grammar.specs.Forms.{Rule as r}
 

@@ -1,5 +1,5 @@
 -- Tokens, and what a query means as a tree.
-use Rattle.std.specs.Prelude.{ℕ, ℤ, Bool, true, false, List, [], ◌∷◌, ◌++◌, Option, Some, None, option_map}
+use Rattle.std.specs.Prelude.{ℕ, ℤ, Bool, true, false, List, [], ◌∷◌, ◌++◌, Option, Some, None}
 use Rattle.grammar.specs.Classes.{Class, is_a}
 use Rattle.grammar.specs.declared.Class.TheVariants as c
 

@@ -3,25 +3,14 @@ use Rattle.std.proofs.Common.{◌≡◌, ◌<◌, ◌≤◌, ℕ, List, [], ◌�
 use Rattle.std.specs.List.{AllZip}
 use Rattle.std.proofs.lemmas.Bool.{false≢true}
 use Rattle.std.proofs.lemmas.List.{append-nil, take_more, take-append-drop, drop_more}
-use Rattle.lp_model.specs.Outside.{Folder, Begins, Grows, OnlyGrow, Told}
+use Rattle.lp_model.specs.Outside.{Folder, Begins, Grows, OnlyGrow}
+use Rattle.lp_model.proofs.Growing.{there_still, told_grown}
 use Rattle.lp_outside.specs.Matching.{AreMatches}
 use Rattle.log_listing.specs.declared.fault.ListFault.{ListFault}
 use Rattle.log_listing.specs.declared.fault.ListFault.TheVariants as F
 use Rattle.log_listing.specs.Firsts.{firsts, joined, with_names}
 use Rattle.log_listing.specs.Listed.{Gives, Lists, Adds, IsMissing, StopsAt, Stops, most_logs}
 use Rattle.log_listing.proofs.FirstNames.{firsts-append}
-
--- a fact that stays in a folder that grows stays as far as the logs tell
-pub told_grown : (before now : Option Folder) (P : Folder → Type 0) → ((x y : Folder) → Grows x y → P x → P y) → OnlyGrow before now → Told before P → Told now P
-told_grown None None P keeps grow h = tt
-told_grown None (Some y) P keeps grow h = let e : Some y ≡ None = grow in absurd (cc)
-told_grown (Some x) None P keeps grow h = absurd grow
-told_grown (Some x) (Some y) P keeps grow h = keeps x y grow h
-
-stays : (a b : Option (List ℕ)) → MatchOption a (b ≡ None) (λ old. IsSomeAnd b (λ new. Begins old new)) → IsSome a → IsSome b
-stays None b h is = absurd (false≢true is)
-stays (Some x) None h is = absurd h
-stays (Some x) (Some y) h is = refl
 
 was_there : (a b : Option (List ℕ)) → MatchOption a (b ≡ None) (λ old. IsSomeAnd b (λ new. Begins old new)) → IsSome b → IsSome a
 was_there None None h is = absurd (false≢true is)
@@ -32,7 +21,7 @@ matches_grown : (pattern : List ℕ) (names : List (List ℕ)) (x y : Folder) �
 matches_grown pattern names x y grow m = record {
   ordered = m.ordered;
   each = λ name. (
-    (λ here. let both = (m.each name).0 here in (stays (x name) (y name) (grow name) both.0, both.1)),
+    (λ here. let both = (m.each name).0 here in (there_still (x name) (y name) (grow name) both.0, both.1)),
     (λ both. (m.each name).1 (was_there (x name) (y name) (grow name) both.0, both.1)),
   );
 }

@@ -28,7 +28,7 @@ length_now (Some x) (Some y) log grow is small =
     let kept = length_grown x y log.name (length (bytes_in x log.name)) grow (omega arith) in
     record { least = omega arith; most = omega arith; bounded = small }
 
-length_later : (before mid now : Option Folder) → OnlyGrow mid now → (log : NameLength) → IsLength before mid log → IsLength before now log
+pub length_later : (before mid now : Option Folder) → OnlyGrow mid now → (log : NameLength) → IsLength before mid log → IsLength before now log
 length_later before mid now grow log is = record { least = is.least; most = there_grown mid now log.name log.length grow is.most; bounded = is.bounded }
 
 -- one more log

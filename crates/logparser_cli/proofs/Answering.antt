@@ -1,10 +1,9 @@
 -- What the steps of a run make of its answer.
-use Rattle.std.proofs.Common.{◌≡◌, ◌⊎◌, ℕ, ℤ, ◌+◌, ◌-◌, ◌^◌, ◌≤◌, min, true, false, List, Option, Some, None, Ok, Err, refl, inl, inr, subst, arith}
+use Rattle.std.proofs.Common.{◌≡◌, ◌⊎◌, ℕ, ℤ, ◌≤◌, false, List, Option, Some, Err, refl, inl, inr, arith}
 use Rattle.grammar.specs.Trees as model
-use Rattle.lp_model.specs.Outside.{Folder, OnlyGrow, Told, GainsSome, Rose}
+use Rattle.lp_model.specs.Outside.{Folder, OnlyGrow, GainsSome, Rose}
 use Rattle.checkpoint.specs.Wholes.{whole_spans}
 use Rattle.command_words.specs.declared.spec.Spec.{Spec}
-use Rattle.execution.specs.Built.{all_built}
 use Rattle.execution.specs.Executed.{IsExecuted, IsMoment, IsUntouched, Writes, text_in}
 use Rattle.execution.specs.Executed.{HoldsFront as HoldsSpans, IsParseError as IsExceeded, IsStopped as IsStoppedIn, IsUnplanned as IsUnplannedIn, WritesAll as WritesSpans}
 use Rattle.execution.specs.Formats.{lines_in, log_format}
@@ -29,8 +28,8 @@ use Rattle.requests.specs.declared.fault.RequestFault.{RequestFault}
 use Rattle.requests.specs.declared.fault.RequestFault.TheVariants as R
 use Rattle.requests.proofs.Growing.{asks_grown}
 use Rattle.logparser_cli.specs.Logs.{AreSpans, IsUnlisted}
-use Rattle.logparser_cli.specs.Whole.{World, Tells, told_statistics, HoldsFront, IsFront, IsHalted, IsParseError, IsUnplanned, IsUnwritten, IsWhole, WritesAll}
-use Rattle.logparser_cli.specs.Answers.{IsStopped, IsUnplannable, AnswersBuilt, AnswersQuery, Asked, IsUnasked, Answers, unasked, stopped}
+use Rattle.logparser_cli.specs.Whole.{World, Tells, told_statistics, HoldsFront, IsFront, IsHalted, IsParseError, IsUnplanned, IsWhole, WritesAll}
+use Rattle.logparser_cli.specs.Answers.{IsStopped, IsUnplannable, AnswersBuilt, AnswersQuery, IsUnasked, Answers, unasked, stopped}
 use Rattle.logparser_cli.proofs.Wholes.{logs_earlier, logs_later, on_whole, whole_told}
 
 pub on_refused : (status : Status) (P : Type 0) → P → OnRefused status P

@@ -3,7 +3,7 @@ use Rattle.std.proofs.Common.{◌≡◌, ℕ, ◌<◌, ◌≤◌, List, length, 
 use Rattle.std.proofs.lemmas.List.Elements.{All-weaker}
 use Rattle.grammar.specs.Trees as model
 use Rattle.lp_model.specs.Outside.{Folder, OnlyGrow, Told, bytes_in}
-use Rattle.lp_model.proofs.Pieces.{length_grown, there_grown}
+use Rattle.lp_model.proofs.Pieces.{length_grown}
 use Rattle.log_listing.specs.declared.fault.ListFault.{ListFault}
 use Rattle.log_listing.specs.declared.fault.ListFault.TheVariants as L
 use Rattle.log_listing.specs.declared.lengths.NameLength.{NameLength}
@@ -11,6 +11,7 @@ use Rattle.log_listing.specs.Lengths.{IsLength}
 use Rattle.log_listing.specs.Lengths.{names_in as listed_names}
 use Rattle.log_listing.specs.Listed.{IsRefused}
 use Rattle.log_listing.proofs.Grown.{lists_grown}
+use Rattle.log_listing.proofs.LengthLemmas.{length_later}
 use Rattle.log_reading.specs.declared.span.Span.{Span}
 use Rattle.log_reading.specs.Spans.{AllSpans, IsSpan, AreKept}
 use Rattle.checkpoint.specs.Wholes.{whole_spans}
@@ -63,9 +64,6 @@ on_whole None (F.Sampled options limit) pattern logs spans P Q wholes so h = tt
 on_whole (Some folder) (F.Sampled options limit) pattern logs spans P Q wholes so h =
     subst (λ (s : List Span). Q (told_table options limit pattern folder s)) wholes
     (so (told_table options limit pattern folder spans) (h (kept_of (F.Sampled options limit) folder logs spans wholes)))
-
-length_later : (before mid now : Option Folder) → OnlyGrow mid now → (log : NameLength) → IsLength before mid log → IsLength before now log
-length_later before mid now grow log is = record { least = is.least; most = there_grown mid now log.name log.length grow is.most; bounded = is.bounded }
 
 least_earlier : (before mid : Option Folder) (log : NameLength) → OnlyGrow before mid → Told mid (λ files. length (bytes_in files log.name) ≤ log.length) → Told before (λ files. length (bytes_in files log.name) ≤ log.length)
 least_earlier None mid log grow least = tt

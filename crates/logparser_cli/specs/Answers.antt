@@ -1,5 +1,5 @@
 -- What each answer of a run says.
-use Rattle.std.specs.Prelude.{◌≡◌, ◌⊎◌, ℕ, ℤ, Bool, true, false, List, ⊤}
+use Rattle.std.specs.Prelude.{◌≡◌, ◌⊎◌, ℕ, ℤ, true, false, List}
 use Rattle.grammar.specs.Trees as model
 use Rattle.lp_model.specs.Outside.{Rose}
 use Rattle.command_words.specs.declared.spec.Spec.{Spec}

@@ -1,5 +1,5 @@
 -- Trees, read at the lists of their parts.
-use Rattle.std.proofs.Common.{◌≡◌, ℕ, pos, Bool, List, ◌∷◌, map, refl, sym, ◌∙◌, ap, Vec, Option, option_map, rules}
+use Rattle.std.proofs.Common.{◌≡◌, ℕ, pos, Bool, List, map, refl, ◌∙◌, ap, Option, option_map, rules}
 use Rattle.grammar.specs.Trees.{Tree, Trees, Whens, Queries}
 use Rattle.grammar.specs.Trees as model
 use Rattle.grammar.specs.Trees.{Tree as tree}
@@ -8,7 +8,7 @@ use Rattle.grammar.specs.Trees.{Whens as whens}
 use Rattle.grammar.specs.Trees.{Queries as queries}
 use Rattle.query_tree.specs.Views.{placed_of, placed_all, items_of, test_of, tree_of, trees_of, trees_in, when_of, whens_of, whens_in, whens_of_row, query_of, queries_in, queries_of_row}
 use Rattle.query_tree.specs.declared.expression.ExprList.{ExprList}
-use Rattle.query_tree.specs.declared.expression.WhenList.{WhenList, WhenList', out-WhenList, Row_of-When, end_of-When, more_of-When, items-the_row-When}
+use Rattle.query_tree.specs.declared.expression.WhenList.{WhenList, WhenList', Row_of-When, end_of-When, more_of-When, items-the_row-When}
 use Rattle.query_tree.specs.declared.expression.Expr.TheViews as shown
 use Rattle.query_tree.specs.declared.expression.Expr.{Expr, Row_of-Expr, end_of-Expr, more_of-Expr, items-the_row-Expr, the_lemmas}
 use Rattle.query_tree.specs.declared.query.QueryList.{QueryList, QueryList', out-QueryList, Row_of-Query, end_of-Query, more_of-Query, items-the_row-Query}

@@ -1,5 +1,5 @@
 -- Tokens as the grammar sees them.
-use Rattle.std.specs.Prelude.{ℕ, ℤ, pos, negsuc, Bool, true, false, List, [], ◌∷◌, map, codes, ◌==◌, ◌&&◌, ◌||◌}
+use Rattle.std.specs.Prelude.{ℕ, ℤ, pos, negsuc, Bool, true, false, List, [], ◌∷◌, map, codes, ◌==◌, ◌&&◌}
 use Rattle.std.specs.Char.{to_ascii_lowercase}
 use Rattle.grammar.specs.declared.Class.{Class}
 use Rattle.grammar.specs.declared.Class.TheVariants as c

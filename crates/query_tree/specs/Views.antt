@@ -1,5 +1,5 @@
 -- Trees without where they lie in memory.
-use Rattle.std.specs.Prelude.{ℕ, ℤ, pos, Bool, List, [], ◌∷◌, ◌++◌, map, Option, Some, None, option_map}
+use Rattle.std.specs.Prelude.{ℕ, ℤ, pos, List, [], ◌∷◌, ◌++◌, map, Option, Some, None, option_map}
 use Rattle.grammar.specs.Trees.{Tree as tree}
 use Rattle.grammar.specs.Trees.{Whens as whens}
 use Rattle.grammar.specs.Trees.{Trees as trees}

@@ -1,7 +1,6 @@
 -- The arguments of a call, as expressions and as trees.
-use Rattle.std.proofs.Common.{◌≡◌, ℕ, zero, suc, false, List, [], ◌∷◌, length, map, Option, Some, None, option_map, refl, ap, arith}
+use Rattle.std.proofs.Common.{◌≡◌, ℕ, zero, suc, false, List, [], ◌∷◌, length, map, option_map, refl, ap, arith}
 use Rattle.std.specs.List.{slice_get}
-use Rattle.grammar.specs.Trees.{Trees}
 use Rattle.grammar.specs.Trees.{trees_of as listed}
 use Rattle.query_tree.specs.Views.{tree_of}
 use Rattle.query_tree.specs.declared.expression.Expr.{Expr}

@@ -1,12 +1,12 @@
 -- Lists of expressions, of branches and of items.
-use Rattle.std.proofs.Common.{◌≡◌, ℕ, suc, ◌<◌, ◌+◌, Bool, true, false, not, ◌&&◌, List, [], ◌∷◌, length, drop, get_or, map, Option, Some, None, option_map, refl, ap, ◌∙◌, Box, Vec, rules}
+use Rattle.std.proofs.Common.{◌≡◌, ℕ, ◌<◌, ◌+◌, Bool, true, false, not, ◌&&◌, List, [], ◌∷◌, length, drop, get_or, map, Option, Some, None, option_map, refl, ap, ◌∙◌, Box, rules}
 use Rattle.std.specs.declared.alloc.Global.{Global}
 use Rattle.std.specs.List.{list_all}
-use Rattle.grammar.specs.Trees.{Tree, Trees, Whens, Otherwise, otherwise_of}
+use Rattle.grammar.specs.Trees.{otherwise_of}
 use Rattle.grammar.specs.Trees.{Tree as tree}
 use Rattle.grammar.specs.Trees.{trees_of as listed}
 use Rattle.grammar.specs.Trees.{whens_of as branched}
-use Rattle.query_tree.specs.Views.{tree_of, trees_of, whens_of, when_of, whens_in, item_of}
+use Rattle.query_tree.specs.Views.{tree_of, trees_of, whens_of, when_of, item_of}
 use Rattle.query_tree.specs.declared.expression.Expr.TheViews as shown
 use Rattle.query_tree.specs.declared.expression.Expr.{Expr, the_lemmas}
 use Rattle.query_tree.specs.declared.expression.ExprList.{ExprList}

@@ -20,7 +20,7 @@ use Rattle.query_types.specs.declared.fault.TypeFault.{TypeFault}
 use Rattle.query_types.specs.declared.table.NamedKind.{NamedKind}
 use Rattle.query_types.specs.declared.table.TableColumns.{TableColumns}
 use Rattle.query_types.specs.Calls.{callee}
-use Rattle.query_types.specs.Meanings.{added, joined, followed, known, count_trees, meant, all_meant, branches_meant, branch_added, call_means, else_meant, case_kind, case_means, case_ended, if_fits, if_agrees, kind_meant, sharper}
+use Rattle.query_types.specs.Meanings.{added, joined, followed, known, meant, all_meant, branches_meant, branch_added, call_means, else_meant, case_kind, case_means, case_ended, if_fits, if_agrees, kind_meant, sharper}
 use Rattle.query_types.specs.Terms.{Term}
 use Rattle.query_types.proofs.Answering.{joined_one}
 use Rattle.query_types.proofs.Arguments.{counted}

@@ -13,7 +13,7 @@ use Rattle.query_types.specs.declared.fault.TypeFault.{TypeFault}
 use Rattle.query_types.specs.declared.fault.TypeFault.TheVariants as F
 use Rattle.query_types.specs.declared.condition.Condition.{Condition, Or', And', Not', Compare as Compares, IsNull, Like, Between, Within}
 use Rattle.query_types.specs.declared.alias.Alias.{Alias}
-use Rattle.query_types.specs.Meanings.{followed, added, where_it_is, if_fits, fits, meant, kind_meant}
+use Rattle.query_types.specs.Meanings.{followed, added, if_fits, fits, meant, kind_meant}
 
 -- a condition over the rows of a table
 pub data Filter : Type 0 where

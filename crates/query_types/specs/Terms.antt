@@ -1,5 +1,5 @@
 -- What an expression means once its names are replaced, less where it lies in memory.
-use Rattle.std.specs.Prelude.{ℕ, Bool, true, false, ◌||◌, ◌==◌, List, [], ◌∷◌}
+use Rattle.std.specs.Prelude.{ℕ, Bool, false, ◌||◌, ◌==◌, List, [], ◌∷◌}
 use Rattle.std.specs.List.{list_any}
 use Rattle.lp_values.specs.declared.kind.Kind.{Kind}
 use Rattle.lp_values.specs.declared.value.Value.{Value}

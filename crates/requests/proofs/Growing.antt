@@ -1,8 +1,8 @@
 -- What words ask for stays so while the logs grow.
-use Rattle.std.proofs.Common.{◌≡◌, ℕ, List, Option, Some, None, IsSome, MatchOption, IsSomeAnd, refl, sym, ◌∙◌}
-use Rattle.std.proofs.lemmas.Bool.{false≢true}
+use Rattle.std.proofs.Common.{◌≡◌, ℕ, List, Option, Some, None, sym, ◌∙◌}
 use Rattle.grammar.specs.Trees as model
-use Rattle.lp_model.specs.Outside.{Folder, Begins, Grows, OnlyGrow, Told}
+use Rattle.lp_model.specs.Outside.{Folder, Grows, OnlyGrow, Told}
+use Rattle.lp_model.proofs.Growing.{gone_still, there_still, told_grown}
 use Rattle.lp_model.proofs.Pieces.{length_grown, take_grown}
 use Rattle.command_words.specs.declared.spec.Spec.{Spec}
 use Rattle.command_words.specs.Words.{query_in}
@@ -11,25 +11,9 @@ use Rattle.requests.specs.Requests.{Asks, IsRefused}
 use Rattle.requests.specs.declared.fault.RequestFault.{RequestFault}
 use Rattle.requests.specs.declared.fault.RequestFault.TheVariants as F
 
--- a fact that stays in a folder that grows stays as far as the logs tell
-told_grown : (now later : Option Folder) (P : Folder → Type 0) → ((x y : Folder) → Grows x y → P x → P y) → OnlyGrow now later → Told now P → Told later P
-told_grown None None P keeps grow h = tt
-told_grown None (Some y) P keeps grow h = let e : Some y ≡ None = grow in absurd (cc)
-told_grown (Some x) None P keeps grow h = absurd grow
-told_grown (Some x) (Some y) P keeps grow h = keeps x y grow h
-
-gone_still : (a b : Option (List ℕ)) → MatchOption a (b ≡ None) (λ old. IsSomeAnd b (λ new. Begins old new)) → a ≡ None → b ≡ None
-gone_still None b h e = h
-gone_still (Some x) b h e = absurd (cc)
-
 -- a file that isn't there doesn't come
 pub gone_grown : (now later : Option Folder) (name : List ℕ) → OnlyGrow now later → Told now (λ folder. folder name ≡ None) → Told later (λ folder. folder name ≡ None)
 gone_grown now later name grow h = told_grown now later (λ folder. folder name ≡ None) (λ x y g gone. gone_still (x name) (y name) (g name) gone) grow h
-
-pub there_still : (a b : Option (List ℕ)) → MatchOption a (b ≡ None) (λ old. IsSomeAnd b (λ new. Begins old new)) → IsSome a → IsSome b
-there_still None b h is = absurd (false≢true is)
-there_still (Some x) None h is = absurd h
-there_still (Some x) (Some y) h is = refl
 
 cut_kept : (before : Option Folder) (name text : List ℕ) (x y : Folder) → Grows x y → IsCut before x name text → IsCut before y name text
 cut_kept before name text x y grow c = record {

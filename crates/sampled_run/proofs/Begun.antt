@@ -1,6 +1,5 @@
 -- What a writer writes of the records that were kept, and what stands before them.
-use Rattle.std.proofs.Common.{◌≡◌, ℕ, ℤ, Bool, true, List, [], ◌∷◌, ◌++◌, length, map, Option, Some, Ok, ap, ap₂, sym, ◌∙◌, refl, subst, inl, inr, append_assoc, option_map}
-use Rattle.std.proofs.lemmas.List.{append-nil}
+use Rattle.std.proofs.Common.{◌≡◌, ℕ, ℤ, Bool, true, List, [], ◌++◌, length, map, Option, Some, Ok, ap, ap₂, sym, ◌∙◌, subst, inl, inr, option_map}
 use Rattle.grammar.specs.Trees.{Query}
 use Rattle.lp_model.specs.Outside.{Gains, GainsSome}
 use Rattle.lp_time.specs.declared.piece.Piece.{Piece}
@@ -13,7 +12,6 @@ use Rattle.query_run.specs.Rows.{picked}
 use Rattle.query_run.specs.Writer.{Writes, Halts}
 use Rattle.query_run.specs.Writing.{TextOf, HasTextOf, PicksOf, picked-append}
 use Rattle.query_run.specs.declared.writer.Writer.{Writer}
-use Rattle.query_tree.specs.Views.{query_of}
 use Rattle.query_types.specs.declared.fault.TypeFault.{TypeFault}
 use Rattle.query_types.specs.Conditions.{filter_of}
 use Rattle.query_types.specs.Planned.{plan_of, planned_in}
@@ -22,8 +20,8 @@ use Rattle.sampled_table.specs.Kept.{found_in}
 use Rattle.sampled_table.specs.Picks.{sampled_picks}
 use Rattle.sampled_table.specs.declared.judging.Judged.{Judged}
 use Rattle.sampled_table.specs.declared.picking.SampledPicker.{SampledPicker}
-use Rattle.sampled_run.specs.Past.{Past, Later, Rules, plan_at, rows_at, rows_with, text_at, told_at}
-use Rattle.sampled_run.specs.Holds.{Asks, Begun, Gathers, Holds, IsFront, IsRefused, IsTold, IsWithin, IsWritten, PhaseHolds, WritesOn}
+use Rattle.sampled_run.specs.Past.{Past, Later, Rules, rows_at, rows_with, text_at, told_at}
+use Rattle.sampled_run.specs.Holds.{Asks, Begun, Gathers, Holds, IsTold, IsWithin, IsWritten, PhaseHolds, WritesOn}
 use Rattle.sampled_run.specs.Laws.{told_stays}
 use Rattle.sampled_run.specs.declared.phase.Phase.{Phase}
 use Rattle.sampled_run.specs.declared.phase.Phase.TheVariants as P

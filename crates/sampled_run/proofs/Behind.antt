@@ -1,18 +1,18 @@
 -- What is known behind spans is what they tell.
-use Rattle.std.proofs.Common.{◌≡◌, ℕ, suc, ◌+◌, ◌<◌, Bool, List, [], ◌∷◌, ◌++◌, length, drop, flat_map, Option, Some, None, refl, sym, ◌∙◌, ap, ap₂, subst, arith, append_assoc}
+use Rattle.std.proofs.Common.{◌≡◌, ℕ, suc, ◌+◌, Bool, List, [], ◌∷◌, ◌++◌, length, drop, Option, Some, None, refl, sym, ◌∙◌, ap, ap₂, subst, arith, append_assoc}
 use Rattle.std.proofs.lemmas.List.{append-nil}
 use Rattle.lp_model.specs.Outside.{Folder}
 use Rattle.lp_model.specs.Lines.{Line, lines_to_come}
 use Rattle.lp_model.specs.Reading.{Columns, Format, columns_behind, lines_before, lines_between, records_of, standing_at, Standing}
-use Rattle.lp_model.specs.Following.{IsLineEnd, records_following}
+use Rattle.lp_model.specs.Following.{IsLineEnd}
 use Rattle.lp_model.proofs.Following.{records_of-following}
 use Rattle.lp_model.proofs.Ordered.{lines_between_end}
 use Rattle.log_reading.specs.Found.{Found, found_of}
 use Rattle.log_reading.specs.declared.span.Span.{Span}
-use Rattle.log_reading.specs.Spans.{AllSpans, AreKept, IsKept, cut_of, span_found, spans_found}
+use Rattle.log_reading.specs.Spans.{AreKept, IsKept, cut_of, span_found, spans_found}
 use Rattle.log_reading.proofs.Ending.{standing_at_cut}
 use Rattle.sampled_table.specs.declared.kept.FirstLog.{FirstLog}
-use Rattle.sampled_run.specs.Past.{Past, first_seen, log_with, noted, or_first, past_with}
+use Rattle.sampled_run.specs.Past.{Past, first_seen, log_with, or_first}
 use Rattle.sampled_run.specs.Spans.{first_log, past_behind, past_behind_span, past_of, span_first}
 use Rattle.sampled_run.proofs.SetsOnce.{SetsOnce, first_told}
 

@@ -1,10 +1,10 @@
 -- In CSV and TSV columns stay once they are set, and a row has columns.
-use Rattle.std.proofs.Common.{◌≡◌, ℕ, ◌<◌, Bool, true, false, ◌||◌, List, [], ◌∷◌, ◌++◌, length, Option, Some, None, refl, sym, ◌∙◌, ap, arith, inl, inr}
+use Rattle.std.proofs.Common.{◌≡◌, ℕ, ◌<◌, Bool, true, false, List, [], ◌∷◌, ◌++◌, length, Option, Some, None, refl, ◌∙◌, ap, arith, inl, inr}
 use Rattle.std.proofs.lemmas.Bool.{cases_Bool}
 use Rattle.std.specs.Option.{option_or}
-use Rattle.lp_model.specs.Reading.{Columns, Reading, rows_in}
+use Rattle.lp_model.specs.Reading.{Columns, rows_in}
 use Rattle.delimited_input.specs.declared.options.DelimitedOptions.{DelimitedOptions}
-use Rattle.delimited_input.specs.Lines.{fields_in, is_empty, is_broken, may_set, sets_columns, columns_of, columns_after, has_columns, delimited_reading, filled_reading, first_reading, delimited_lines}
+use Rattle.delimited_input.specs.Lines.{fields_in, is_empty, is_broken, may_set, columns_of, columns_after, has_columns, delimited_reading, filled_reading, first_reading, delimited_lines}
 use Rattle.delimited_input.proofs.Carrying.{after_more}
 use Rattle.sampled_run.proofs.SetsOnce.{SetsOnce}
 

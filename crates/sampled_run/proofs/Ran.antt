@@ -2,13 +2,12 @@
 use Rattle.std.proofs.Common.{◌≡◌, ℕ, ◌+◌, Bool, false, IsErrOf, List, [], ◌∷◌, ◌++◌, length, Option, Some, None, Err, ap, sym, ◌∙◌, refl, subst, arith, inl, append_assoc}
 use Rattle.std.proofs.lemmas.List.{append-nil}
 use Rattle.lp_model.specs.Outside.{Folder, Told}
-use Rattle.lp_model.specs.Reading.{Format, standing_at}
-use Rattle.log_reading.specs.Found.{Found}
+use Rattle.lp_model.specs.Reading.{Format}
 use Rattle.log_reading.specs.declared.page.Page.{Page}
 use Rattle.log_reading.specs.declared.span.RunFault.{RunFault}
 use Rattle.log_reading.specs.declared.span.RunFault.TheVariants as R
 use Rattle.log_reading.specs.declared.span.Span.{Span}
-use Rattle.log_reading.specs.Spans.{AreKept, BadLine, OnBadLine, cut_of, span_found, spans_found}
+use Rattle.log_reading.specs.Spans.{AreKept, BadLine, OnBadLine, span_found, spans_found}
 use Rattle.query_run.specs.Writing.{TextOf, HasTextOf}
 use Rattle.query_run.specs.declared.executing.Counts.{Counts}
 use Rattle.sampled_run.specs.declared.fault.SampleFault.{SampleFault}
@@ -20,7 +19,7 @@ use Rattle.sampled_run.specs.declared.phase.Phase.TheVariants as P
 use Rattle.sampled_run.specs.declared.phase.Sampling.{Sampling}
 use Rattle.sampled_run.specs.Past.{Past, Rules}
 use Rattle.sampled_run.specs.Spans.{past_behind, past_behind_span, past_of}
-use Rattle.sampled_run.specs.Holds.{Holds, IsFront, IsRefused, IsWritten, PhaseStopped}
+use Rattle.sampled_run.specs.Holds.{Holds, IsFront, IsWritten, PhaseStopped}
 use Rattle.sampled_run.specs.Laws.{later_same}
 use Rattle.sampled_run.specs.Stops.{IsStop}
 use Rattle.sampled_run.specs.Taking.{SamplesSpans, HaltsIn, spans_told}

@@ -1,8 +1,7 @@
 -- One record more, or some.
-use Rattle.std.proofs.Common.{◌≡◌, ℕ, ◌+◌, ◌<◌, ◌≤◌, Bool, true, List, [], ◌∷◌, ◌++◌, length, map, Option, Some, None, Ok, ap, ap₂, sym, ◌∙◌, refl, subst, inl, inr, arith, append_assoc, option_map, length-append}
+use Rattle.std.proofs.Common.{◌≡◌, ℕ, ◌+◌, ◌≤◌, true, List, [], ◌∷◌, ◌++◌, length, map, Option, Some, None, Ok, ap, ap₂, sym, ◌∙◌, refl, subst, inl, inr, arith, append_assoc, option_map, length-append}
 use Rattle.std.proofs.lemmas.List.{length-map}
 use Rattle.lp_model.specs.Outside.{GainsSome}
-use Rattle.lp_time.specs.declared.piece.Piece.{Piece}
 use Rattle.lp_values.specs.declared.value.Value.{Value}
 use Rattle.log_reading.specs.Found.{Found}
 use Rattle.query_run.specs.Output.{IsUnderWay}
@@ -20,8 +19,8 @@ use Rattle.sampled_table.specs.Picks.{sampled_picks}
 use Rattle.sampled_table.specs.declared.judging.Judged.{Judged}
 use Rattle.sampled_table.specs.declared.kept.FirstLog.{FirstLog}
 use Rattle.sampled_table.specs.declared.picking.SampledPicker.{SampledPicker}
-use Rattle.sampled_run.specs.Past.{Past, Later, Rules, first_seen, log_of, past_with, plan_at, rows_at, rows_with, text_at, told_at}
-use Rattle.sampled_run.specs.Holds.{Asks, Begun, Gathers, Holds, IsFront, IsTold, IsWithin, PhaseHolds, PhaseStopped, WritesOn}
+use Rattle.sampled_run.specs.Past.{Past, Later, Rules, first_seen, log_of, past_with, rows_at, rows_with, text_at, told_at}
+use Rattle.sampled_run.specs.Holds.{Asks, Gathers, Holds, IsFront, IsTold, PhaseHolds, PhaseStopped, WritesOn}
 use Rattle.query_types.specs.declared.fault.TypeFault.{TypeFault}
 use Rattle.sampled_run.specs.Laws.{Halts, later_with, rows_more, told_stays}
 use Rattle.sampled_run.specs.declared.phase.Gathering.{Gathering}

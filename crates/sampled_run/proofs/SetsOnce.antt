@@ -1,10 +1,10 @@
 -- Where columns stay once they are set, the log of a record has the columns that it has at its end.
-use Rattle.std.proofs.Common.{◌≡◌, ℕ, ◌+◌, ◌<◌, Bool, true, false, not, List, [], ◌∷◌, ◌++◌, length, map, filter, Option, Some, None, refl, sym, ◌∙◌, ap, ap₂, subst, arith, inl, inr, append_assoc}
+use Rattle.std.proofs.Common.{◌≡◌, ℕ, ◌+◌, ◌<◌, Bool, true, false, List, [], ◌∷◌, ◌++◌, length, map, filter, Option, Some, None, refl, sym, ◌∙◌, ap, subst, arith, inl, inr, append_assoc}
 use Rattle.std.proofs.lemmas.Bool.{cases_Bool}
 use Rattle.std.proofs.lemmas.List.{append-nil, map-append}
 use Rattle.std.proofs.lemmas.List.Elements.{filter-append}
 use Rattle.lp_model.specs.Lines.{Line, is_overlong}
-use Rattle.lp_model.specs.Reading.{Columns, Format, Slots, Record, columns_behind, is_in_bounds, reading_behind, records_read, rows_in}
+use Rattle.lp_model.specs.Reading.{Columns, Format, Slots, columns_behind, is_in_bounds, reading_behind, rows_in}
 use Rattle.lp_model.specs.Following.{records_behind, records_following}
 use Rattle.log_reading.specs.Found.{Found, found_of}
 use Rattle.log_reading.proofs.Founds.{found_of-append}

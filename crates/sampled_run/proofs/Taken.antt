@@ -5,7 +5,7 @@ use Rattle.std.proofs.lemmas.Grind.{flat_map-append}
 use Rattle.lp_model.specs.Outside.{Folder, OnlyGrow, Told, bytes_in}
 use Rattle.lp_model.specs.Reading.{Columns, Format, Standing, records_of, bad_lines_of, standing_at}
 use Rattle.lp_model.proofs.Pieces.{take_grown}
-use Rattle.log_reading.specs.Found.{Found, found_of}
+use Rattle.log_reading.specs.Found.{found_of}
 use Rattle.log_reading.specs.declared.page.Page.{Page}
 use Rattle.log_reading.specs.declared.span.Span.{Span}
 use Rattle.log_reading.specs.Spans.{BadLine, IsKept, TakesSpan, TakesSpans, AllSpans, AreKept, cut_of, span_found, span_bad, span_bad_lines, spans_found, spans_bad, spans_bad_lines}

@@ -1,5 +1,5 @@
 -- How a run takes records, and what follows.
-use Rattle.std.specs.Prelude.{◌≡◌, ◌<◌, ◌≤◌, ◌⊎◌, ℕ, Bool, true, List, [], ◌∷◌, ◌++◌, length, Option, Some, None, Ok}
+use Rattle.std.specs.Prelude.{◌≡◌, ℕ, Bool, true, List, [], ◌∷◌, ◌++◌, Option, Some, None}
 use Rattle.std.proofs.Common.{ap, ap₂, sym, ◌∙◌, refl, subst, append_assoc, inl, inr}
 use Rattle.std.proofs.lemmas.List.{append-nil}
 use Rattle.lp_model.specs.Outside.{Begins, GainsSome}
@@ -15,8 +15,8 @@ use Rattle.sampled_table.specs.declared.picking.SampledPicker.{SampledPicker}
 use Rattle.sampled_table.specs.Judged.{judged, table_of}
 use Rattle.sampled_table.specs.Picks.{sampled_picks}
 use Rattle.sampled_table.proofs.Staying.{judged_stays}
-use Rattle.sampled_run.specs.Past.{Past, Later, Rules, first_seen, past_with, or_first, log_with, noted, told_at, plan_at, rows_with, rows_at, text_at}
-use Rattle.sampled_run.specs.Holds.{Begun, IsTold, WritesOn, Gathers, PhaseHolds, Holds, IsFront, IsWithin, PhaseStopped}
+use Rattle.sampled_run.specs.Past.{Past, Later, Rules, first_seen, past_with, or_first, log_with, noted, told_at, rows_with, rows_at, text_at}
+use Rattle.sampled_run.specs.Holds.{Begun, IsTold, PhaseHolds, Holds, IsFront, IsWithin, PhaseStopped}
 use Rattle.sampled_run.specs.declared.phase.Phase.{Phase}
 use Rattle.sampled_run.specs.declared.phase.Phase.TheVariants as P
 use Rattle.sampled_run.specs.declared.phase.Sampling.{Sampling}

@@ -1,5 +1,5 @@
 -- What the spans of a run tell.
-use Rattle.std.specs.Prelude.{Bool, List, [], ◌∷◌, length, Option, Some, None}
+use Rattle.std.specs.Prelude.{Bool, List, [], ◌∷◌, length, Option, None}
 use Rattle.lp_model.specs.Outside.{Folder}
 use Rattle.lp_model.specs.Reading.{Format, standing_at}
 use Rattle.log_reading.specs.declared.span.Span.{Span}

@@ -1,12 +1,11 @@
 -- A stamp as a value.
-use Rattle.std.proofs.Common.{◌≡◌, ℕ, Bool, true, false, ◌==◌, List, Option, Some, None, ℤ, option_and_then, refl, sym, ◌∙◌, ap, arith}
+use Rattle.std.proofs.Common.{◌≡◌, Bool, true, false, ◌==◌, ℤ, refl, sym, ◌∙◌, ap, arith}
 use Rattle.std.proofs.lemmas.Bool.{and_from}
 use Rattle.std.proofs.lemmas.Bool.Decides.{nat_tests}
 use Rattle.std.proofs.lemmas.Int.{ints}
 use Rattle.lp_values.specs.declared.part.Part.{Part}
 use Rattle.lp_values.specs.declared.part.Part.TheVariants.{Date, Time, Both}
 use Rattle.lp_values.specs.declared.stamp.Stamp.{Stamp}
-use Rattle.lp_values.specs.declared.value.Value.{Value}
 use Rattle.lp_values.specs.declared.value.Value.TheVariants as V
 use Rattle.lp_values.specs.Moments.{second_of_day}
 use Rattle.lp_values.specs.Stamps.{IsStamp, IsInYears}

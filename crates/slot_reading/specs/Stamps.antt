@@ -1,10 +1,8 @@
 -- Stamps as values.
-use Rattle.std.specs.Prelude.{◌≡◌, Bool, true, false, ◌&&◌, ◌==◌, ℤ, pos, neg_ℤ, int_le, refl}
+use Rattle.std.specs.Prelude.{◌≡◌, Bool, true, false, ℤ, refl}
 use Rattle.lp_values.specs.declared.part.Part.{Part}
-use Rattle.lp_values.specs.declared.part.Part.TheVariants.{Date, Time, Both}
 use Rattle.lp_values.specs.declared.value.Value.{Value}
 use Rattle.lp_values.specs.declared.value.Value.TheVariants.{Null, Stamp}
-use Rattle.lp_values.specs.Moments.{second_of_day}
 use Rattle.slot_reading.specs.Existing.{is_stamp, IsStamp-tested}
 
 -- the stamp, where the test says that there is one

@@ -1,4 +1,4 @@
-use Rattle.std.proofs.Common.{◌≡◌, ◌⊎◌, List, ℕ, Option, IfOk, OnErr, sym, ◌∙◌, subst, FitsSigned, w64}
+use Rattle.std.proofs.Common.{IfOk, OnErr, sym, ◌∙◌, subst, FitsSigned, w64}
 use Rattle.std.proofs.lemmas.Int.{to_z-of_z}
 use Rattle.log_reading.specs.Spans.{BadLine}
 use Rattle.query_tree.specs.Views.{query_of}

@@ -5,7 +5,7 @@ use Rattle.log_listing.specs.Lengths.{names_in}
 use Rattle.lp_model.proofs.Growing.{OnlyGrow-refl}
 use Rattle.reports.specs.declared.status.Status.{Status}
 use Rattle.reports.specs.declared.status.Status.TheVariants.{LogsFault}
-use Rattle.logparser_cli.specs.Logs.{IsUnlisted, from_names}
+use Rattle.logparser_cli.specs.Logs.{IsUnlisted}
 use Rattle.logparser_cli.proofs.Wholes.{spans_of, there_of, is_unlisted, logs_failed, names_behind}
 use Rattle.logparser_cli.proofs.listing.find_spans.Goals as goal
 

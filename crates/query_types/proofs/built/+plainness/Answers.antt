@@ -1,5 +1,4 @@
-use Rattle.std.proofs.Common.{◌≡◌, ◌∙◌, ◌+◌, ◌&&◌, Bool, true, false, List, Option, option_map, Box, map, drop, ap, sym, arith}
-use Rattle.std.proofs.lemmas.List.{drop_all}
+use Rattle.std.proofs.Common.{◌∙◌, ◌+◌, ◌&&◌, Bool, true, false, List, Option, option_map, Box, map, drop, ap, sym}
 use Rattle.std.specs.declared.alloc.Global.{Global}
 use Rattle.grammar.specs.Trees.{otherwise_of}
 use Rattle.grammar.specs.Trees.{trees_of as listed}

@@ -1,4 +1,4 @@
-use Rattle.std.proofs.Common.{◌≡◌, ◌∙◌, ◌==◌, ap, sym}
+use Rattle.std.proofs.Common.{◌∙◌, ◌==◌, ap, sym}
 use Rattle.std.proofs.lemmas.Bool.{false_from_ne_true, eqb-true}
 use Rattle.query_types.specs.Calls.{is_aggregate}
 use Rattle.query_types.proofs.Arguments.{grouping_one, grouping_other}

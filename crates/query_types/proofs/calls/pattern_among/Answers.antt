@@ -1,4 +1,4 @@
-use Rattle.std.proofs.Common.{◌≡◌, ◌∙◌, ℕ, Option, ap, sym, subst, option_map, option_copied}
+use Rattle.std.proofs.Common.{◌∙◌, ℕ, Option, ap, sym, subst, option_map}
 use Rattle.grammar.specs.Trees.{Tree}
 use Rattle.grammar.specs.Trees.{trees_of as listed}
 use Rattle.query_tree.specs.Views.{tree_of, trees_of}

@@ -3,7 +3,6 @@ use Rattle.std.proofs.lemmas.List.{append-nil, drop_all, map_push}
 use Rattle.std.specs.declared.alloc.Global.{Global}
 use Rattle.grammar.specs.Trees.{place_of}
 use Rattle.grammar.specs.Trees.{trees_of as listed}
-use Rattle.lp_values.specs.declared.kind.Kind.TheVariants.{Any}
 use Rattle.query_tree.specs.Views.{tree_of}
 use Rattle.query_tree.specs.declared.expression.Expr.{Expr}
 use Rattle.query_types.specs.declared.fault.TypeFault.{TypeFault}

@@ -1,4 +1,4 @@
-use Rattle.std.proofs.Common.{◌≡◌, ◌∙◌, List, map, take, ap, sym, arith}
+use Rattle.std.proofs.Common.{◌∙◌, List, map, take, ap, sym, arith}
 use Rattle.std.proofs.lemmas.List.{take_all}
 use Rattle.query_types.specs.declared.form.Form.{Form}
 use Rattle.query_types.specs.Terms.{Term, Maker, maker_of, term_of, terms_of, made}

@@ -1,4 +1,4 @@
-use Rattle.std.proofs.Common.{◌≡◌, ◌∙◌, ◌+◌, ◌||◌, Bool, List, map, drop, ap, sym, arith}
+use Rattle.std.proofs.Common.{◌∙◌, ◌+◌, ◌||◌, Bool, List, map, drop, ap, sym, arith}
 use Rattle.std.proofs.lemmas.List.{drop_all}
 use Rattle.query_types.specs.declared.form.Form.{Form}
 use Rattle.query_types.specs.Terms.{term_of, terms_of, has_column, have_column}

@@ -1,4 +1,4 @@
-use Rattle.std.proofs.Common.{◌≡◌, ◌∙◌, ◌-◌, List, map, take, drop, length, ap, sym}
+use Rattle.std.proofs.Common.{◌∙◌, ◌-◌, map, take, drop, length, ap, sym}
 use Rattle.lp_values.specs.declared.kind.Kind.{Kind}
 use Rattle.query_types.specs.Meanings.{case_kind, sharper}
 use Rattle.query_types.specs.Terms.{term_of}

@@ -1,4 +1,4 @@
-use Rattle.std.proofs.Common.{◌≡◌, ◌∙◌, ap, sym, Ok}
+use Rattle.std.proofs.Common.{◌∙◌, ap, sym, Ok}
 use Rattle.lp_time.specs.Readings.{part_of, seconds_in}
 use Rattle.lp_values.specs.declared.value.Value.{Value}
 use Rattle.slot_reading.specs.Stamps.{stamp_value}

@@ -5,7 +5,7 @@ use Rattle.query_run.proofs.WholeRun.{gains_none}
 use Rattle.sampled_table.specs.Kept.{found_in}
 use Rattle.sampled_run.proofs.Begun.{front_written, written_under_way}
 use Rattle.sampled_run.proofs.beginning.write_kept.Goals as goal
-use Rattle.std.proofs.Common.{◌∙◌, ◌++◌, ap, length, true, List, ℕ}
+use Rattle.std.proofs.Common.{◌∙◌, ◌++◌, ap, length, true}
 
 pub returns-in_default-clause-front : goal.returns-in_default-clause-front
 returns-in_default-clause-front g c = λ more. gains_none _ (g.F.Shape.text c.args.shape true c.args.names.now (picked (g.P.Picker.picks c.args.picker) (map found_in c.args.rows.now ++ more)))

@@ -1,4 +1,4 @@
-use Rattle.std.proofs.Common.{◌≡◌, sym, ◌∙◌, refl, List, ℕ, Option}
+use Rattle.std.proofs.Common.{refl, List, ℕ, Option}
 use Rattle.sampled_run.specs.Past.{Past, Rules}
 use Rattle.sampled_run.specs.Holds.{Begun, Holds, IsWritten}
 use Rattle.sampled_run.specs.Stops.{IsStop}

@@ -1,5 +1,5 @@
-use Rattle.std.proofs.Common.{◌≡◌, [], ◌∷◌, refl, sym, ◌∙◌, ap, subst, true, false, ℕ, List, Option, None, IfOk, IfErr}
-use Rattle.lp_model.specs.Outside.{Folder, Told}
+use Rattle.std.proofs.Common.{ap, subst, false, Option, IfOk, IfErr}
+use Rattle.lp_model.specs.Outside.{Told}
 use Rattle.query_tree.specs.Views.{query_of}
 use Rattle.log_reading.specs.Page.{IsTooMany}
 use Rattle.log_reading.specs.Spans.{AreKept, spans_bad_lines}
@@ -9,7 +9,7 @@ use Rattle.output_formats.specs.Headers.{csv_of}
 use Rattle.output_formats.specs.declared.csv.Headers.{Headers}
 use Rattle.query_run.specs.declared.executing.Counts.{Counts}
 use Rattle.sampled_run.specs.declared.fault.SampleFault.{SampleFault}
-use Rattle.sampled_run.specs.Past.{Past, Rules, rules_of}
+use Rattle.sampled_run.specs.Past.{Rules, rules_of}
 use Rattle.sampled_run.specs.Spans.{past_behind, past_of}
 use Rattle.sampled_run.specs.Ran.{IsSampled, IsStoppedBy, OnBadOne}
 use Rattle.sampled_run.proofs.Answered.{if_ok, if_err}

@@ -1,15 +1,15 @@
-use Rattle.std.proofs.Common.{◌≡◌, [], ◌∷◌, refl, sym, ◌∙◌, ap, subst, Err, true, false, ℕ, List, Option, None, arith}
+use Rattle.std.proofs.Common.{[], refl, sym, ◌∙◌, ap, subst, Err, false, ℕ, Option, None, arith}
 use Rattle.lp_model.proofs.Growing.{OnlyGrow-refl}
-use Rattle.lp_model.specs.Outside.{Folder, Told}
+use Rattle.lp_model.specs.Outside.{Told}
 use Rattle.query_tree.specs.Views.{query_of}
 use Rattle.log_reading.proofs.Faults.{bad_line_so}
 use Rattle.log_reading.specs.Page.{IsTooMany, IsWithin}
 use Rattle.log_reading.specs.Spans.{AreKept, BadLine, spans_bad_lines}
 use Rattle.log_reading.specs.declared.span.RunFault.{RunFault}
 use Rattle.sampled_run.specs.declared.fault.SampleFault.{SampleFault}
-use Rattle.sampled_run.specs.Past.{Past, Rules, rules_of}
+use Rattle.sampled_run.specs.Past.{rules_of}
 use Rattle.sampled_run.specs.Spans.{past_behind}
-use Rattle.sampled_run.specs.Ran.{IsSampled, IsStoppedBy, OnBadOne}
+use Rattle.sampled_run.specs.Ran.{IsStoppedBy, OnBadOne}
 use Rattle.sampled_run.proofs.Sizes.{has_room, within_none}
 use Rattle.sampled_run.proofs.Ran.{ran, stopped_reading, stopped_ending, stopped_at_once, bad_in, fault_same, logs_in, output_in}
 use Rattle.sampled_run.proofs.running.sample_reader.Goals as goal

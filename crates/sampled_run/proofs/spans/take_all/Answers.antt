@@ -6,7 +6,7 @@ use Rattle.log_reading.proofs.SpansTaken.{there_all, size_more}
 use Rattle.log_reading.proofs.Faults.{handed_on, bad_line_so}
 use Rattle.log_reading.specs.Page.{IsTooMany}
 use Rattle.log_reading.specs.Spans.{BadLine, OnBadLine, AreKept, spans_bad_lines}
-use Rattle.sampled_run.proofs.Taken.{samples_nothing, samples_one_more, halted_within, exceeded}
+use Rattle.sampled_run.proofs.Taken.{samples_one_more, halted_within, exceeded}
 use Rattle.sampled_run.proofs.spans.take_all.Goals as goal
 
 pub returns-in_err-take_one-clause-grows : goal.returns-in_err-take_one-clause-grows

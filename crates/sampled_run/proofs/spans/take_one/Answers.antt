@@ -1,7 +1,6 @@
 use Rattle.log_reading.proofs.Faults.{handed_on}
 use Rattle.lp_model.proofs.Results.{on_err}
 use Rattle.std.proofs.Common.{refl}
-use Rattle.log_reading.specs.declared.page.Page.{Page}
 use Rattle.sampled_run.proofs.Taken.{one_taken, one_halted, one_stopped}
 use Rattle.sampled_run.proofs.spans.take_one.Goals as goal
 

@@ -1,6 +1,6 @@
-use Rattle.std.proofs.Common.{◌≡◌, sym, ◌∙◌, ap, subst}
+use Rattle.std.proofs.Common.{sym, ◌∙◌, ap, subst}
 use Rattle.query_tree.specs.Views.{query_of}
-use Rattle.sampled_run.specs.Counts.{taken_in, IsRefusedIn}
+use Rattle.sampled_run.specs.Counts.{taken_in}
 use Rattle.sampled_run.specs.Holds.{PhaseHolds, PhaseStopped}
 use Rattle.sampled_run.specs.Laws.{phase_front}
 use Rattle.sampled_run.specs.Stops.{IsStop}

@@ -1,4 +1,3 @@
-use Rattle.std.proofs.Common.{sym, ap, ◌∙◌}
 use Rattle.slot_reading.proofs.Texts.{text_in-utf8, text_in-other}
 use Rattle.slot_reading.proofs.slots.text_in.Goals as goal
 

@@ -1,4 +1,4 @@
-use Rattle.std.proofs.Common.{ℕ, ◌-◌, length, true, false, [], ◌∷◌, ◌++◌, option_map, refl, sym, ◌∙◌, ap}
+use Rattle.std.proofs.Common.{ℕ, ◌-◌, length, true, false, [], ◌∷◌, option_map, refl, sym, ◌∙◌, ap}
 use Rattle.std.proofs.lemmas.Result.{err_from_is_err_and}
 use Rattle.grammar.specs.declared.Class.TheVariants as class
 use Rattle.grammar.specs.Classes.{is_a}
@@ -6,7 +6,7 @@ use Rattle.grammar.specs.Trees.{and_of, or_of}
 use Rattle.grammar.specs.Forms.{Rule as r}
 use Rattle.grammar.specs.Rules.{a, behind, conj, neg}
 use Rattle.grammar.proofs.Answering.{reads_map, reads_seq, reads_behind, reads_before, reads_left, reads_right, reads_absent, reads_present, reads_nest, reads_ref, so_far_start, so_far_as, so_far_more, so_far_end, so_far_ref, reads_alt_left, reads_alt_right}
-use Rattle.query_tree.specs.Views.{tree_of, placed_of, test_of}
+use Rattle.query_tree.specs.Views.{tree_of, test_of}
 use Rattle.query_tree.specs.Views as views
 use Rattle.query_parser.specs.Conditions.{tail_of, range_of, set_of, items_with, subquery_with}
 use Rattle.query_parser.specs.declared.tail.Values.TheVariants as v

@@ -7,7 +7,6 @@ use Rattle.grammar.specs.Rules.{a, behind, using}
 use Rattle.grammar.specs.Trees.{Item}
 use Rattle.query_tree.specs.Views.{item_of}
 use Rattle.grammar.proofs.Answering.{reads_behind, so_far_start, so_far_as, so_far_more, so_far_end}
-use Rattle.query_tree.specs.Views.{tree_of, placed_of, test_of}
 use Rattle.query_tree.specs.Views as views
 use Rattle.query_parser.proofs.Stopping.{stop_map, stop_first, stop_second, stop_more, given_ok, given_err}
 use Rattle.query_parser.proofs.Steps.{reads_as, pushed, seen_shorter}

@@ -1,8 +1,6 @@
 use Rattle.std.proofs.Common.{refl, ap}
 use Rattle.std.proofs.lemmas.Result.{err_from_is_err_and}
-use Rattle.grammar.specs.Trees.{Tree, Token, Placed, and_of, or_of, tested_of, subquery_of}
 use Rattle.grammar.specs.Trees.{Tree as tree}
-use Rattle.grammar.specs.Trees.{Query as query}
 use Rattle.grammar.specs.Trees as model
 use Rattle.grammar.proofs.Answering.{reads_map, reads_seq}
 use Rattle.query_tree.specs.Views.{tree_of}

@@ -1,13 +1,12 @@
 use Rattle.std.proofs.Common.{◌≡◌, List, [], ◌∷◌, ◌++◌, refl, sym, ap, append-nil}
 use Rattle.std.proofs.lemmas.List.{map_push}
 use Rattle.std.proofs.lemmas.Result.{err_from_is_err_and}
-use Rattle.grammar.specs.Trees.{Tree, Token, Placed, and_of, or_of, tested_of, subquery_of}
+use Rattle.grammar.specs.Trees.{Tree}
 use Rattle.grammar.specs.Trees.{Tree as tree}
-use Rattle.grammar.specs.Trees.{Query as query}
 use Rattle.grammar.specs.Trees as model
 use Rattle.grammar.specs.Rules.{behind, is_separator, expr}
 use Rattle.grammar.proofs.Answering.{reads_behind, so_far_start, so_far_as, so_far_more, so_far_end, so_far_map}
-use Rattle.query_tree.specs.Views.{tree_of, placed_of, test_of}
+use Rattle.query_tree.specs.Views.{tree_of}
 use Rattle.query_tree.specs.Views as views
 use Rattle.grammar.specs.Forms.{Tok}
 use Rattle.query_parser.proofs.Stopping.{stop_map, stop_first, stop_second, stop_more, given_ok, given_err}
