@@ -137,44 +137,44 @@ quoted_at separator line from to within e =
     ∙ ap (λ rest. behind_bytes (part_of line from to) (quoted_field separator rest)) (drop-drop n from line ∙ ap (λ k. drop k line) sum))
 
 -- the bytes of a field up to a place were added
-pub record AddedUpTo (separator : ℕ) (line : List ℕ) (from at to : ℕ) (old held : List ℕ) : Type 0 where
+pub record AddedUpTo (line : List ℕ) (from at to : ℕ) (old held : List ℕ) : Type 0 where
   pub start : at ≤ length line
   pub here : to ≡ at + position_or_len (is_byte 34) (drop at line)
   pub within : to ≤ length line
-  pub bytes : behind_bytes old (quoted_field separator (drop from line)) ≡ behind_bytes held (quoted_field separator (drop at line))
+  pub bytes : (separator : ℕ) → behind_bytes old (quoted_field separator (drop from line)) ≡ behind_bytes held (quoted_field separator (drop at line))
 
-pub added_last : (separator : ℕ) (line : List ℕ) (from at to : ℕ) (old held all : List ℕ) → AddedUpTo separator line from at to old held → all ≡ held ++ part_of line at to
-    → behind_bytes old (quoted_field separator (drop from line)) ≡ behind_bytes all (quoted_field separator (drop to line))
-added_last separator line from at to old held all so_far more =
-    so_far.bytes
+pub added_last : (line : List ℕ) (from at to : ℕ) (old held all : List ℕ) → AddedUpTo line from at to old held → all ≡ held ++ part_of line at to
+    → (separator : ℕ) → behind_bytes old (quoted_field separator (drop from line)) ≡ behind_bytes all (quoted_field separator (drop to line))
+added_last line from at to old held all so_far more separator =
+    so_far.bytes separator
     ∙ (ap (behind_bytes held) (quoted_at separator line at to so_far.start so_far.here)
     ∙ (behind_both held (part_of line at to) (quoted_field separator (drop to line))
     ∙ ap (λ (bytes : List ℕ). behind_bytes bytes (quoted_field separator (drop to line))) (sym more)))
 
-pub added_more : (separator : ℕ) (line : List ℕ) (from at to next : ℕ) (old held all : List ℕ) → AddedUpTo separator line from at to old held → is_doubled (drop to line) ≡ true → all ≡ held ++ part_of line at (to + 1)
-    → next ≡ to + 2 + position_or_len (is_byte 34) (drop (to + 2) line) → next ≤ length line → AddedUpTo separator line from (to + 2) next old all
-added_more separator line from at to next old held all so_far two more here within =
-    let doubled = quoted_doubled separator (drop to line) two in
+pub added_more : (line : List ℕ) (from at to next : ℕ) (old held all : List ℕ) → AddedUpTo line from at to old held → is_doubled (drop to line) ≡ true → all ≡ held ++ part_of line at (to + 1)
+    → next ≡ to + 2 + position_or_len (is_byte 34) (drop (to + 2) line) → next ≤ length line → AddedUpTo line from (to + 2) next old all
+added_more line from at to next old held all so_far two more here within =
+    let first = (quoted_doubled 0 (drop to line) two).first in
     let size = length-drop to line in
     let many = length-drop at line in
-    let room = doubled.size in
+    let room = (quoted_doubled 0 (drop to line) two).size in
     let order : at ≤ to = omega (arith, so_far.here) in
     let span : to + 1 - at ≡ to - at + 1 = omega arith in
     let place : at + (to - at) ≡ to = omega arith in
     let zero_more : to ≡ to + 0 = omega arith in
-    let quote : get_or (drop at line) (to - at) 0 ≡ 34 = get_or-drop at line (to - at) 0 ∙ (ap (λ k. get_or line k 0) (place ∙ zero_more) ∙ (sym (get_or-drop to line 0 0) ∙ doubled.first)) in
+    let quote : get_or (drop at line) (to - at) 0 ≡ 34 = get_or-drop at line (to - at) 0 ∙ (ap (λ k. get_or line k 0) (place ∙ zero_more) ∙ (sym (get_or-drop to line 0 0) ∙ first)) in
     let part : part_of line at (to + 1) ≡ part_of line at to ++ 34 ∷ [] = ap (λ k. take k (drop at line)) span
     ∙ (take_more (drop at line) (to - at) 0 (omega arith) ∙ ap (λ (b : ℕ). part_of line at to ++ b ∷ []) quote) in
-    let rest : Cut = quoted_field separator (drop (to + 2) line) in
     let left : drop 2 (drop to line) ≡ drop (to + 2) line = drop-drop 2 to line in
     record {
       start = omega arith;
       here = here;
       within = within;
-      bytes = added_last separator line from at to old held (held ++ part_of line at to) so_far refl
-          ∙ (ap (behind_bytes (held ++ part_of line at to)) (doubled.cut ∙ ap (λ (ys : List ℕ). behind_bytes (34 ∷ []) (quoted_field separator ys)) left)
-          ∙ (behind_both (held ++ part_of line at to) (34 ∷ []) rest
-          ∙ ap (λ (bytes : List ℕ). behind_bytes bytes rest) (append_assoc held (part_of line at to) (34 ∷ []) ∙ (ap (λ (bytes : List ℕ). held ++ bytes) (sym part) ∙ sym more))));
+      bytes = λ separator.
+          added_last line from at to old held (held ++ part_of line at to) so_far refl separator
+          ∙ (ap (behind_bytes (held ++ part_of line at to)) ((quoted_doubled separator (drop to line) two).cut ∙ ap (λ (ys : List ℕ). behind_bytes (34 ∷ []) (quoted_field separator ys)) left)
+          ∙ (behind_both (held ++ part_of line at to) (34 ∷ []) (quoted_field separator (drop (to + 2) line))
+          ∙ ap (λ (bytes : List ℕ). behind_bytes bytes (quoted_field separator (drop (to + 2) line))) (append_assoc held (part_of line at to) (34 ∷ []) ∙ (ap (λ (bytes : List ℕ). held ++ bytes) (sym part) ∙ sym more))));
     }
 
 -- ---- what stands behind a quote

@@ -100,15 +100,10 @@ fn step_behind(separator: u8, line: &[u8], at: usize) -> Step
 
 // Adds what a field in quotes holds from a place on, and tells where the quote stands that isn't doubled, or the line's
 // end.
-fn add_quoted(
-    separator: u8,
-    line: &[u8],
-    from: usize,
-    held: &mut Bytes,
-) -> Result<usize, AllocError>
+fn add_quoted(line: &[u8], from: usize, held: &mut Bytes) -> Result<usize, AllocError>
     requires { from ≤ length line.now }
     ensures within { IfOk result (λ to. to ≤ length line.now) }
-    ensures bytes { IfOk result (λ to. behind_bytes held.old (quoted_field separator (drop from line.now)) ≡ behind_bytes held.new (quoted_field separator (drop to line.now))) }
+    ensures bytes { IfOk result (λ to. (separator : ℕ) → behind_bytes held.old (quoted_field separator (drop from line.now)) ≡ behind_bytes held.new (quoted_field separator (drop to line.now))) }
 {
     let mut at = from;
     let mut to = at + length_before(b'"', bytes_from(line, at));
@@ -137,7 +132,7 @@ fn take_doubled(
     ensures { IfOk result (IsStep true (quoted_field separator (drop from line.now)) line.now row.old row.new) }
 {
     let mut held = Bytes::new(alloc);
-    let to = add_quoted(separator, line, from, &mut held)?;
+    let to = add_quoted(line, from, &mut held)?;
     row.push(own_slot(held))?;
     Ok(step_behind(separator, line, to))
 }

@@ -17,9 +17,9 @@ loop-held-preserved c =
     let here = ap (λ n. to + 2 + n) (c.length_before-in-loop-held.ensures.length ∙ ap (position_or_len (is_byte 34)) c.bytes_from-in-loop-held.ensures) in
     let left : length c.bytes_from-in-loop-held.result.now ≡ length (drop (to + 2) line) = ap length c.bytes_from-in-loop-held.ensures in
     let within : to + 2 + c.length_before-in-loop-held.result ≤ length line = omega (arith, left, length-drop (to + 2) line, doubled_within line to two, c.length_before-in-loop-held.ensures.fits) in
-    added_more c.args.separator line c.args.from c.loop-held.at to (to + 2 + c.length_before-in-loop-held.result) c.args.held.now c.loop-held.held c.add.new.self c.loop-held.invariant two more here within
+    added_more line c.args.from c.loop-held.at to (to + 2 + c.length_before-in-loop-held.result) c.args.held.now c.loop-held.held c.add.new.self c.loop-held.invariant two more here within
 
 pub returns-clause-bytes : goal.returns-clause-bytes
 returns-clause-bytes c =
-    added_last c.args.separator c.args.line.now c.args.from c.loop-held.at c.loop-held.to c.args.held.now c.loop-held.held c.add-2.new.self c.loop-held.invariant
+    added_last c.args.line.now c.args.from c.loop-held.at c.loop-held.to c.args.held.now c.loop-held.held c.add-2.new.self c.loop-held.invariant
     (c.in_ok-add-2.ensures.ok ∙ ap (λ (bytes : List ℕ). c.loop-held.held ++ bytes) c.of-2.ensures)

@@ -4,7 +4,7 @@ use Rattle.delimited_input.proofs.piece.add_quoted.Given as goal
 
 -- the bytes before the place were added
 abbrev pub invariant-loop-held : goal.invariant-loop-held
-invariant-loop-held l = AddedUpTo l.separator l.line l.from l.at l.to l.initial.held l.held
+invariant-loop-held l = AddedUpTo l.line l.from l.at l.to l.initial.held l.held
 
 abbrev pub decreases-loop-held : goal.decreases-loop-held
 decreases-loop-held l = length l.line - l.at

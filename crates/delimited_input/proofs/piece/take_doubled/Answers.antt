@@ -9,4 +9,4 @@ returns c =
     let line = c.args.line.now in
     let cut = quoted_field c.args.separator (drop c.args.from line) in
     step_closed line cut (quoted_field c.args.separator (drop c.in_ok-to.to line)) c.add_quoted.new.held c.args.row.now c.push.new.self c.own_slot.result c.step_behind.result
-    (sym (ap (λ (bytes : List ℕ). behind_bytes bytes cut) c.new-held.ensures) ∙ c.in_ok-to.ensures.bytes) c.step_behind.ensures c.in_ok-push.ensures.ok (c.own_slot.ensures line)
+    (sym (ap (λ (bytes : List ℕ). behind_bytes bytes cut) c.new-held.ensures) ∙ c.in_ok-to.ensures.bytes c.args.separator) c.step_behind.ensures c.in_ok-push.ensures.ok (c.own_slot.ensures line)
