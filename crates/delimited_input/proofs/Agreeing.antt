@@ -6,7 +6,6 @@ use Rattle.std.specs.Option.{option_to_list}
 use Rattle.std.proofs.lemmas.List.{append-nil}
 use Rattle.memchr.specs.Find.{is_byte}
 use Rattle.delimited_input.specs.Fields.{Cut, plain_field, quoted_field, first_field, fields_among, fields_of}
-use Rattle.delimited_input.specs.Shapes.{IsPlain}
 use Rattle.delimited_input.proofs.Places.{Rest, onto, all_of, rest_from, line_fields}
 use Rattle.delimited_input.proofs.Places.Place.{Start, Plain, Quoted}
 
@@ -148,6 +147,10 @@ plain_kept separator (b ∷ bs) rest plain e =
           ]
     ]
 
+-- no quote opens a field
+abbrev IsPlain : Bool → List ℕ → Type 0
+IsPlain quotes line = quotes ≡ true → list_any is_quote line ≡ false
+
 -- no quote opens the first field
 first_plain : (separator : ℕ) (quotes : Bool) (xs : List ℕ) → IsPlain quotes xs → first_field separator quotes xs ≡ plain_field separator xs
 unfolding first_field plain_field
@@ -170,10 +173,19 @@ parts_are separator quotes line plain =
 
 -- ---- one field, and the fields behind it
 
-pub fields_step : (separator : ℕ) (xs : List ℕ) → fields_of separator true xs ≡ one_more separator true (fields_of separator true) xs
-fields_step separator xs =
-    sym (line_fields_are separator xs) ∙ (ap all_of (start_agrees separator xs) ∙ ap (λ (t : List (List ℕ)). (first_field separator true xs).0 ∷ t) (rest_same (first_field separator true xs).1))
-  where
-    rest_same : (r : Option (List ℕ)) → flat_map (line_fields separator true) (option_to_list r) ≡ flat_map (fields_of separator true) (option_to_list r)
-    rest_same None = refl
-    rest_same (Some rest) = ap (λ (t : List (List ℕ)). t ++ []) (line_fields_are separator rest)
+-- lists that are the fields, behind a field
+rest_same : (separator : ℕ) (quotes : Bool) (all : List ℕ → List (List ℕ)) → ((xs : List ℕ) → all xs ≡ fields_of separator quotes xs) → (r : Option (List ℕ)) → flat_map all (option_to_list r) ≡ flat_map (fields_of separator quotes) (option_to_list r)
+rest_same separator quotes all are None = refl
+rest_same separator quotes all are (Some rest) = ap (λ (t : List (List ℕ)). t ++ []) (are rest)
+
+pub fields_step : (separator : ℕ) (quotes : Bool) (xs : List ℕ) → fields_of separator quotes xs ≡ one_more separator quotes (fields_of separator quotes) xs
+fields_step separator true xs =
+    sym (line_fields_are separator xs)
+    ∙ (ap all_of (start_agrees separator xs)
+    ∙ ap (λ (t : List (List ℕ)). (first_field separator true xs).0 ∷ t) (rest_same separator true (line_fields separator true) (line_fields_are separator) (first_field separator true xs).1))
+fields_step separator false xs =
+    let parts : (xs : List ℕ) → slice_split (is_byte separator) xs ≡ fields_of separator false xs = λ xs. parts_are separator false xs (λ quoted. absurd cc) in
+    sym (parts xs)
+    ∙ (plain_parts separator xs
+    ∙ (ap (as_parts separator) (sym (first_plain separator false xs (λ quoted. absurd cc)))
+    ∙ ap (λ (t : List (List ℕ)). (first_field separator false xs).0 ∷ t) (rest_same separator false (slice_split (is_byte separator)) parts (first_field separator false xs).1)))

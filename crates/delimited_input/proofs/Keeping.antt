@@ -36,7 +36,7 @@ no_field (f ∷ fs) (suc index) e = let more = no_field fs index e in omega arit
 
 -- the row has no further field
 pub kept_all : (line : List ℕ) (all : List (List ℕ)) (index most : ℕ) (fields : List Slot) → slots_of line fields ≡ map slot_of (take index all) → field_at all index ≡ None → index < most
-    → IsCut line all most (record { fields = fields; whole = true })
+    → IsCut line all most fields true
 kept_all line all index most fields kept none room =
     let few = no_field all index none in
     record {
@@ -46,7 +46,7 @@ kept_all line all index most fields kept none room =
 
 -- as many fields are kept as are wanted
 pub kept_full : (line : List ℕ) (all : List (List ℕ)) (index most size : ℕ) (fields : List Slot) → slots_of line fields ≡ map slot_of (take index all) → index ≡ most → size ≡ length all
-    → IsCut line all most (record { fields = fields; whole = nat_le size most })
+    → IsCut line all most fields (nat_le size most)
 kept_full line all index most size fields kept full many = record {
   kept = kept ∙ ap (λ n. map slot_of (take n all)) full;
   whole = ap (λ n. nat_le n most) many;

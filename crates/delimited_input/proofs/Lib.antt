@@ -11,3 +11,4 @@ pub mod Carrying
 pub mod Sampling
 pub mod Telling
 pub mod Written
+mod PieceLemmas

@@ -1,12 +1,12 @@
 -- What searches of a line tell.
-use Rattle.std.proofs.Common.{◌≡◌, ℕ, suc, ◌<◌, ◌≤◌, Bool, true, false, ◌==◌, List, [], ◌∷◌, length, get_or, unwrap_or, Option, Some, None, is_some, refl, sym, arith, inl, inr}
+use Rattle.std.proofs.Common.{◌≡◌, ℕ, suc, ◌<◌, ◌≤◌, Bool, true, false, List, [], ◌∷◌, length, get_or, unwrap_or, Option, Some, None, is_some, refl, sym, ◌∙◌, arith, inl, inr}
 use Rattle.std.proofs.lemmas.Bool.{false_from_ne_true, cases_Bool}
 use Rattle.std.proofs.lemmas.List.Folds.{list_any_at}
 use Rattle.std.proofs.lemmas.List.Sums.{position_or_len_is}
 use Rattle.std.specs.List.{list_any, position_or_len, AllByRecursion}
 use Rattle.std.proofs.lemmas.Bool.Decides.{nat_tests}
 use Rattle.delimited_input.proofs.Places.{IsInLine}
-use Rattle.memchr.specs.Find.{IsFirstByte, is_byte, is_byte2, is_byte3}
+use Rattle.memchr.specs.Find.{IsFirstByte, is_byte, is_byte2}
 use Rattle.delimited_input.specs.Lines.{is_broken, ends_lines}
 
 none_passes : (test : ℕ → Bool) (xs : List ℕ) → ((k : ℕ) → k < length xs → test (get_or xs k 0) ≡ false) → list_any test xs ≡ false
@@ -21,49 +21,14 @@ found_some : (test : ℕ → Bool) (line : List ℕ) (r : Option ℕ) → IsFirs
 found_some test line None nowhere e = absurd cc
 found_some test line (Some at) first e = list_any_at test line at 0 first.0.high first.1
 
-any_apart : (p both : ℕ → Bool) → ((x : ℕ) → both x ≡ false → (p x ≡ false)) → (xs : List ℕ) → list_any both xs ≡ false → list_any p xs ≡ false
-any_apart p both apart [] e = refl
-any_apart p both apart (x ∷ xs) e =
-    elim (cases_Bool (both x)) [
-      | inl is ↦ let h : true ≡ false = rw is at e in absurd cc
-      | inr other ↦ let h : list_any both xs ≡ false = rw other at e in let first = apart x other in rw first (any_apart p both apart xs h)
+-- whether a line has a line's end inside
+pub broken_told : (line : List ℕ) (r : Option ℕ) → IsFirstByte (is_byte2 13 10) line r → is_some r ≡ is_broken line
+unfolding is_broken
+broken_told line r found =
+    elim (cases_Bool (is_some r)) [
+      | inl some ↦ some ∙ sym (found_some ends_lines line r found some)
+      | inr none ↦ none ∙ sym (found_nothing ends_lines line r found none)
     ]
-
-ends_apart : (x : ℕ) → is_byte3 13 10 34 x ≡ false → ends_lines x ≡ false
-ends_apart x e = elim (cases_Bool (x == 13)) [
-  | inl is ↦ let h : true ≡ false = rw is at e in absurd cc
-  | inr cr ↦ elim (cases_Bool (x == 10)) [
-    | inl is ↦ let h : true ≡ false = rw (cr, is) at e in absurd cc
-    | inr lf ↦ rw (cr, lf) refl
-  ]
-]
-
-quote_apart : (x : ℕ) → is_byte3 13 10 34 x ≡ false → (x == 34) ≡ false
-quote_apart x e = elim (cases_Bool (x == 34)) [
-  | inl is ↦ elim (cases_Bool (x == 13)) [
-    | inl cr ↦ let h : true ≡ false = rw cr at e in absurd cc
-    | inr cr ↦ elim (cases_Bool (x == 10)) [
-      | inl lf ↦ let h : true ≡ false = rw (cr, lf) at e in absurd cc
-      | inr lf ↦ let h : true ≡ false = rw (cr, lf, is) at e in absurd cc
-    ]
-  ]
-  | inr other ↦ other
-]
-
--- neither a line's end nor a quote
-pub plain_found : (line : List ℕ) (r : Option ℕ) → IsFirstByte (is_byte3 13 10 34) line r → is_some r ≡ false → (is_broken line ≡ false) × (list_any (λ b. b == 34) line ≡ false)
-unfolding is_broken
-plain_found line r found none =
-    let nothing = found_nothing (is_byte3 13 10 34) line r found none in
-    (any_apart ends_lines (is_byte3 13 10 34) ends_apart line nothing, any_apart (λ b. b == 34) (is_byte3 13 10 34) quote_apart line nothing)
-
-pub broken_found : (line : List ℕ) (r : Option ℕ) → IsFirstByte (is_byte2 13 10) line r → is_some r ≡ true → is_broken line ≡ true
-unfolding is_broken
-broken_found line r found e = found_some ends_lines line r found e
-
-pub whole_found : (line : List ℕ) (r : Option ℕ) → IsFirstByte (is_byte2 13 10) line r → is_some r ≡ false → is_broken line ≡ false
-unfolding is_broken
-whole_found line r found e = found_nothing ends_lines line r found e
 
 -- how far the first of some bytes is
 pub length_found : (separator : ℕ) (bytes : List ℕ) (r : Option ℕ) → IsFirstByte (is_byte separator) bytes r → unwrap_or r (length bytes) ≡ position_or_len (is_byte separator) bytes

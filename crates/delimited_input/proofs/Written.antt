@@ -94,9 +94,9 @@ read_back only [] some = absurd (omega arith)
 read_back only (field ∷ []) some =
     let text : List ℕ = csv_field only field in
     let whole : first_field 44 true text ≡ (field, None) = ap (first_field 44 true) (sym (append-nil text)) ∙ first_none only field in
-    fields_step 44 text ∙ ap (λ (cut : Cut). cut.0 ∷ flat_map (fields_of 44 true) (option_to_list cut.1)) whole
+    fields_step 44 true text ∙ ap (λ (cut : Cut). cut.0 ∷ flat_map (fields_of 44 true) (option_to_list cut.1)) whole
 read_back only (field ∷ next ∷ fields) some =
     let more : List ℕ = join_with_byte 44 (map (csv_field only) (next ∷ fields)) in
-    fields_step 44 (csv_field only field ++ 44 ∷ more)
+    fields_step 44 true (csv_field only field ++ 44 ∷ more)
     ∙ (ap (λ (cut : Cut). cut.0 ∷ flat_map (fields_of 44 true) (option_to_list cut.1)) (first_some only field more)
     ∙ ap (λ (t : List (List ℕ)). field ∷ t) (append-nil (fields_of 44 true more) ∙ read_back only (next ∷ fields) (omega arith)))

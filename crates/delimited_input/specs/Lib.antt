@@ -1,7 +1,7 @@
 pub mod Fields
 pub mod Names
 pub mod Lines
-pub mod Shapes
+pub mod Pieces
 pub mod Cuts
 pub mod Kept
 pub mod Separators

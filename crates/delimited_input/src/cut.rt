@@ -1,74 +1,45 @@
 // The fields of a line.
-ghost use Rattle.std.specs.Prelude.{◌≡◌, ◌≤◌, ◌<◌, ◌==◌, true, false, List, ℕ, All, length, take, drop, IfOk, option_map};
-ghost use Rattle.std.specs.List.{position_or_len, slice_split};
+ghost use Rattle.std.specs.Prelude.{◌≡◌, ◌<◌, true, false, List, ℕ, length, is_none, IfOk, IfSome};
 ghost use Rattle.csv.specs.Records.{fields_of as record_fields};
-ghost use Rattle.memchr.specs.Find.{is_byte};
-ghost use Rattle.line_input.specs.Taken.{slot_bytes, part_of};
+ghost use Rattle.line_input.specs.Taken.{slot_bytes};
 ghost use Rattle.delimited_input.specs.Cuts.{IsCut};
 ghost use Rattle.delimited_input.specs.Fields.{fields_of};
 ghost use Rattle.delimited_input.specs.Lines.{fields_in, is_broken, slot_of};
-ghost use Rattle.delimited_input.specs.Shapes.{HasShape};
 
 use crate::DelimitedOptions;
-use crate::shape::Shape;
+use crate::piece::{Step, own_slot, take_field};
 use csv::{ByteRecord, ReaderBuilder};
-use line_input::{Extent, Fields, Slot};
-use lp_values::{Bytes, bytes_from};
-use memchr::memchr;
+use line_input::{Fields, Slot};
+use lp_values::Bytes;
 use std::alloc::{AllocError, Global};
 use std::io::Read;
 
 // A reader takes one byte order mark off what it reads.
 const MARK: [u8; 3] = [0xEF, 0xBB, 0xBF];
 
-/// The first fields of a line, and whether these are all of them.
-#[derive(Drop)]
-pub(crate) struct Cut {
-    pub(crate) fields: Fields,
-    pub(crate) whole: bool,
-}
-
-// How many bytes stand before the first separator.
-fn field_length(separator: u8, bytes: &[u8]) -> usize
-    ensures length { result ≡ position_or_len (is_byte separator) bytes.now }
-    ensures fits { result ≤ length bytes.now }
+// Puts the first fields of a line into `row`, at most so many, and tells whether these are all; or nothing, where a field
+// is in quotes that aren't closed, or that text follows.
+fn cut_closed(
+    alloc: Global,
+    separator: u8,
+    quotes: bool,
+    line: &[u8],
+    most: usize,
+    row: &mut Fields,
+) -> Result<Option<bool>, AllocError>
+    ensures cut { IfOk result (λ all. IfSome all (IsCut line.now (fields_of separator quotes line.now) most row.new)) }
+    ensures other { IfOk result (λ all. is_none all ≡ true → quotes ≡ true) }
 {
-    memchr(separator, bytes).unwrap_or(bytes.len())
-}
-
-// The field that stands there; an empty one is none.
-fn slot_at(alloc: Global, line: &[u8], from: usize, to: usize) -> Result<Slot, AllocError>
-    requires order { from ≤ to }
-    requires within { to ≤ length line.now }
-    ensures { IfOk result (λ slot. slot_bytes line.now slot ≡ slot_of (part_of line.now from to)) }
-{
-    if from == to {
-        return Ok(Slot::Absent);
-    }
-    Extent { from, to }.slot(alloc, line)
-}
-
-// The first fields of a line in which no quote opens a field, at most so many.
-fn cut_plain(alloc: Global, separator: u8, line: &[u8], most: usize) -> Result<Cut, AllocError>
-    ensures { IfOk result (IsCut line.now (slice_split (is_byte separator) line.now) most) }
-{
-    let mut fields = Fields::new(alloc);
+    row.clear();
     let mut at = 0;
     for _ in 0..most {
-        let to = at + field_length(separator, bytes_from(line, at));
-        fields.push(slot_at(alloc, line, at, to)?)?;
-        if to == line.len() {
-            return Ok(Cut {
-                fields,
-                whole: true,
-            });
+        match take_field(alloc, separator, quotes, line, at, row)? {
+            Step::Next(next) => at = next,
+            Step::Last => return Ok(Some(true)),
+            Step::Other => return Ok(None),
         }
-        at = to + 1;
     }
-    Ok(Cut {
-        fields,
-        whole: false,
-    })
+    Ok(Some(false))
 }
 
 // Reads a line in which a quote may open a field.
@@ -91,69 +62,72 @@ fn read_quoted(alloc: Global, separator: u8, line: &[u8]) -> Result<ByteRecord, 
     }
 }
 
-// A field that keeps its bytes; an empty one is none.
-fn own_slot(alloc: Global, field: &[u8]) -> Result<Slot, AllocError>
+// A field that keeps its bytes.
+fn copied_slot(alloc: Global, field: &[u8]) -> Result<Slot, AllocError>
     ensures { IfOk result (λ slot. (line : List ℕ) → slot_bytes line slot ≡ slot_of field.now) }
 {
-    if field.is_empty() {
-        return Ok(Slot::Absent);
-    }
     let mut own = Bytes::new(alloc);
     own.add(field)?;
-    Ok(Slot::Own(own))
+    Ok(own_slot(own))
 }
 
-// The first fields of a row, at most so many.
-fn keep_fields(alloc: Global, row: &ByteRecord, most: usize) -> Result<Cut, AllocError>
-    ensures { IfOk result (λ cut. (line : List ℕ) → IsCut line (record_fields row.now) most cut) }
+// Puts the first fields of a record into `row`, at most so many, and tells whether these are all.
+fn keep_fields(
+    alloc: Global,
+    source: &ByteRecord,
+    most: usize,
+    row: &mut Fields,
+) -> Result<bool, AllocError>
+    ensures { IfOk result (λ all. (line : List ℕ) → IsCut line (record_fields source.now) most row.new all) }
 {
-    let mut fields = Fields::new(alloc);
+    row.clear();
     for index in 0..most {
-        let Some(field) = row.get(index) else {
-            return Ok(Cut {
-                fields,
-                whole: true,
-            });
+        let Some(field) = source.get(index) else {
+            return Ok(true);
         };
-        fields.push(own_slot(alloc, field)?)?;
+        row.push(copied_slot(alloc, field)?)?;
     }
-    Ok(Cut {
-        fields,
-        whole: row.len() <= most,
-    })
+    Ok(source.len() <= most)
 }
 
-// The first fields of a line in which a quote may open a field, at most so many.
-fn cut_quoted(alloc: Global, separator: u8, line: &[u8], most: usize) -> Result<Cut, AllocError>
+// Puts the first fields of a line in which a quote may open a field into `row`, at most so many, and tells whether these
+// are all.
+fn cut_read(
+    alloc: Global,
+    separator: u8,
+    line: &[u8],
+    most: usize,
+    row: &mut Fields,
+) -> Result<bool, AllocError>
     requires filled { 0 < length line.now }
     requires whole { is_broken line.now ≡ false }
-    ensures { IfOk result (IsCut line.now (fields_of separator true line.now) most) }
+    ensures { IfOk result (λ all. IsCut line.now (fields_of separator true line.now) most row.new all) }
 {
     match read_quoted(alloc, separator, line) {
-        Ok(row) => {
-            let cut = keep_fields(alloc, &row, most);
-            drop(row);
-            cut
+        Ok(record) => {
+            let all = keep_fields(alloc, &record, most, row);
+            drop(record);
+            all
         }
         Err(error) => Err(error),
     }
 }
 
-/// The first fields of a line of a shape, at most so many.
+/// Puts the first fields of a line into `row`, at most so many, and tells whether these are all.
 pub(crate) fn cut_line(
     alloc: Global,
     options: DelimitedOptions,
-    shape: Shape,
     line: &[u8],
     most: usize,
-) -> Result<Cut, AllocError>
+    row: &mut Fields,
+) -> Result<bool, AllocError>
     requires filled { 0 < length line.now }
     requires whole { is_broken line.now ≡ false }
-    requires shape { HasShape options.quotes line.now shape }
-    ensures { IfOk result (IsCut line.now (fields_in options line.now) most) }
+    ensures { IfOk result (λ all. IsCut line.now (fields_in options line.now) most row.new all) }
 {
-    match shape {
-        Shape::Quoted => cut_quoted(alloc, options.separator, line, most),
-        Shape::Plain | Shape::Broken => cut_plain(alloc, options.separator, line, most),
+    match cut_closed(alloc, options.separator, options.quotes, line, most, row) {
+        Ok(Some(all)) => Ok(all),
+        Ok(None) => cut_read(alloc, options.separator, line, most, row),
+        Err(error) => Err(error),
     }
 }

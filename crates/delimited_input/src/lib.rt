@@ -4,14 +4,15 @@
 //! line leaves in force. `specs` has the definitions.
 #![tactic(auto)]
 
+mod broken;
 mod cut;
 mod header;
 mod laws;
 mod options;
+mod piece;
 mod reader;
 mod row;
 mod sampler;
-mod shape;
 mod tally;
 #[cfg(test)]
 mod tests;

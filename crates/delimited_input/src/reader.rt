@@ -8,12 +8,11 @@ ghost use Rattle.delimited_input.specs.Lines.{fields_in, is_broken, first_readin
 ghost use Rattle.delimited_input.specs.Names.{made_names, header_names};
 ghost use Rattle.delimited_input.specs.Separators.{IsRefused};
 ghost use Rattle.delimited_input.specs.Setting.{first_columns, filled_columns};
-ghost use Rattle.delimited_input.specs.Shapes.{HasShape};
 
-use crate::cut::{Cut, cut_line};
+use crate::broken::is_broken;
+use crate::cut::cut_line;
 use crate::header::{MOST_COLUMNS, header_names, made_names};
 use crate::row::take_row;
-use crate::shape::{Shape, shape_of};
 use crate::{BadOption, DelimitedOptions};
 use line_input::{Fields, LineReader, Standing, Taken};
 use std::alloc::{AllocError, Global};
@@ -46,43 +45,42 @@ impl Delimited {
     }
 }
 
-// Takes the header, which names the columns.
+// Takes the header, whose fields stand in `row`, and which names the columns.
 fn take_header(
     alloc: Global,
     standing: &mut Standing,
     line: &[u8],
-    cut: Cut,
+    row: &Fields,
 ) -> Result<Taken, AllocError>
     requires { standing.old.lines < 2 ^ 63 }
-    ensures reading { IfOk result (λ taken. (row : List Slot) → reading_in line.now row taken ≡ passed) }
+    ensures reading { IfOk result (λ taken. reading_in line.now row.now taken ≡ passed) }
     ensures lines { OnOk result (standing.new.lines ≡ standing.old.lines + 1) }
-    ensures columns { OnOk result (standing.new.columns ≡ Some (header_names (texts_of line.now cut.fields))) }
+    ensures columns { OnOk result (standing.new.columns ≡ Some (header_names (texts_of line.now row.now))) }
     ensures err { OnErr result (standing.new ≡ standing.old) }
 {
-    let names = header_names(alloc, line, &cut.fields)?;
+    let names = header_names(alloc, line, row)?;
     standing.set_columns(names);
     Ok(Taken::Passed)
 }
 
-// Takes the first row, which tells how many columns there are.
+// Takes the first row, whose fields stand in `row`, and which tells how many columns there are, if these are all.
 fn take_first_row(
     alloc: Global,
     standing: &mut Standing,
-    cut: Cut,
-    row: &mut Fields,
+    row: &Fields,
+    all: bool,
 ) -> Result<Taken, AllocError>
     requires { standing.old.lines < 2 ^ 63 }
-    ensures reading { IfOk result (λ taken. (line : List ℕ) → reading_in line row.new taken ≡ (if cut.whole then rows (slots_of line cut.fields ∷ []) else bad)) }
+    ensures reading { IfOk result (λ taken. (line : List ℕ) → reading_in line row.now taken ≡ (if all then rows (slots_of line row.now ∷ []) else bad)) }
     ensures lines { OnOk result (standing.new.lines ≡ standing.old.lines + 1) }
-    ensures columns { OnOk result (standing.new.columns ≡ (if cut.whole then Some (made_names (length cut.fields)) else standing.old.columns)) }
+    ensures columns { OnOk result (standing.new.columns ≡ (if all then Some (made_names (length row.now)) else standing.old.columns)) }
     ensures err { OnErr result (standing.new ≡ standing.old) }
 {
-    if !cut.whole {
+    if !all {
         standing.pass_line();
         return Ok(Taken::Bad);
     }
-    let names = made_names(alloc, cut.fields.len())?;
-    *row = cut.fields;
+    let names = made_names(alloc, row.len())?;
     standing.set_columns(names);
     Ok(Taken::Row)
 }
@@ -92,24 +90,22 @@ fn take_first(
     alloc: Global,
     options: DelimitedOptions,
     standing: &mut Standing,
-    shape: Shape,
     line: &[u8],
     row: &mut Fields,
 ) -> Result<Taken, AllocError>
     requires lines { standing.old.lines < 2 ^ 63 }
     requires filled { 0 < length line.now }
     requires whole { is_broken line.now ≡ false }
-    requires shape { HasShape options.quotes line.now shape }
     ensures reading { IfOk result (λ taken. reading_in line.now row.new taken ≡ first_reading options (fields_in options line.now)) }
     ensures lines { OnOk result (standing.new.lines ≡ standing.old.lines + 1) }
     ensures columns { OnOk result (standing.new.columns ≡ first_columns options (fields_in options line.now) standing.old.columns) }
     ensures err { OnErr result (standing.new ≡ standing.old) }
 {
-    let cut = cut_line(alloc, options, shape, line, MOST_COLUMNS)?;
+    let all = cut_line(alloc, options, line, MOST_COLUMNS, row)?;
     if options.header_row {
-        take_header(alloc, standing, line, cut)
+        take_header(alloc, standing, line, row)
     } else {
-        take_first_row(alloc, standing, cut, row)
+        take_first_row(alloc, standing, row, all)
     }
 }
 
@@ -118,23 +114,21 @@ fn take_filled(
     alloc: Global,
     options: DelimitedOptions,
     standing: &mut Standing,
-    shape: Shape,
     line: &[u8],
     row: &mut Fields,
 ) -> Result<Taken, AllocError>
     requires lines { standing.old.lines < 2 ^ 63 }
     requires filled { 0 < length line.now }
     requires whole { is_broken line.now ≡ false }
-    requires shape { HasShape options.quotes line.now shape }
     ensures reading { IfOk result (λ taken. reading_in line.now row.new taken ≡ filled_reading options (fields_in options line.now) standing.old.columns) }
     ensures lines { OnOk result (standing.new.lines ≡ standing.old.lines + 1) }
     ensures columns { OnOk result (standing.new.columns ≡ filled_columns options (fields_in options line.now) standing.old.columns) }
     ensures err { OnErr result (standing.new ≡ standing.old) }
 {
     let Some(columns) = standing.columns() else {
-        return take_first(alloc, options, standing, shape, line, row);
+        return take_first(alloc, options, standing, line, row);
     };
-    let taken = take_row(alloc, options, shape, line, columns.len(), row)?;
+    let taken = take_row(alloc, options, line, columns.len(), row)?;
     standing.pass_line();
     Ok(taken)
 }
@@ -153,12 +147,10 @@ impl LineReader for Delimited {
             standing.pass_line();
             return Ok(Taken::Passed);
         }
-        match shape_of(self.options.quotes, line) {
-            Shape::Broken => {
-                standing.pass_line();
-                Ok(Taken::Bad)
-            }
-            shape => take_filled(alloc, self.options, standing, shape, line, row),
+        if is_broken(line) {
+            standing.pass_line();
+            return Ok(Taken::Bad);
         }
+        take_filled(alloc, self.options, standing, line, row)
     }
 }

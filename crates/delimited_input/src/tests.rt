@@ -69,7 +69,7 @@ fn tell_columns(told: &mut Bytes, standing: &Standing) -> Result<(), AllocError>
 
 #[test]
 fn lines_are_what_the_rules_say(rt: HostRuntime) -> Result<(), Fail> {
-    let cases: [(DelimitedOptions, &[u8], &[u8], &[u8]); 34] = [
+    let cases: [(DelimitedOptions, &[u8], &[u8], &[u8]); 39] = [
         (CSV, b"a,b", b"1,2", b"- 1|2| a;b;"),
         // An empty line is passed, and the header comes behind it.
         (CSV, b"", b"a,b", b"- - a;b;"),
@@ -85,6 +85,11 @@ fn lines_are_what_the_rules_say(rt: HostRuntime) -> Result<(), Fail> {
         (CSV, b"a,b", b"\"1\"5\"6,2", b"- 15\"6|2| a;b;"),
         (CSV, b"a,b", b"\"1\" \"6,2", b"- 1 \"6|2| a;b;"),
         (CSV, b"a,b", b"1,\"2,3", b"- 1|2,3| a;b;"),
+        (CSV, b"a,b", b"\"1\",\"2\"\"3\"\"\"", b"- 1|2\"3\"| a;b;"),
+        (CSV, b"a,b", b"\"\"\"1\",\"2\"", b"- \"1|2| a;b;"),
+        (CSV, b"a,b", b"\"1\"\"2\",\"3\"4", b"- 1\"2|34| a;b;"),
+        (CSV, b"a,b", b"\"1\"\"2", b"- 1\"2|~| a;b;"),
+        (CSV, b"a,b", b"\"1\"\"\",\"\"\"2\",3", b"- ! a;b;"),
         (CSV, b"a,b", b"1\"2,\"3\"", b"- 1\"2|3| a;b;"),
         (CSV, b"a,b", b"1, \"2\"", b"- 1| \"2\"| a;b;"),
         (CSV, b"a,b", b"\"\",\"\"\"\"", b"- ~|\"| a;b;"),

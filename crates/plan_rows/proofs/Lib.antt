@@ -1,6 +1,6 @@
 pub mod Agreeing
 pub mod Masking
 pub mod Fields
-mod PutLemmas
-mod Picked
+pub mod PutLemmas
+pub mod Picked
 mod PartedLemmas

@@ -23,7 +23,7 @@ agree_past : (values row : List Value) (k many : ℕ) → length values ≡ many
 agree_past values row k many size fits past = get_or_past values k Null (omega arith) ∙ sym (get_or_past row k Null (omega arith))
 
 -- once the columns that WHERE asks are read, it tells the truth of the whole row
-asked_agree : (many : ℕ) (asked rest : List ℕ) (items : List Term) (condition : Option Filter) (row old values : List Value) → length row ≤ many → length old ≡ many → Parted many asked rest items condition → Put asked row old values
+pub asked_agree : (many : ℕ) (asked rest : List ℕ) (items : List Term) (condition : Option Filter) (row old values : List Value) → length row ≤ many → length old ≡ many → Parted many asked rest items condition → Put asked row old values
     → Agree values row (λ k. is_mentioned k condition)
 asked_agree many asked rest items condition row old values fits size parted put = λ k h. elim (cases_lt k many) [
   | inl within ↦ put.put k (parted.mentioned k within h)
@@ -31,7 +31,7 @@ asked_agree many asked rest items condition row old values fits size parted put 
 ]
 
 -- once the others are read too, SELECT takes of them what it takes of the whole row
-items_agree : (many : ℕ) (asked rest : List ℕ) (items : List Term) (condition : Option Filter) (row old values all : List Value) → length row ≤ many → length old ≡ many → Parted many asked rest items condition → Put asked row old values → Put rest row values all
+pub items_agree : (many : ℕ) (asked rest : List ℕ) (items : List Term) (condition : Option Filter) (row old values all : List Value) → length row ≤ many → length old ≡ many → Parted many asked rest items condition → Put asked row old values → Put rest row values all
     → Agree all row (λ k. any_has_column k items)
 items_agree many asked rest items condition row old values all fits size parted first second = λ k h. elim (cases_lt k many) [
   | inr past ↦ agree_past all row k many (second.size ∙ (first.size ∙ size)) fits past

@@ -9,4 +9,6 @@ mod parting;
 mod picking;
 mod row;
 
+pub use parting::{Parts, PlaceList, part_columns};
 pub use picking::{PlanPicker, ReadingList};
+pub use row::make_room;

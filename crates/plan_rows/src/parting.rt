@@ -9,15 +9,15 @@ use query_types::{Condition, Plan, mentions};
 use std::alloc::{AllocError, Global};
 
 /// Places in a table's row.
-pub(crate) type PlaceList = ListOf<usize>;
+pub type PlaceList = ListOf<usize>;
 
 /// The columns that a plan uses.
 #[derive(Drop)]
-pub(crate) struct Parts {
+pub struct Parts {
     /// Those that WHERE asks.
-    pub(crate) asked: PlaceList,
+    pub asked: PlaceList,
     /// The others.
-    pub(crate) rest: PlaceList,
+    pub rest: PlaceList,
 }
 
 // Whether WHERE asks a column.
@@ -31,7 +31,7 @@ fn is_asked(column: usize, condition: &Option<Condition>) -> bool
 }
 
 /// Parts the columns that a plan uses.
-pub(crate) fn part_columns(alloc: Global, plan: &Plan) -> Result<Parts, AllocError>
+pub fn part_columns(alloc: Global, plan: &Plan) -> Result<Parts, AllocError>
     requires { Covers plan.now.used plan.now.items (option_map filter_of plan.now.condition) }
     ensures { IfOk result (λ parts. Parted (length plan.now.used) parts.asked parts.rest plan.now.items (option_map filter_of plan.now.condition)) }
 {

@@ -52,7 +52,7 @@ fn column_value(
 }
 
 /// Makes room for the values of so many columns.
-pub(crate) fn make_room(values: &mut ValueList, columns: usize) -> Result<(), AllocError>
+pub fn make_room(values: &mut ValueList, columns: usize) -> Result<(), AllocError>
     ensures { OnOk result (length values.new ≡ columns) }
 {
     if values.len() == columns {

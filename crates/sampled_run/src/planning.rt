@@ -42,11 +42,10 @@ fn picker_over<'a>(
         return Err(Stop::Memory);
     };
     match plan(alloc, query, &table, moment.seconds) {
-        Ok(plan) => Ok(SampledPicker {
-            plan,
-            pattern,
-            told,
-        }),
+        Ok(plan) => match SampledPicker::new(alloc, plan, pattern, told) {
+            Ok(picker) => Ok(picker),
+            Err(_) => Err(Stop::Memory),
+        },
         Err(fault) => Err(unplanned(fault)),
     }
 }

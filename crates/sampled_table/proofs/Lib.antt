@@ -1,3 +1,3 @@
 mod Steps
-mod Masking
+mod Picked
 pub mod Staying

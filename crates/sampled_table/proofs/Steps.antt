@@ -1,11 +1,12 @@
 -- Steps along lists whose items count their places.
-use Rattle.std.proofs.Common.{◌≡◌, ℕ, suc, ◌+◌, ◌<◌, ◌≤◌, Bool, false, List, [], ◌∷◌, ◌++◌, length, drop, get_or, map, take, sym, ◌∙◌, ap, arith, add-one, append_assoc}
+use Rattle.std.proofs.Common.{◌≡◌, ℕ, zero, suc, ◌+◌, ◌<◌, ◌≤◌, List, [], ◌∷◌, ◌++◌, length, drop, get_or, map, take, Some, None, refl, sym, ◌∙◌, ap, arith, add-one, append_assoc}
 use Rattle.std.proofs.Math.Seq.{drop-cons}
+use Rattle.std.specs.List.{slice_get}
 use Rattle.std.proofs.lemmas.List.{map-append, take_all, take_more}
 use Rattle.lp_time.specs.declared.piece.Piece.{Piece}
 use Rattle.lp_values.specs.declared.kind.Kind.{Kind}
 use Rattle.lp_values.specs.declared.value.Value.{Value}
-use Rattle.plan_rows.specs.Picks.{if_used, masked}
+use Rattle.lp_values.specs.declared.value.Value.TheVariants.{Null}
 use Rattle.delimited_input.specs.Kinds.{kinds_of}
 use Rattle.delimited_input.specs.Sampled.{Sampled, StandsFor}
 use Rattle.sampled_table.specs.Fields.{indexed, texts_under}
@@ -26,15 +27,21 @@ indexed_step make xs i x front made here is made_is =
     ∙ ap (λ b. front ++ b ∷ rest) (sym made_is)
     ∙ sym (append_assoc front (made ∷ []) rest)
 
-pub values_step : {A : Type 0} (used : List Bool) (make : ℕ → A → Value) (xs : List A) (i : ℕ) (x : A) (front : List Value) (value : Value) → i < length xs → x ≡ get_or xs i x → value ≡ if_used (get_or used (i + 2) false) (make i x)
-    → front ++ masked used (indexed make i (drop i xs)) (i + 2) ≡ (front ++ value ∷ []) ++ masked used (indexed make (i + 1) (drop (i + 1) xs)) (i + 1 + 2)
-values_step used make xs i x front value here is value_is =
-    let rest = indexed make (i + 1) (drop (i + 1) xs) in
-    let e : i + 2 + 1 ≡ i + 1 + 2 = omega arith in
-    ap (λ l. front ++ masked used (indexed make i l) (i + 2)) (dropped xs i x here is)
-    ∙ ap (λ v. front ++ v ∷ masked used rest (i + 2 + 1)) (sym value_is)
-    ∙ ap (λ n. front ++ value ∷ masked used rest n) e
-    ∙ sym (append_assoc front (value ∷ []) (masked used rest (i + 1 + 2)))
+-- what the one at a place gives
+pub indexed_at : {A : Type 0} (make : ℕ → A → Value) (xs : List A) (at k : ℕ) (x : A) → slice_get xs k ≡ Some x → get_or (indexed make at xs) k Null ≡ make (at + k) x
+indexed_at make [] at k x e = absurd cc
+indexed_at make (first ∷ xs) at zero x e =
+    let here : first ≡ x = cc in
+    let sum : at ≡ at + 0 = omega arith in
+    ap (make at) here ∙ ap (λ n. make n x) sum
+indexed_at make (first ∷ xs) at (suc k) x e =
+    let sum : at + 1 + k ≡ at + suc k = omega arith in
+    indexed_at make xs (at + 1) k x e ∙ ap (λ n. make n x) sum
+
+pub indexed_none : {A : Type 0} (make : ℕ → A → Value) (xs : List A) (at k : ℕ) → slice_get xs k ≡ None → get_or (indexed make at xs) k Null ≡ Null
+indexed_none make [] at k e = refl
+indexed_none make (first ∷ xs) at zero e = absurd cc
+indexed_none make (first ∷ xs) at (suc k) e = indexed_none make xs (at + 1) k e
 
 pub indexed_length : {A B : Type 0} (make : ℕ → A → B) (at : ℕ) (xs : List A) → length (indexed make at xs) ≡ length xs
 indexed_length make at [] = omega arith

@@ -1,15 +1,17 @@
 // A plan over sampled columns as a picker.
-ghost use Rattle.std.specs.Prelude.{◌≡◌, ◌+◌, ◌≤◌, length, option_map};
+ghost use Rattle.std.specs.Prelude.{◌≡◌, ◌+◌, ◌≤◌, length, option_map, IfOk};
 ghost use Rattle.query_types.specs.Conditions.{filter_of};
 ghost use Rattle.query_types.specs.Planned.{Covers};
+ghost use Rattle.plan_rows.specs.Picks.{Parted};
 ghost use Rattle.sampled_table.specs.Picks.{sampled_picks};
 
 use crate::Judged;
-use crate::row::read_row;
+use crate::row::read_columns;
 use line_input::{Columns, Fields};
 use lp_outside::Name;
 use lp_time::Pattern;
 use lp_values::ValueList;
+use plan_rows::{Parts, make_room, part_columns};
 use query_run::Picker;
 use query_types::Plan;
 use row_engine::{passes, select_row};
@@ -21,8 +23,33 @@ pub struct SampledPicker<'a> {
     pub plan: Plan,
     pub pattern: &'a Pattern,
     pub told: Judged,
-    ghost covers: { Covers plan.used plan.items (option_map filter_of plan.condition) },
+    columns: Parts,
+    ghost parted: { Parted (length plan.used) columns.asked columns.rest plan.items (option_map filter_of plan.condition) },
     ghost fits: { length told.columns + 2 ≤ length plan.used },
+}
+
+impl<'a> SampledPicker<'a> {
+    /// The picker of a plan, for records of a run with these columns, whose times are read by a pattern.
+    pub fn new(
+        alloc: Global,
+        plan: Plan,
+        pattern: &'a Pattern,
+        told: Judged,
+    ) -> Result<SampledPicker<'a>, AllocError>
+        requires covers { Covers plan.used plan.items (option_map filter_of plan.condition) }
+        requires fits { length told.columns + 2 ≤ length plan.used }
+        ensures plan { IfOk result (λ picker. picker.plan ≡ plan) }
+        ensures pattern { IfOk result (λ picker. picker.pattern.now ≡ pattern.now) }
+        ensures told { IfOk result (λ picker. picker.told ≡ told) }
+    {
+        let columns = part_columns(alloc, &plan)?;
+        Ok(SampledPicker {
+            plan,
+            pattern,
+            told,
+            columns,
+        })
+    }
 }
 
 impl<'a> Picker for SampledPicker<'a> {
@@ -39,9 +66,10 @@ impl<'a> Picker for SampledPicker<'a> {
         values: &mut ValueList,
         row: &mut ValueList,
     ) -> Result<bool, AllocError> {
-        read_row(
+        make_room(values, self.plan.used.len())?;
+        read_columns(
             alloc,
-            &self.plan,
+            &self.columns.asked,
             self.pattern,
             &self.told,
             identity,
@@ -55,6 +83,18 @@ impl<'a> Picker for SampledPicker<'a> {
         if !is_kept {
             return Ok(false);
         }
+        read_columns(
+            alloc,
+            &self.columns.rest,
+            self.pattern,
+            &self.told,
+            identity,
+            number,
+            columns,
+            line,
+            fields,
+            values,
+        )?;
         select_row(alloc, &self.plan, values, row)?;
         Ok(true)
     }

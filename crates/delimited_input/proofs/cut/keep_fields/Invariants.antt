@@ -5,4 +5,4 @@ use Rattle.delimited_input.specs.Lines.{slot_of}
 use Rattle.delimited_input.proofs.cut.keep_fields.Given as goal
 
 abbrev pub invariant-loop-index : goal.invariant-loop-index
-invariant-loop-index l = (line : List ℕ) → slots_of line l.fields ≡ map slot_of (take l.index (fields_of l.row))
+invariant-loop-index l = (line : List ℕ) → slots_of line l.row ≡ map slot_of (take l.index (fields_of l.source))

@@ -1,6 +1,3 @@
-use Rattle.std.proofs.Common.{◌∙◌, ◌∷◌, [], ap}
-use Rattle.std.proofs.lemmas.Bool.{not-false}
-use Rattle.lp_model.specs.Reading.{rows}
 use Rattle.delimited_input.specs.Lines.{fields_in}
 use Rattle.delimited_input.proofs.Rows.{whole_row}
 use Rattle.delimited_input.proofs.row.take_row.Goals as goal
@@ -8,4 +5,4 @@ use Rattle.delimited_input.proofs.row.take_row.Goals as goal
 pub returns : goal.returns
 returns c =
     let line = c.args.line.now in
-    whole_row line (fields_in c.args.options line) c.args.many c.in_ok-cut.cut c.in_ok-row.field-0 c.in_ok-cut.ensures (not-false _ c.if-not-cut.false) (c.in_ok-row.ensures line)
+    whole_row line (fields_in c.args.options line) c.args.many c.cut_line.new.row c.pad.new.row c.in_ok-all.all c.in_ok-all.ensures c.if-not-all.false (c.in_ok-pad.ensures line)

@@ -1,4 +1,4 @@
-use Rattle.std.proofs.Common.{◌≡◌, ◌∙◌, List, ℕ, subst}
+use Rattle.std.proofs.Common.{◌∙◌, List, ℕ, subst}
 use Rattle.std.proofs.lemmas.Result.{IfOk-weaker}
 use Rattle.delimited_input.specs.Sampled.{StandsFor}
 use Rattle.sampled_table.proofs.Steps.{kinds_told, texts_more}

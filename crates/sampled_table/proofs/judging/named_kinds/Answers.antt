@@ -1,4 +1,4 @@
-use Rattle.std.proofs.Common.{◌≡◌, ◌∙◌, ◌+◌, ◌++◌, ap, ap₂, sym, drop, get_or, ℕ, List}
+use Rattle.std.proofs.Common.{◌∙◌, ◌+◌, ◌++◌, ap, ap₂, sym, drop, get_or, ℕ, List}
 use Rattle.lp_values.specs.declared.kind.Kind.{Kind}
 use Rattle.lp_values.specs.declared.kind.Kind.TheVariants as K
 use Rattle.query_types.specs.declared.table.NamedKind.{NamedKind}

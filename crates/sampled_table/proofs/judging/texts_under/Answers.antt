@@ -1,4 +1,4 @@
-use Rattle.std.proofs.Common.{◌≡◌, ◌∙◌, ◌+◌, ◌++◌, ap, sym, drop, ℕ, List, Some}
+use Rattle.std.proofs.Common.{◌∙◌, ◌+◌, ◌++◌, ap, sym, drop, ℕ, List, Some}
 use Rattle.sampled_table.specs.Fields.{field_for, field_in, indexed, place_for, text_of}
 use Rattle.sampled_table.specs.Kept.{found_in}
 use Rattle.sampled_table.proofs.Steps.{indexed_step}
