@@ -1,7 +1,9 @@
 // A plan as a picker.
-ghost use Rattle.std.specs.Prelude.{◌≡◌, ◌+◌, ◌≤◌, length, option_map, IfOk};
+ghost use Rattle.std.specs.Prelude.{◌≡◌, ◌+◌, ◌≤◌, List, length, option_map, IfOk};
+ghost use Rattle.lp_values.specs.declared.value.Value.{Value};
 ghost use Rattle.query_types.specs.Conditions.{filter_of};
 ghost use Rattle.query_types.specs.Planned.{Covers};
+ghost use Rattle.row_engine.specs.Rows.{keeps, selected_in};
 ghost use Rattle.plan_rows.specs.Picks.{Parted, plan_picks};
 
 use crate::parting::{Parts, part_columns};
@@ -11,7 +13,7 @@ use lp_outside::Name;
 use lp_values::{ListOf, ValueList};
 use query_run::Picker;
 use query_types::Plan;
-use row_engine::{passes, select_row};
+use row_engine::{passes, select_row, settled};
 use slot_reading::Reading;
 use std::alloc::{AllocError, Global};
 
@@ -23,7 +25,11 @@ pub type ReadingList = ListOf<Reading>;
 pub struct PlanPicker {
     pub plan: Plan,
     pub readings: ReadingList,
+    /// The same plan, what is the same in each row worked out.
+    settled: Plan,
     columns: Parts,
+    ghost keeps_alike: { (row : List Value) → keeps (option_map filter_of settled.condition) row ≡ keeps (option_map filter_of plan.condition) row },
+    ghost selects_alike: { (row : List Value) → selected_in row settled.items ≡ selected_in row plan.items },
     ghost parted: { Parted (length plan.used) columns.asked columns.rest plan.items (option_map filter_of plan.condition) },
     ghost fits: { length readings + 2 ≤ length plan.used },
 }
@@ -37,9 +43,11 @@ impl PlanPicker {
         ensures readings { IfOk result (λ picker. picker.readings ≡ readings) }
     {
         let columns = part_columns(alloc, &plan)?;
+        let settled = settled(alloc, &plan)?;
         Ok(PlanPicker {
             plan,
             readings,
+            settled,
             columns,
         })
     }
@@ -70,7 +78,7 @@ impl Picker for PlanPicker {
             fields,
             values,
         )?;
-        let is_kept = passes(alloc, &self.plan, values)?;
+        let is_kept = passes(alloc, &self.settled, values)?;
         if !is_kept {
             return Ok(false);
         }
@@ -84,7 +92,7 @@ impl Picker for PlanPicker {
             fields,
             values,
         )?;
-        select_row(alloc, &self.plan, values, row)?;
+        select_row(alloc, &self.settled, values, row)?;
         Ok(true)
     }
 }

@@ -40,7 +40,8 @@ pub enum Form {
 }
 
 impl Operation {
-    fn copy(&self) -> Result<Operation, AllocError>
+    /// The same again.
+    pub fn copy(&self) -> Result<Operation, AllocError>
         ensures { IfOk result (λ copy. maker_of copy ≡ maker_of self.now) }
     {
         match self {

@@ -1,4 +1,5 @@
 mod Comparing
 mod Forms
 mod Likeness
+mod SettledLemmas
 mod Truths

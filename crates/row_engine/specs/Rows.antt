@@ -11,7 +11,8 @@ use Rattle.lp_values.specs.Truths.{both as and_both, either as or_either, opposi
 use Rattle.lp_functions.specs.Applied.{applied}
 use Rattle.lp_functions.specs.Moments.{read_as}
 use Rattle.lp_functions.specs.Texts.{written_as}
-use Rattle.query_types.specs.Terms.{Maker, called, branched, written, read, Term, column, other, constant, made, Terms, no_terms, more_terms}
+use Rattle.query_types.specs.declared.form.Form.{Form}
+use Rattle.query_types.specs.Terms.{Maker, called, branched, written, read, Term, column, other, constant, made, Terms, no_terms, more_terms, term_of}
 use Rattle.query_types.specs.Conditions.{Filter, either, both, opposite, compared, null, like, between, within}
 use Rattle.row_engine.specs.Likeness.{is_like}
 
@@ -52,6 +53,9 @@ abbrev mutual
   pub values_in : List Value → Terms → List Value
   values_in row no_terms = []
   values_in row (more_terms term terms) = value_in row term ∷ values_in row terms
+
+abbrev pub forms_in : List Value → List Form → List Value
+forms_in row forms = map (λ form. value_in row (term_of form)) forms
 
 abbrev pub is_null : Value → Bool
 is_null V.Null = true

@@ -8,9 +8,9 @@ ghost use Rattle.query_types.specs.Conditions.{filter_of};
 ghost use Rattle.query_types.specs.Conditions.{Filter as filter};
 ghost use Rattle.text_functions.specs.Likes.{Likes};
 ghost use Rattle.row_engine.specs.Likeness.{is_like};
-ghost use Rattle.row_engine.specs.Rows.{among, is_null, keeps, likeness, truth_in, turned};
+ghost use Rattle.row_engine.specs.Rows.{among, is_null, keeps, likeness, truth_in, turned, value_in};
 
-use crate::values::value;
+use crate::values::{standing, value};
 use lp_values::{Compare, Text, Truth, Value, ValueList, and, compare, not, or};
 use query_types::{Condition, Meaning, MeaningList, Plan};
 use std::alloc::{AllocError, Global};
@@ -57,6 +57,25 @@ fn likeness(value: &Value, pattern: &str) -> Truth
     }
 }
 
+// How a value compares with a meaning's.
+fn compared_with(
+    alloc: Global,
+    row: &ValueList,
+    how: Compare,
+    left: &Value,
+    right: &Meaning,
+) -> Result<Truth, AllocError>
+    ensures { IfOk result (λ truth. truth ≡ comparison how left.now (value_in row.now right.now)) }
+{
+    match standing(row, right) {
+        Some(right) => Ok(compare(how, left, right)),
+        None => {
+            let right = value(alloc, row, right)?;
+            Ok(compare(how, left, right.get()))
+        }
+    }
+}
+
 // Whether a value is one of some meanings: the OR of the equalities.
 fn among(
     alloc: Global,
@@ -68,20 +87,25 @@ fn among(
 {
     let mut truth = Truth::No;
     for item in items.as_slice() {
-        let item = value(alloc, row, item)?;
-        truth = or(truth, compare(Compare::Equal, sought, item.get()));
+        let is_equal = compared_with(alloc, row, Compare::Equal, sought, item)?;
+        truth = or(truth, is_equal);
     }
     Ok(truth)
 }
 
-// Whether a value lies between two others.
-fn between(value: &Value, low: &Value, high: &Value) -> Truth
-    ensures { result ≡ both (comparison Compare.MoreEqual value.now low.now) (comparison Compare.LessEqual value.now high.now) }
+// Whether a value lies between two meanings.
+fn between(
+    alloc: Global,
+    row: &ValueList,
+    value: &Value,
+    low: &Meaning,
+    high: &Meaning,
+) -> Result<Truth, AllocError>
+    ensures { IfOk result (λ truth. truth ≡ both (comparison Compare.MoreEqual value.now (value_in row.now low.now)) (comparison Compare.LessEqual value.now (value_in row.now high.now))) }
 {
-    and(
-        compare(Compare::MoreEqual, value, low),
-        compare(Compare::LessEqual, value, high),
-    )
+    let low = compared_with(alloc, row, Compare::MoreEqual, value, low)?;
+    let high = compared_with(alloc, row, Compare::LessEqual, value, high)?;
+    Ok(and(low, high))
 }
 
 // The truth of a comparison.
@@ -95,9 +119,13 @@ fn compared_truth(
 ) -> Result<Truth, AllocError>
     ensures { IfOk result (λ truth. truth ≡ truth_in row.now (filter.compared how left.now right.now)) }
 {
-    let left = value(alloc, row, left)?;
-    let right = value(alloc, row, right)?;
-    Ok(compare(how, left.get(), right.get()))
+    match standing(row, left) {
+        Some(left) => compared_with(alloc, row, how, left, right),
+        None => {
+            let left = value(alloc, row, left)?;
+            compared_with(alloc, row, how, left.get(), right)
+        }
+    }
 }
 
 // The truth of IS NULL.
@@ -110,8 +138,13 @@ fn null_truth(
 ) -> Result<Truth, AllocError>
     ensures { IfOk result (λ truth. truth ≡ truth_in row.now (filter.null of.now negated)) }
 {
-    let of = value(alloc, row, of)?;
-    Ok(turned(negated, truth_of(is_null(of.get()))))
+    match standing(row, of) {
+        Some(of) => Ok(turned(negated, truth_of(is_null(of)))),
+        None => {
+            let of = value(alloc, row, of)?;
+            Ok(turned(negated, truth_of(is_null(of.get()))))
+        }
+    }
 }
 
 // The truth of LIKE.
@@ -125,8 +158,13 @@ fn like_truth(
 ) -> Result<Truth, AllocError>
     ensures { IfOk result (λ truth. truth ≡ truth_in row.now (filter.like of.now pattern.now negated)) }
 {
-    let of = value(alloc, row, of)?;
-    Ok(turned(negated, likeness(of.get(), pattern.as_str())))
+    match standing(row, of) {
+        Some(of) => Ok(turned(negated, likeness(of, pattern.as_str()))),
+        None => {
+            let of = value(alloc, row, of)?;
+            Ok(turned(negated, likeness(of.get(), pattern.as_str())))
+        }
+    }
 }
 
 // The truth of BETWEEN.
@@ -141,10 +179,14 @@ fn between_truth(
 ) -> Result<Truth, AllocError>
     ensures { IfOk result (λ truth. truth ≡ truth_in row.now (filter.between of.now low.now high.now negated)) }
 {
-    let of = value(alloc, row, of)?;
-    let low = value(alloc, row, low)?;
-    let high = value(alloc, row, high)?;
-    Ok(turned(negated, between(of.get(), low.get(), high.get())))
+    match standing(row, of) {
+        Some(of) => Ok(turned(negated, between(alloc, row, of, low, high)?)),
+        None => {
+            let of = value(alloc, row, of)?;
+            let truth = between(alloc, row, of.get(), low, high)?;
+            Ok(turned(negated, truth))
+        }
+    }
 }
 
 // The truth of IN.
@@ -158,9 +200,14 @@ fn within_truth(
 ) -> Result<Truth, AllocError>
     ensures { IfOk result (λ truth. truth ≡ truth_in row.now (filter.within of.now items.now negated)) }
 {
-    let of = value(alloc, row, of)?;
-    let truth = among(alloc, row, of.get(), items)?;
-    Ok(turned(negated, truth))
+    match standing(row, of) {
+        Some(of) => Ok(turned(negated, among(alloc, row, of, items)?)),
+        None => {
+            let of = value(alloc, row, of)?;
+            let truth = among(alloc, row, of.get(), items)?;
+            Ok(turned(negated, truth))
+        }
+    }
 }
 
 // The truth of a condition.

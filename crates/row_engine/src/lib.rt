@@ -5,10 +5,11 @@
 #![tactic(auto)]
 
 mod conditions;
-mod making;
 mod seen;
 mod selecting;
+mod settling;
 mod values;
 
 pub use conditions::passes;
 pub use selecting::select_row;
+pub use settling::settled;
