@@ -1,7 +1,9 @@
 // A plan over sampled columns as a picker.
-ghost use Rattle.std.specs.Prelude.{◌≡◌, ◌+◌, ◌≤◌, length, option_map, IfOk};
+ghost use Rattle.std.specs.Prelude.{◌≡◌, ◌+◌, ◌≤◌, List, length, option_map, IfOk};
+ghost use Rattle.lp_values.specs.declared.value.Value.{Value};
 ghost use Rattle.query_types.specs.Conditions.{filter_of};
 ghost use Rattle.query_types.specs.Planned.{Covers};
+ghost use Rattle.row_engine.specs.Rows.{keeps, selected_in};
 ghost use Rattle.plan_rows.specs.Picks.{Parted};
 ghost use Rattle.sampled_table.specs.Picks.{sampled_picks};
 
@@ -14,7 +16,7 @@ use lp_values::ValueList;
 use plan_rows::{Parts, make_room, part_columns};
 use query_run::Picker;
 use query_types::Plan;
-use row_engine::{passes, select_row};
+use row_engine::{passes, select_row, settled};
 use std::alloc::{AllocError, Global};
 
 /// Makes of each record the output row of a plan over a run's columns.
@@ -23,7 +25,11 @@ pub struct SampledPicker<'a> {
     pub plan: Plan,
     pub pattern: &'a Pattern,
     pub told: Judged,
+    /// The same plan, what is the same in each row worked out.
+    settled: Plan,
     columns: Parts,
+    ghost keeps_alike: { (row : List Value) → keeps (option_map filter_of settled.condition) row ≡ keeps (option_map filter_of plan.condition) row },
+    ghost selects_alike: { (row : List Value) → selected_in row settled.items ≡ selected_in row plan.items },
     ghost parted: { Parted (length plan.used) columns.asked columns.rest plan.items (option_map filter_of plan.condition) },
     ghost fits: { length told.columns + 2 ≤ length plan.used },
 }
@@ -43,10 +49,12 @@ impl<'a> SampledPicker<'a> {
         ensures told { IfOk result (λ picker. picker.told ≡ told) }
     {
         let columns = part_columns(alloc, &plan)?;
+        let settled = settled(alloc, &plan)?;
         Ok(SampledPicker {
             plan,
             pattern,
             told,
+            settled,
             columns,
         })
     }
@@ -79,7 +87,7 @@ impl<'a> Picker for SampledPicker<'a> {
             fields,
             values,
         )?;
-        let is_kept = passes(alloc, &self.plan, values)?;
+        let is_kept = passes(alloc, &self.settled, values)?;
         if !is_kept {
             return Ok(false);
         }
@@ -95,7 +103,7 @@ impl<'a> Picker for SampledPicker<'a> {
             fields,
             values,
         )?;
-        select_row(alloc, &self.plan, values, row)?;
+        select_row(alloc, &self.settled, values, row)?;
         Ok(true)
     }
 }
