@@ -1,5 +1,5 @@
 // A field of a line, where the line holds it as it is, or with its quotes doubled.
-ghost use Rattle.std.specs.Prelude.{◌≡◌, ◌≤◌, ◌++◌, ℕ, List, true, false, length, drop, IfOk};
+ghost use Rattle.std.specs.Prelude.{◌≡◌, ◌≤◌, ℕ, List, true, false, length, drop, IfOk};
 ghost use Rattle.std.specs.List.{position_or_len};
 ghost use Rattle.memchr.specs.Find.{is_byte};
 ghost use Rattle.line_input.specs.Taken.{part_of, slot_bytes};

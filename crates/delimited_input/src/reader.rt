@@ -1,7 +1,6 @@
 // Logs of fields that one byte parts, line by line.
 ghost use Rattle.std.specs.Prelude.{◌≡◌, ◌+◌, ◌<◌, ◌^◌, ◌↔◌, ◌∷◌, [], false, List, ℕ, length, OnOk, OnErr, IsErr, IfOk, Some, if◌then◌else◌};
 ghost use Rattle.line_input.specs.Taken.{reading_in, slots_of};
-ghost use Rattle.line_input.specs.declared.slot.Slot.{Slot};
 ghost use Rattle.lp_model.specs.Reading.{passed, bad, rows};
 ghost use Rattle.delimited_input.specs.Kept.{texts_of};
 ghost use Rattle.delimited_input.specs.Lines.{fields_in, is_broken, first_reading, filled_reading, delimited_lines};
