@@ -33,16 +33,6 @@ impl<'a> Seen<'a> {
         }
     }
 
-    /// The same again, which copies only what was made.
-    pub fn again(&self, alloc: Global) -> Result<Seen<'a>, AllocError>
-        ensures { IfOk result (λ seen. seen_value seen ≡ seen_value self.now) }
-    {
-        match self {
-            Seen::There(value) => Ok(Seen::There(*value)),
-            Seen::Made(value) => Ok(Seen::Made(value.copy(alloc)?)),
-        }
-    }
-
     /// The value as one's own.
     pub fn into_value(self, alloc: Global) -> Result<Value, AllocError>
         ensures { IfOk result (λ value. value ≡ seen_value self.entry) }

@@ -87,7 +87,7 @@ fn is_met(alloc: Global, row: &ValueList, subject: &Value, test: &Form) -> Resul
     Ok(compare(Compare::Equal, subject, test.get()) == Truth::Yes)
 }
 
-// What a CASE takes: only the tests before it are worked out.
+// What a CASE takes of its parts, of which nothing else but the tests before it is worked out.
 #[cycle(values)]
 fn branched<'a>(
     alloc: Global,
