@@ -3,6 +3,7 @@ pub mod DigitLemmas
 pub mod Escapes
 pub mod FittingLemmas
 pub mod NameLemmas
+pub mod KindLemmas
 pub mod NullLemmas
 pub mod PrintedLemmas
 pub mod RowLemmas

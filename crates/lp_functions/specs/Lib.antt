@@ -10,5 +10,6 @@ pub mod Names
 pub mod Numbers
 pub mod Table
 pub mod Texts
+pub mod Told
 pub mod Tokens
 pub mod Urls

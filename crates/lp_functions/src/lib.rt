@@ -10,6 +10,7 @@ mod choices;
 mod counting;
 mod cutting;
 mod function;
+mod laws;
 mod making;
 mod moments;
 mod numbers;
@@ -23,5 +24,6 @@ mod urls;
 
 pub use applying::{apply, apply_to_one, apply_to_three, apply_to_two};
 pub use function::Function;
+pub use laws::kind_is_told;
 pub use moments::{read_as, to_date, to_time};
 pub use texts::write_as;
