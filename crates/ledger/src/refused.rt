@@ -15,7 +15,7 @@ pub enum Part2 {
 pub enum LedgerRefused {
     #[error("a disk failed")]
     DiskFault,
-    /// A field that doesn't fit, by its place in the file in bytes.
+    // A field that doesn't fit, by its place in the file in bytes.
     #[error("damaged at {at}")]
     LedgerFault { part: Part2, at: u64 },
 }

@@ -1,7 +1,7 @@
 //! Fields of a log as values.
 //!
-//! A crate above may rely on the exact value of each field: `read_slot` answers it for each way in which a column is read.
-//! `specs` has the definitions.
+//! A crate above may rely on the exact value of each field: [`read_slot`] answers it for each way in which a column is
+//! read, and the functions beside it where the way is known. `specs` has the definitions.
 #![tactic(auto)]
 
 mod names;
@@ -12,4 +12,4 @@ mod tests;
 
 pub use names::is_same_name;
 pub use reading::Reading;
-pub use slots::read_slot;
+pub use slots::{integer_value, read_slot, real_value, stamp_value};

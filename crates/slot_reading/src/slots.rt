@@ -21,7 +21,8 @@ fn text_in(bytes: &[u8]) -> Option<&str>
     }
 }
 
-fn integer_value(bytes: &[u8]) -> Value
+/// The whole number that a field's bytes are, or NULL.
+pub fn integer_value(bytes: &[u8]) -> Value
     ensures { result ≡ value_in Reading.Integer bytes.now }
 {
     match text_in(bytes) {
@@ -33,7 +34,8 @@ fn integer_value(bytes: &[u8]) -> Value
     }
 }
 
-fn real_value(bytes: &[u8]) -> Value
+/// The number that a field's bytes are, or NULL.
+pub fn real_value(bytes: &[u8]) -> Value
     ensures { result ≡ value_in Reading.Real bytes.now }
 {
     match text_in(bytes) {
@@ -45,7 +47,8 @@ fn real_value(bytes: &[u8]) -> Value
     }
 }
 
-fn stamp_value(pattern: &Pattern, bytes: &[u8]) -> Value
+/// The date or time that a field's bytes are by a pattern, or NULL.
+pub fn stamp_value(pattern: &Pattern, bytes: &[u8]) -> Value
     ensures { result ≡ value_in (Reading.By pattern.now) bytes.now }
 {
     match text_in(bytes) {
