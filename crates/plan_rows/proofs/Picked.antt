@@ -10,8 +10,8 @@ use Rattle.query_types.specs.Planned.{is_mentioned}
 use Rattle.row_engine.specs.Rows.{keeps, selected_in}
 use Rattle.log_reading.specs.Found.{Found}
 use Rattle.slot_reading.specs.declared.reading.Reading.{Reading}
-use Rattle.plan_rows.specs.Picks.{Parted, Put, if_kept, is_among, plan_picks, table_row}
-use Rattle.plan_rows.proofs.Agreeing.{Agree, keeps_same, selected_same}
+use Rattle.plan_rows.specs.Picks.{Parted, Put, if_kept, is_among, table_row}
+use Rattle.row_engine.proofs.Agreeing.{Agree, keeps_same, selected_same}
 use Rattle.plan_rows.proofs.Fields.{fields_length}
 
 -- a row has the log's name, the number and a value for each reading
@@ -23,7 +23,7 @@ agree_past : (values row : List Value) (k many : ℕ) → length values ≡ many
 agree_past values row k many size fits past = get_or_past values k Null (omega arith) ∙ sym (get_or_past row k Null (omega arith))
 
 -- once the columns that WHERE asks are read, it tells the truth of the whole row
-pub asked_agree : (many : ℕ) (asked rest : List ℕ) (items : List Term) (condition : Option Filter) (row old values : List Value) → length row ≤ many → length old ≡ many → Parted many asked rest items condition → Put asked row old values
+asked_agree : (many : ℕ) (asked rest : List ℕ) (items : List Term) (condition : Option Filter) (row old values : List Value) → length row ≤ many → length old ≡ many → Parted many asked rest items condition → Put asked row old values
     → Agree values row (λ k. is_mentioned k condition)
 asked_agree many asked rest items condition row old values fits size parted put = λ k h. elim (cases_lt k many) [
   | inl within ↦ put.put k (parted.mentioned k within h)
@@ -31,7 +31,7 @@ asked_agree many asked rest items condition row old values fits size parted put 
 ]
 
 -- once the others are read too, SELECT takes of them what it takes of the whole row
-pub items_agree : (many : ℕ) (asked rest : List ℕ) (items : List Term) (condition : Option Filter) (row old values all : List Value) → length row ≤ many → length old ≡ many → Parted many asked rest items condition → Put asked row old values → Put rest row values all
+items_agree : (many : ℕ) (asked rest : List ℕ) (items : List Term) (condition : Option Filter) (row old values all : List Value) → length row ≤ many → length old ≡ many → Parted many asked rest items condition → Put asked row old values → Put rest row values all
     → Agree all row (λ k. any_has_column k items)
 items_agree many asked rest items condition row old values all fits size parted first second = λ k h. elim (cases_lt k many) [
   | inr past ↦ agree_past all row k many (second.size ∙ (first.size ∙ size)) fits past
@@ -44,23 +44,19 @@ items_agree many asked rest items condition row old values all fits size parted 
   ]
 ]
 
--- a record whose row isn't kept
-pub picks_none : (many : ℕ) (asked rest : List ℕ) (readings : List Reading) (items : List Term) (condition : Option Filter) (found : Found) (old values : List Value)
-    → length readings + 2 ≤ many → length old ≡ many → Parted many asked rest items condition → Put asked (table_row readings found) old values → keeps condition values ≡ false
-    → None ≡ plan_picks readings items condition found
-picks_none many asked rest readings items condition found old values fits room parted put kept =
-    let row = table_row readings found in
-    let size = row_length readings found in
-    let same = keeps_same values row condition (asked_agree many asked rest items condition row old values (omega arith) room parted put) in
+-- a row that WHERE drops
+pub picks_none : (many : ℕ) (asked rest : List ℕ) (items : List Term) (condition : Option Filter) (row old values : List Value)
+    → length row ≤ many → length old ≡ many → Parted many asked rest items condition → Put asked row old values → keeps condition values ≡ false
+    → None ≡ if_kept (keeps condition row) (selected_in row items)
+picks_none many asked rest items condition row old values fits room parted put kept =
+    let same = keeps_same values row condition (asked_agree many asked rest items condition row old values fits room parted put) in
     sym (ap (λ (b : Bool). if_kept b (selected_in row items)) (sym same ∙ kept))
 
--- a record whose row is kept
-pub picks_some : (many : ℕ) (asked rest : List ℕ) (readings : List Reading) (items : List Term) (condition : Option Filter) (found : Found) (old values all out : List Value)
-    → length readings + 2 ≤ many → length old ≡ many → Parted many asked rest items condition → Put asked (table_row readings found) old values → keeps condition values ≡ true
-    → Put rest (table_row readings found) values all → out ≡ selected_in all items → Some out ≡ plan_picks readings items condition found
-picks_some many asked rest readings items condition found old values all out fits room parted first kept second out_is =
-    let row = table_row readings found in
-    let size = row_length readings found in
-    let same = keeps_same values row condition (asked_agree many asked rest items condition row old values (omega arith) room parted first) in
-    let made = selected_same all row items (items_agree many asked rest items condition row old values all (omega arith) room parted first second) in
+-- a row that WHERE keeps
+pub picks_some : (many : ℕ) (asked rest : List ℕ) (items : List Term) (condition : Option Filter) (row old values all out : List Value)
+    → length row ≤ many → length old ≡ many → Parted many asked rest items condition → Put asked row old values → keeps condition values ≡ true
+    → Put rest row values all → out ≡ selected_in all items → Some out ≡ if_kept (keeps condition row) (selected_in row items)
+picks_some many asked rest items condition row old values all out fits room parted first kept second out_is =
+    let same = keeps_same values row condition (asked_agree many asked rest items condition row old values fits room parted first) in
+    let made = selected_same all row items (items_agree many asked rest items condition row old values all fits room parted first second) in
     ap Some (out_is ∙ made) ∙ sym (ap (λ (b : Bool). if_kept b (selected_in row items)) (sym same ∙ kept))

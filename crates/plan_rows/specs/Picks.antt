@@ -37,16 +37,6 @@ if_kept false row = None
 abbrev pub plan_picks : List Reading → List Term → Option Filter → Found → Option (List Value)
 plan_picks readings items condition found = let row = table_row readings found in if_kept (keeps condition row) (selected_in row items)
 
--- a value where it is used, else NULL
-abbrev pub if_used : Bool → Value → Value
-if_used true value = value
-if_used false value = Null
-
--- a row from a place on, with NULL for each value that isn't used
-abbrev pub masked : List Bool → List Value → ℕ → List Value
-masked used [] at = []
-masked used (value ∷ values) at = if_used (get_or used at false) value ∷ masked used values (at + 1)
-
 -- whether a column is one of these
 abbrev pub is_among : ℕ → List ℕ → Bool
 is_among k columns = list_any (λ column. column == k) columns

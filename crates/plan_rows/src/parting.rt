@@ -31,7 +31,7 @@ fn is_asked(column: usize, condition: &Option<Condition>) -> bool
 }
 
 /// Parts the columns that a plan uses.
-pub fn part_columns(alloc: Global, plan: &Plan) -> Result<Parts, AllocError>
+pub(crate) fn part_columns(alloc: Global, plan: &Plan) -> Result<Parts, AllocError>
     requires { Covers plan.now.used plan.now.items (option_map filter_of plan.now.condition) }
     ensures { IfOk result (λ parts. Parted (length plan.now.used) parts.asked parts.rest plan.now.items (option_map filter_of plan.now.condition)) }
 {

@@ -1,19 +1,16 @@
 // A plan as a picker.
-ghost use Rattle.std.specs.Prelude.{◌≡◌, ◌+◌, ◌≤◌, List, length, option_map, IfOk};
-ghost use Rattle.lp_values.specs.declared.value.Value.{Value};
+ghost use Rattle.std.specs.Prelude.{◌≡◌, ◌+◌, ◌≤◌, length, option_map, IfOk};
 ghost use Rattle.query_types.specs.Conditions.{filter_of};
 ghost use Rattle.query_types.specs.Planned.{Covers};
-ghost use Rattle.row_engine.specs.Rows.{keeps, selected_in};
-ghost use Rattle.plan_rows.specs.Picks.{Parted, plan_picks};
+ghost use Rattle.plan_rows.specs.Picks.{plan_picks};
 
-use crate::parting::{Parts, part_columns};
+use crate::ReadyPlan;
 use crate::row::{make_room, read_columns};
 use line_input::{Columns, Fields};
 use lp_outside::Name;
 use lp_values::{ListOf, ValueList};
 use query_run::Picker;
 use query_types::Plan;
-use row_engine::{passes, select_row, settled};
 use slot_reading::Reading;
 use std::alloc::{AllocError, Global};
 
@@ -23,15 +20,9 @@ pub type ReadingList = ListOf<Reading>;
 /// Makes of each record the output row of a plan.
 #[derive(Drop)]
 pub struct PlanPicker {
-    pub plan: Plan,
+    pub ready: ReadyPlan,
     pub readings: ReadingList,
-    /// The same plan, what is the same in each row worked out.
-    settled: Plan,
-    columns: Parts,
-    ghost keeps_alike: { (row : List Value) → keeps (option_map filter_of settled.condition) row ≡ keeps (option_map filter_of plan.condition) row },
-    ghost selects_alike: { (row : List Value) → selected_in row settled.items ≡ selected_in row plan.items },
-    ghost parted: { Parted (length plan.used) columns.asked columns.rest plan.items (option_map filter_of plan.condition) },
-    ghost fits: { length readings + 2 ≤ length plan.used },
+    ghost fits: { length readings + 2 ≤ length ready.plan.used },
 }
 
 impl PlanPicker {
@@ -39,22 +30,16 @@ impl PlanPicker {
     pub fn new(alloc: Global, plan: Plan, readings: ReadingList) -> Result<PlanPicker, AllocError>
         requires covers { Covers plan.used plan.items (option_map filter_of plan.condition) }
         requires fits { length readings + 2 ≤ length plan.used }
-        ensures plan { IfOk result (λ picker. picker.plan ≡ plan) }
+        ensures plan { IfOk result (λ picker. picker.ready.plan ≡ plan) }
         ensures readings { IfOk result (λ picker. picker.readings ≡ readings) }
     {
-        let columns = part_columns(alloc, &plan)?;
-        let settled = settled(alloc, &plan)?;
-        Ok(PlanPicker {
-            plan,
-            readings,
-            settled,
-            columns,
-        })
+        let ready = ReadyPlan::new(alloc, plan)?;
+        Ok(PlanPicker { ready, readings })
     }
 }
 
 impl Picker for PlanPicker {
-    ghost picks = { λ s. plan_picks s.readings s.plan.items (option_map filter_of s.plan.condition) };
+    ghost picks = { λ s. plan_picks s.readings s.ready.plan.items (option_map filter_of s.ready.plan.condition) };
 
     fn pick(
         &self,
@@ -67,10 +52,10 @@ impl Picker for PlanPicker {
         values: &mut ValueList,
         row: &mut ValueList,
     ) -> Result<bool, AllocError> {
-        make_room(values, self.plan.used.len())?;
+        make_room(values, self.ready.plan.used.len())?;
         read_columns(
             alloc,
-            &self.columns.asked,
+            &self.ready.columns.asked,
             &self.readings,
             identity,
             number,
@@ -78,13 +63,13 @@ impl Picker for PlanPicker {
             fields,
             values,
         )?;
-        let is_kept = passes(alloc, &self.settled, values)?;
+        let is_kept = self.ready.keeps(alloc, values)?;
         if !is_kept {
             return Ok(false);
         }
         read_columns(
             alloc,
-            &self.columns.rest,
+            &self.ready.columns.rest,
             &self.readings,
             identity,
             number,
@@ -92,7 +77,7 @@ impl Picker for PlanPicker {
             fields,
             values,
         )?;
-        select_row(alloc, &self.settled, values, row)?;
+        self.ready.select(alloc, values, row)?;
         Ok(true)
     }
 }

@@ -61,54 +61,54 @@ told_same text limit pattern moment q rules start now past gathering asks gather
     ∙ ap₂ (judged rules.limit rules.pattern) gathers.first gathers.rows)
 
 rows_same : (rules : Rules) (now : Judged) (picker : SampledPicker) (xs ys : List Found) → picker.pattern.now ≡ rules.pattern → picker.told ≡ now → xs ≡ ys
-    → picked (sampled_picks picker.pattern.now picker.told picker.plan.items (option_map filter_of picker.plan.condition)) xs ≡ rows_with rules.pattern now (planned_in picker.plan) ys
+    → picked (sampled_picks picker.pattern.now picker.told picker.ready.plan.items (option_map filter_of picker.ready.plan.condition)) xs ≡ rows_with rules.pattern now (planned_in picker.ready.plan) ys
 rows_same rules now picker xs ys pattern told_is founds =
-    ap (λ p. rows_with p picker.told (planned_in picker.plan) xs) pattern
-    ∙ (ap (λ t. rows_with rules.pattern t (planned_in picker.plan) xs) told_is
-    ∙ ap (rows_with rules.pattern now (planned_in picker.plan)) founds)
+    ap (λ p. rows_with p picker.told (planned_in picker.ready.plan) xs) pattern
+    ∙ (ap (λ t. rows_with rules.pattern t (planned_in picker.ready.plan) xs) told_is
+    ∙ ap (rows_with rules.pattern now (planned_in picker.ready.plan)) founds)
 
 -- the picker of a plan over what was judged
 pub record IsPickerOf (times : List Piece) (when : ℤ) (asked : Query) (what : Judged) (picker : SampledPicker) : Type 0 where
-  pub planned : plan_of (table_of what) when asked ≡ Ok (planned_in picker.plan)
+  pub planned : plan_of (table_of what) when asked ≡ Ok (planned_in picker.ready.plan)
   pub told : picker.told ≡ what
   pub pattern : picker.pattern.now ≡ times
 
 pub begun_is : {F : Type 0} (text : TextOf F) (has_text : HasTextOf F) (limit : ℕ) (pattern : List Piece) (moment : ℤ) (q : Query) (gathering : Gathering F) (picker : SampledPicker) (writer : Writer F SampledPicker) (u v : Option (List ℕ))
     → IsPickerOf pattern moment q (judged limit pattern gathering.first (map found_in gathering.rows)) picker → writer.picker ≡ picker
-    → IsUnderWay (has_text writer.shape true picker.plan.names (picked (sampled_picks picker.pattern.now picker.told picker.plan.items (option_map filter_of picker.plan.condition)) (map found_in gathering.rows))) u v writer.buffers.held
+    → IsUnderWay (has_text writer.shape true picker.ready.plan.names (picked (sampled_picks picker.pattern.now picker.told picker.ready.plan.items (option_map filter_of picker.ready.plan.condition)) (map found_in gathering.rows))) u v writer.buffers.held
     → text writer.shape ≡ text gathering.shape
-    → writer.output ≡ length (picked (sampled_picks picker.pattern.now picker.told picker.plan.items (option_map filter_of picker.plan.condition)) (map found_in gathering.rows))
+    → writer.output ≡ length (picked (sampled_picks picker.pattern.now picker.told picker.ready.plan.items (option_map filter_of picker.ready.plan.condition)) (map found_in gathering.rows))
     → (rules : Rules) (start : Option (List ℕ)) (past : Past) → Asks limit pattern moment q rules → Gathers text rules start past gathering u → Begun text has_text rules start past writer v
 begun_is text has_text limit pattern moment q gathering picker writer u v is same under_way format output rules start past asks gathers =
     let told = told_same text limit pattern moment q rules start u past gathering asks gathers in
     let rows = rows_same rules (told_at rules past) picker (map found_in gathering.rows) past.founds (is.pattern ∙ asks.pattern) (is.told ∙ told) gathers.rows in
-    let Way : SampledPicker → Type 0 = λ p. IsUnderWay (has_text writer.shape true p.plan.names (rows_at rules past (planned_in p.plan))) start v writer.buffers.held in
-    let Rows : List (List Value) → Type 0 = λ t. IsUnderWay (has_text writer.shape true picker.plan.names t) start v writer.buffers.held in
-    let Start : Option (List ℕ) → Type 0 = λ t. IsUnderWay (has_text writer.shape true picker.plan.names (picked (sampled_picks picker.pattern.now picker.told picker.plan.items (option_map filter_of picker.plan.condition)) (map found_in gathering.rows))) t v writer.buffers.held in
+    let Way : SampledPicker → Type 0 = λ p. IsUnderWay (has_text writer.shape true p.ready.plan.names (rows_at rules past (planned_in p.ready.plan))) start v writer.buffers.held in
+    let Rows : List (List Value) → Type 0 = λ t. IsUnderWay (has_text writer.shape true picker.ready.plan.names t) start v writer.buffers.held in
+    let Start : Option (List ℕ) → Type 0 = λ t. IsUnderWay (has_text writer.shape true picker.ready.plan.names (picked (sampled_picks picker.pattern.now picker.told picker.ready.plan.items (option_map filter_of picker.ready.plan.condition)) (map found_in gathering.rows))) t v writer.buffers.held in
     record {
-      planned = sym (ap (λ t. plan_of (table_of t) moment q) told ∙ ap₂ (λ m q. plan_of (table_of (told_at rules past)) m q) asks.moment asks.query) ∙ (is.planned ∙ ap (λ (p : SampledPicker). Ok (planned_in p.plan)) (sym same));
+      planned = sym (ap (λ t. plan_of (table_of t) moment q) told ∙ ap₂ (λ m q. plan_of (table_of (told_at rules past)) m q) asks.moment asks.query) ∙ (is.planned ∙ ap (λ (p : SampledPicker). Ok (planned_in p.ready.plan)) (sym same));
       told = ap (λ (p : SampledPicker). p.told) same ∙ (is.told ∙ told);
       pattern = ap (λ (p : SampledPicker). p.pattern.now) same ∙ (is.pattern ∙ asks.pattern);
       under_way = subst Way (sym same) (subst Rows rows (subst Start gathers.nothing under_way));
       format = format ∙ gathers.format;
-      output = output ∙ (ap length rows ∙ ap (λ (p : SampledPicker). length (rows_at rules past (planned_in p.plan))) (sym same));
+      output = output ∙ (ap length rows ∙ ap (λ (p : SampledPicker). length (rows_at rules past (planned_in p.ready.plan))) (sym same));
     }
 
 pub begun_within : {F : Type 0} (text : TextOf F) (limit : ℕ) (pattern : List Piece) (moment : ℤ) (q : Query) (gathering : Gathering F) (picker : SampledPicker) (u v : Option (List ℕ))
     → IsPickerOf pattern moment q (judged limit pattern gathering.first (map found_in gathering.rows)) picker
-    → ((more : List Found) → GainsSome u v (text gathering.shape true picker.plan.names (picked (sampled_picks picker.pattern.now picker.told picker.plan.items (option_map filter_of picker.plan.condition)) (map found_in gathering.rows ++ more))))
+    → ((more : List Found) → GainsSome u v (text gathering.shape true picker.ready.plan.names (picked (sampled_picks picker.pattern.now picker.told picker.ready.plan.items (option_map filter_of picker.ready.plan.condition)) (map found_in gathering.rows ++ more))))
     → (rules : Rules) (start : Option (List ℕ)) (past later : Past) → Asks limit pattern moment q rules → Gathers text rules start past gathering u → Later past later → told_at rules later ≡ told_at rules past → IsWithin rules start later v
 begun_within text limit pattern moment q gathering picker u v is front rules start past later asks gathers follows stays =
     let told = told_same text limit pattern moment q rules start u past gathering asks gathers ∙ sym stays in
     let founds : map found_in gathering.rows ++ follows.more ≡ later.founds = ap (λ t. t ++ follows.more) gathers.rows ∙ sym follows.founds in
     let rows = rows_same rules (told_at rules later) picker (map found_in gathering.rows ++ follows.more) later.founds (is.pattern ∙ asks.pattern) (is.told ∙ told) founds in
-    let whole : text gathering.shape true picker.plan.names (picked (sampled_picks picker.pattern.now picker.told picker.plan.items (option_map filter_of picker.plan.condition)) (map found_in gathering.rows ++ follows.more)) ≡ text_at rules later (planned_in picker.plan) =
-    ap₂ (λ t rows. t true picker.plan.names rows) gathers.format rows in
+    let whole : text gathering.shape true picker.ready.plan.names (picked (sampled_picks picker.pattern.now picker.told picker.ready.plan.items (option_map filter_of picker.ready.plan.condition)) (map found_in gathering.rows ++ follows.more)) ≡ text_at rules later (planned_in picker.ready.plan) =
+    ap₂ (λ t rows. t true picker.ready.plan.names rows) gathers.format rows in
     let Of : Option (List ℕ) → List ℕ → Type 0 = λ s t. GainsSome s v t in
     record {
-      plan = planned_in picker.plan;
+      plan = planned_in picker.ready.plan;
       planned = sym (ap (λ t. plan_of (table_of t) moment q) told ∙ ap₂ (λ m q. plan_of (table_of (told_at rules later)) m q) asks.moment asks.query) ∙ is.planned;
-      front = subst (λ (s : Option (List ℕ)). Of s (text_at rules later (planned_in picker.plan))) gathers.nothing (subst (Of u) whole (front follows.more));
+      front = subst (λ (s : Option (List ℕ)). Of s (text_at rules later (planned_in picker.ready.plan))) gathers.nothing (subst (Of u) whole (front follows.more));
     }
 
 -- no plan was made, and nothing written
@@ -151,7 +151,7 @@ pub ended : {F : Type 0} (text : TextOf F) (has_text : HasTextOf F) (rules : Rul
     → ((fresh : Bool) (names : List (List ℕ)) (rows : List (List Value)) (start : Option (List ℕ)) → IsUnderWay (has_text writer.shape fresh names rows) start u writer.buffers.held → Gains start v (text writer.shape fresh names rows))
     → Begun text has_text rules start past writer u → IsWritten rules start past output v
 ended text has_text rules start u v past writer output same whole begun =
-    let plan = planned_in writer.picker.plan in
+    let plan = planned_in writer.picker.ready.plan in
     let Of : List ℕ → Type 0 = λ t. Gains start v t in
     record {
       plan = plan;
@@ -164,7 +164,7 @@ pub end_within : {F : Type 0} (text : TextOf F) (has_text : HasTextOf F) (rules 
     → ((fresh : Bool) (names : List (List ℕ)) (rows : List (List Value)) (start : Option (List ℕ)) → IsUnderWay (has_text writer.shape fresh names rows) start u writer.buffers.held → GainsSome start v (text writer.shape fresh names rows))
     → Begun text has_text rules start past writer u → IsWithin rules start past v
 end_within text has_text rules start u v past writer front begun =
-    let plan = planned_in writer.picker.plan in
+    let plan = planned_in writer.picker.ready.plan in
     let Of : List ℕ → Type 0 = λ t. GainsSome start v t in
     record {
       plan = plan;

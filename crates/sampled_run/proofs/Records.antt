@@ -30,7 +30,7 @@ use Rattle.sampled_run.specs.declared.phase.Sampling.{Sampling}
 
 -- what a picker makes of a record
 abbrev pub picks_of : SampledPicker → Found → Option (List Value)
-picks_of picker = sampled_picks picker.pattern.now picker.told picker.plan.items (option_map filter_of picker.plan.condition)
+picks_of picker = sampled_picks picker.pattern.now picker.told picker.ready.plan.items (option_map filter_of picker.ready.plan.condition)
 
 -- ---- a record that is kept
 
@@ -66,15 +66,15 @@ told_more rules past founds is =
     let enough = is.enough in
     record { log = is.log; known = ap (λ (f : Option FirstLog). first_seen f founds) is.known; some = omega arith; enough = omega arith }
 
-picks_same : (rules : Rules) (told : Judged) (picker : SampledPicker) (founds : List Found) → picker.told ≡ told → picker.pattern.now ≡ rules.pattern → picked (picks_of picker) founds ≡ rows_with rules.pattern told (planned_in picker.plan) founds
+picks_same : (rules : Rules) (told : Judged) (picker : SampledPicker) (founds : List Found) → picker.told ≡ told → picker.pattern.now ≡ rules.pattern → picked (picks_of picker) founds ≡ rows_with rules.pattern told (planned_in picker.ready.plan) founds
 picks_same rules told picker founds same pattern =
-    ap (λ p. rows_with p picker.told (planned_in picker.plan) founds) pattern ∙ ap (λ t. rows_with rules.pattern t (planned_in picker.plan) founds) same
+    ap (λ p. rows_with p picker.told (planned_in picker.ready.plan) founds) pattern ∙ ap (λ t. rows_with rules.pattern t (planned_in picker.ready.plan) founds) same
 
 -- the rows so far, and those of some records more
 rows_joined : (rules : Rules) (past later : Past) (picker : SampledPicker) (more : List Found) → IsTold rules past → Later past later → later.founds ≡ past.founds ++ more → picker.told ≡ told_at rules past → picker.pattern.now ≡ rules.pattern
-    → rows_at rules past (planned_in picker.plan) ++ picked (picks_of picker) more ≡ rows_at rules later (planned_in picker.plan)
+    → rows_at rules past (planned_in picker.ready.plan) ++ picked (picks_of picker) more ≡ rows_at rules later (planned_in picker.ready.plan)
 rows_joined rules past later picker more is follows founds told pattern =
-    let plan = planned_in picker.plan in
+    let plan = planned_in picker.ready.plan in
     ap (λ t. rows_at rules past plan ++ t) (picks_same rules (told_at rules past) picker more told pattern)
     ∙ (sym (rows_more rules.pattern (told_at rules past) plan past.founds more)
     ∙ ap₂ (λ t founds. rows_with rules.pattern t plan founds) (sym (told_stays rules past later is follows)) (sym founds))
@@ -87,19 +87,19 @@ writes_more text has_text rules start u v past old new founds writes on =
     let stays = told_stays rules past later on.told (later_with past founds) in
     let rows = rows_joined rules past later old.picker founds on.told (later_with past founds) refl begun.told begun.pattern in
     let same = writes.picker in
-    let Way : SampledPicker → Type 0 = λ p. IsUnderWay (has_text new.shape true p.plan.names (rows_at rules later (planned_in p.plan))) start v new.buffers.held in
-    let Rows : List (List Value) → Type 0 = λ t. IsUnderWay (has_text new.shape true old.picker.plan.names t) start v new.buffers.held in
-    let count : length (rows_at rules later (planned_in old.picker.plan)) ≡ length (rows_at rules past (planned_in old.picker.plan)) + length (picked (picks_of old.picker) founds) =
-    ap length (sym rows) ∙ length-append (rows_at rules past (planned_in old.picker.plan)) (picked (picks_of old.picker) founds) in
+    let Way : SampledPicker → Type 0 = λ p. IsUnderWay (has_text new.shape true p.ready.plan.names (rows_at rules later (planned_in p.ready.plan))) start v new.buffers.held in
+    let Rows : List (List Value) → Type 0 = λ t. IsUnderWay (has_text new.shape true old.picker.ready.plan.names t) start v new.buffers.held in
+    let count : length (rows_at rules later (planned_in old.picker.ready.plan)) ≡ length (rows_at rules past (planned_in old.picker.ready.plan)) + length (picked (picks_of old.picker) founds) =
+    ap length (sym rows) ∙ length-append (rows_at rules past (planned_in old.picker.ready.plan)) (picked (picks_of old.picker) founds) in
     record {
       told = told_more rules past founds on.told;
       begun = record {
-        planned = ap (λ t. plan_of (table_of t) rules.moment rules.query) stays ∙ (begun.planned ∙ ap (λ (p : SampledPicker). Ok (planned_in p.plan)) (sym same));
+        planned = ap (λ t. plan_of (table_of t) rules.moment rules.query) stays ∙ (begun.planned ∙ ap (λ (p : SampledPicker). Ok (planned_in p.ready.plan)) (sym same));
         told = ap (λ (p : SampledPicker). p.told) same ∙ (begun.told ∙ sym stays);
         pattern = ap (λ (p : SampledPicker). p.pattern.now) same ∙ begun.pattern;
-        under_way = subst Way (sym same) (subst Rows rows (writes.written true old.picker.plan.names (rows_at rules past (planned_in old.picker.plan)) start begun.under_way));
+        under_way = subst Way (sym same) (subst Rows rows (writes.written true old.picker.ready.plan.names (rows_at rules past (planned_in old.picker.ready.plan)) start begun.under_way));
         format = writes.format ∙ begun.format;
-        output = writes.output ∙ (ap (λ n. n + length (picked (picks_of old.picker) founds)) begun.output ∙ (sym count ∙ ap (λ (p : SampledPicker). length (rows_at rules later (planned_in p.plan))) (sym same)));
+        output = writes.output ∙ (ap (λ n. n + length (picked (picks_of old.picker) founds)) begun.output ∙ (sym count ∙ ap (λ (p : SampledPicker). length (rows_at rules later (planned_in p.ready.plan))) (sym same)));
       };
     }
 
@@ -109,7 +109,7 @@ pub halts_front : {F : Type 0} (text : TextOf F) (has_text : HasTextOf F) (rules
 halts_front text has_text rules start u v past later old founds halts on follows =
     let begun = on.begun in
     let picker = old.picker in
-    let plan = planned_in picker.plan in
+    let plan = planned_in picker.ready.plan in
     let more = follows.more in
     let all : later.founds ≡ past.founds ++ (founds ++ more) = follows.founds ∙ append_assoc past.founds founds more in
     let after : Later past later = record { more = founds ++ more; founds = all; first = λ log known. follows.first log (ap (λ (f : Option FirstLog). first_seen f founds) known) } in
@@ -126,7 +126,7 @@ halts_front text has_text rules start u v past later old founds halts on follows
     })
   where
     picked_both : (picker : SampledPicker) (xs ys : List Found) → picked (picks_of picker) (xs ++ ys) ≡ picked (picks_of picker) xs ++ picked (picks_of picker) ys
-    picked_both picker xs ys = rows_more picker.pattern.now picker.told (planned_in picker.plan) xs ys
+    picked_both picker xs ys = rows_more picker.pattern.now picker.told (planned_in picker.ready.plan) xs ys
 
 -- ---- the phases of a run
 

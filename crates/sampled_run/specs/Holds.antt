@@ -27,12 +27,12 @@ pub record Gathers {F : Type 0} (text : TextOf F) (rules : Rules) (start : Optio
 
 -- the plan is that of the table that the records tell, and the text of their rows is under way
 pub record Begun {F : Type 0} (text : TextOf F) (has_text : HasTextOf F) (rules : Rules) (start : Option (List ℕ)) (past : Past) (writer : Writer F SampledPicker) (now : Option (List ℕ)) : Type 0 where
-  pub planned : plan_at rules past ≡ Ok (planned_in writer.picker.plan)
+  pub planned : plan_at rules past ≡ Ok (planned_in writer.picker.ready.plan)
   pub told : writer.picker.told ≡ told_at rules past
   pub pattern : writer.picker.pattern.now ≡ rules.pattern
-  pub under_way : IsUnderWay (has_text writer.shape true writer.picker.plan.names (rows_at rules past (planned_in writer.picker.plan))) start now writer.buffers.held
+  pub under_way : IsUnderWay (has_text writer.shape true writer.picker.ready.plan.names (rows_at rules past (planned_in writer.picker.ready.plan))) start now writer.buffers.held
   pub format : text writer.shape ≡ rules.text
-  pub output : writer.output ≡ length (rows_at rules past (planned_in writer.picker.plan))
+  pub output : writer.output ≡ length (rows_at rules past (planned_in writer.picker.ready.plan))
 
 -- the first log is known, and there are records enough to judge its columns
 pub record IsTold (rules : Rules) (past : Past) : Type 0 where

@@ -83,7 +83,7 @@ rows_more pattern told plan xs ys = picked-append (sampled_picks pattern told pl
 pub within_later : {F : Type 0} (text : TextOf F) (has_text : HasTextOf F) (begins : BeginsOf F text has_text) (rules : Rules) (start now : Option (List ℕ)) (past later : Past) (writer : Writer F SampledPicker)
     → told_at rules later ≡ told_at rules past → Later past later → Begun text has_text rules start past writer now → IsWithin rules start later now
 within_later text has_text begins rules start now past later writer same follows begun =
-    let plan = planned_in writer.picker.plan in
+    let plan = planned_in writer.picker.ready.plan in
     let more = rows_with rules.pattern (told_at rules past) plan follows.more in
     let rows : rows_at rules later plan ≡ rows_at rules past plan ++ more =
     ap₂ (λ told founds. rows_with rules.pattern told plan founds) same follows.founds ∙ rows_more rules.pattern (told_at rules past) plan past.founds follows.more in

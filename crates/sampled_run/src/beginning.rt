@@ -82,16 +82,16 @@ fn begin_with<'a, F: Shape + Drop, G: Stage>(
     gathering: Gathering<F>,
     stage: &mut G,
 ) -> Result<Writer<F, SampledPicker<'a>>, TakeFault>
-    ensures under_way { IfOk result (λ writer. IsUnderWay (F.has_text writer.shape true picker.entry.plan.names (picked (sampled_picks picker.entry.pattern.now picker.entry.told picker.entry.plan.items (option_map filter_of picker.entry.plan.condition)) (map found_in gathering.rows))) (G.state stage.old).written (G.state stage.new).written writer.buffers.held) }
+    ensures under_way { IfOk result (λ writer. IsUnderWay (F.has_text writer.shape true picker.entry.ready.plan.names (picked (sampled_picks picker.entry.pattern.now picker.entry.told picker.entry.ready.plan.items (option_map filter_of picker.entry.ready.plan.condition)) (map found_in gathering.rows))) (G.state stage.old).written (G.state stage.new).written writer.buffers.held) }
     ensures format { IfOk result (λ writer. F.text writer.shape ≡ F.text gathering.shape) }
     ensures picker { IfOk result (λ writer. writer.picker ≡ picker.entry) }
-    ensures output { IfOk result (λ writer. writer.output ≡ length (picked (sampled_picks picker.entry.pattern.now picker.entry.told picker.entry.plan.items (option_map filter_of picker.entry.plan.condition)) (map found_in gathering.rows))) }
+    ensures output { IfOk result (λ writer. writer.output ≡ length (picked (sampled_picks picker.entry.pattern.now picker.entry.told picker.entry.ready.plan.items (option_map filter_of picker.entry.ready.plan.condition)) (map found_in gathering.rows))) }
     ensures taken { IfOk result (λ writer. writer.taken ≡ length gathering.rows) }
-    ensures front { OnErr result ((more : List Found) → GainsSome (G.state stage.old).written (G.state stage.new).written (F.text gathering.shape true picker.entry.plan.names (picked (sampled_picks picker.entry.pattern.now picker.entry.told picker.entry.plan.items (option_map filter_of picker.entry.plan.condition)) (map found_in gathering.rows ++ more)))) }
+    ensures front { OnErr result ((more : List Found) → GainsSome (G.state stage.old).written (G.state stage.new).written (F.text gathering.shape true picker.entry.ready.plan.names (picked (sampled_picks picker.entry.pattern.now picker.entry.told picker.entry.ready.plan.items (option_map filter_of picker.entry.ready.plan.condition)) (map found_in gathering.rows ++ more)))) }
     ensures later { G.faults stage.old ≤ G.faults stage.new }
     ensures failed { IsErrOf result TakeFault.Failed → Rose (G.faults stage.old) (G.faults stage.new) }
 {
-    let Ok(names) = copy_texts(alloc, &picker.plan.names) else {
+    let Ok(names) = copy_texts(alloc, &picker.ready.plan.names) else {
         return Err(TakeFault::Memory);
     };
     write_kept(

@@ -1,3 +1,2 @@
 mod Steps
-mod Picked
 pub mod Staying

@@ -9,9 +9,12 @@ use Rattle.lp_values.specs.declared.value.Value.{Value}
 use Rattle.lp_values.specs.declared.value.Value.TheVariants.{Null}
 use Rattle.delimited_input.specs.Kinds.{kinds_of}
 use Rattle.delimited_input.specs.Sampled.{Sampled, StandsFor}
-use Rattle.sampled_table.specs.Fields.{indexed, texts_under}
+use Rattle.log_reading.specs.Found.{Found}
+use Rattle.sampled_table.specs.Fields.{indexed, is_first, texts_under}
 use Rattle.sampled_table.specs.Judged.{kinds_under}
 use Rattle.sampled_table.specs.Kept.{found_in}
+use Rattle.sampled_table.specs.Picks.{row_of, value_in_column}
+use Rattle.sampled_table.specs.declared.judging.Judged.{Judged}
 use Rattle.sampled_table.specs.declared.kept.FirstLog.{FirstLog}
 use Rattle.sampled_table.specs.declared.kept.KeptRow.{KeptRow}
 
@@ -66,3 +69,7 @@ kinds_told sampler first limit pattern rows items i kinds columns limit_is patte
     ∙ (ap (λ p. kinds_of (length first.columns) p sampler.limit given) pattern_is
     ∙ (ap (λ n. kinds_of (length first.columns) pattern n given) limit_is
     ∙ ap (λ t. kinds_of (length first.columns) pattern limit (map (texts_under first) (map found_in t))) (take_all i items all ∙ same))))
+
+-- a row has the log's name, the number and a value for each column
+pub row_length : (pattern : List Piece) (told : Judged) (found : Found) → length (row_of pattern told found) ≡ length told.columns + 2
+row_length pattern told found = let size = indexed_length (value_in_column pattern (is_first told.log found.identity) found.row.columns found.row.slots) 0 told.columns in omega arith

@@ -1,10 +1,7 @@
 // A plan over sampled columns as a picker.
-ghost use Rattle.std.specs.Prelude.{◌≡◌, ◌+◌, ◌≤◌, List, length, option_map, IfOk};
-ghost use Rattle.lp_values.specs.declared.value.Value.{Value};
+ghost use Rattle.std.specs.Prelude.{◌≡◌, ◌+◌, ◌≤◌, length, option_map, IfOk};
 ghost use Rattle.query_types.specs.Conditions.{filter_of};
 ghost use Rattle.query_types.specs.Planned.{Covers};
-ghost use Rattle.row_engine.specs.Rows.{keeps, selected_in};
-ghost use Rattle.plan_rows.specs.Picks.{Parted};
 ghost use Rattle.sampled_table.specs.Picks.{sampled_picks};
 
 use crate::Judged;
@@ -13,25 +10,18 @@ use line_input::{Columns, Fields};
 use lp_outside::Name;
 use lp_time::Pattern;
 use lp_values::ValueList;
-use plan_rows::{Parts, make_room, part_columns};
+use plan_rows::{ReadyPlan, make_room};
 use query_run::Picker;
 use query_types::Plan;
-use row_engine::{passes, select_row, settled};
 use std::alloc::{AllocError, Global};
 
 /// Makes of each record the output row of a plan over a run's columns.
 #[derive(Drop)]
 pub struct SampledPicker<'a> {
-    pub plan: Plan,
+    pub ready: ReadyPlan,
     pub pattern: &'a Pattern,
     pub told: Judged,
-    /// The same plan, what is the same in each row worked out.
-    settled: Plan,
-    columns: Parts,
-    ghost keeps_alike: { (row : List Value) → keeps (option_map filter_of settled.condition) row ≡ keeps (option_map filter_of plan.condition) row },
-    ghost selects_alike: { (row : List Value) → selected_in row settled.items ≡ selected_in row plan.items },
-    ghost parted: { Parted (length plan.used) columns.asked columns.rest plan.items (option_map filter_of plan.condition) },
-    ghost fits: { length told.columns + 2 ≤ length plan.used },
+    ghost fits: { length told.columns + 2 ≤ length ready.plan.used },
 }
 
 impl<'a> SampledPicker<'a> {
@@ -44,24 +34,21 @@ impl<'a> SampledPicker<'a> {
     ) -> Result<SampledPicker<'a>, AllocError>
         requires covers { Covers plan.used plan.items (option_map filter_of plan.condition) }
         requires fits { length told.columns + 2 ≤ length plan.used }
-        ensures plan { IfOk result (λ picker. picker.plan ≡ plan) }
+        ensures plan { IfOk result (λ picker. picker.ready.plan ≡ plan) }
         ensures pattern { IfOk result (λ picker. picker.pattern.now ≡ pattern.now) }
         ensures told { IfOk result (λ picker. picker.told ≡ told) }
     {
-        let columns = part_columns(alloc, &plan)?;
-        let settled = settled(alloc, &plan)?;
+        let ready = ReadyPlan::new(alloc, plan)?;
         Ok(SampledPicker {
-            plan,
+            ready,
             pattern,
             told,
-            settled,
-            columns,
         })
     }
 }
 
 impl<'a> Picker for SampledPicker<'a> {
-    ghost picks = { λ s. sampled_picks s.pattern.now s.told s.plan.items (option_map filter_of s.plan.condition) };
+    ghost picks = { λ s. sampled_picks s.pattern.now s.told s.ready.plan.items (option_map filter_of s.ready.plan.condition) };
 
     fn pick(
         &self,
@@ -74,10 +61,10 @@ impl<'a> Picker for SampledPicker<'a> {
         values: &mut ValueList,
         row: &mut ValueList,
     ) -> Result<bool, AllocError> {
-        make_room(values, self.plan.used.len())?;
+        make_room(values, self.ready.plan.used.len())?;
         read_columns(
             alloc,
-            &self.columns.asked,
+            &self.ready.columns.asked,
             self.pattern,
             &self.told,
             identity,
@@ -87,13 +74,13 @@ impl<'a> Picker for SampledPicker<'a> {
             fields,
             values,
         )?;
-        let is_kept = passes(alloc, &self.settled, values)?;
+        let is_kept = self.ready.keeps(alloc, values)?;
         if !is_kept {
             return Ok(false);
         }
         read_columns(
             alloc,
-            &self.columns.rest,
+            &self.ready.columns.rest,
             self.pattern,
             &self.told,
             identity,
@@ -103,7 +90,7 @@ impl<'a> Picker for SampledPicker<'a> {
             fields,
             values,
         )?;
-        select_row(alloc, &self.settled, values, row)?;
+        self.ready.select(alloc, values, row)?;
         Ok(true)
     }
 }

@@ -36,8 +36,8 @@ returns-clause-text g c =
     → Gains (g.G.Stage.state c.args.stage.now).written (g.G.Stage.state c.write_spans.new.stage).written (g.F.Shape.text c.args.shape true names (plan_rows readings (planned_in plan) format folder c.args.spans.now)))) in
     let read = g.R.LineReader.format c.args.reader.now in
     let picker = c.in-Ok-new.picker in
-    let named = subst (λ (names : List (List ℕ)). Of read names picker.readings picker.plan) c.in-Ok.ensures c.write_spans.ensures.text in
-    let by_readings = subst (λ (readings : List Reading). Of read c.args.plan.names readings picker.plan) c.in-Ok-new.ensures.readings named in
+    let named = subst (λ (names : List (List ℕ)). Of read names picker.readings picker.ready.plan) c.in-Ok.ensures c.write_spans.ensures.text in
+    let by_readings = subst (λ (readings : List Reading). Of read c.args.plan.names readings picker.ready.plan) c.in-Ok-new.ensures.readings named in
     let by_plan = subst (λ (plan : Plan). Of read c.args.plan.names c.args.readings plan) c.in-Ok-new.ensures.plan by_readings in
     subst (λ (format : Format). Of format c.args.plan.names c.args.readings c.args.plan) c.requires.reads by_plan
 

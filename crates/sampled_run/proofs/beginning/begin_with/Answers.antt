@@ -11,5 +11,5 @@ pub returns-clause-front : goal.returns-clause-front
 returns-clause-front g c =
     let picker = c.args.picker in
     let Of : List (List ℕ) → Type 0 = λ names. OnErr c.write_kept.result ((more : List Found) → GainsSome (g.G.Stage.state c.args.stage.now).written (g.G.Stage.state c.write_kept.new.stage).written
-    (g.F.Shape.text c.args.gathering.shape true names (picked (sampled_picks picker.pattern.now picker.told picker.plan.items (option_map filter_of picker.plan.condition)) (map found_in c.args.gathering.rows ++ more)))) in
+    (g.F.Shape.text c.args.gathering.shape true names (picked (sampled_picks picker.pattern.now picker.told picker.ready.plan.items (option_map filter_of picker.ready.plan.condition)) (map found_in c.args.gathering.rows ++ more)))) in
     subst Of c.in-Ok.ensures c.write_kept.ensures.front

@@ -7,7 +7,7 @@ use Rattle.plan_rows.specs.Picks.{Put}
 use Rattle.plan_rows.proofs.PutLemmas.{put_more, put_past}
 use Rattle.sampled_table.specs.Fields.{indexed}
 use Rattle.sampled_table.specs.Picks.{row_of, value_in_column}
-use Rattle.sampled_table.proofs.Picked.{row_length}
+use Rattle.sampled_table.proofs.Steps.{row_length}
 use Rattle.sampled_table.proofs.row.read_columns.Goals.{then-column-len+in_ok-value, else-column-len}
 use Rattle.sampled_table.proofs.row.read_columns.Goals as goal
 

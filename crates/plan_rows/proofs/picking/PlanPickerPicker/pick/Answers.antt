@@ -1,18 +1,25 @@
-use Rattle.std.proofs.Common.{◌∙◌, sym, length, option_map}
+use Rattle.std.proofs.Common.{◌∙◌, List, sym, length, option_map, arith}
 use Rattle.line_input.specs.Taken.{slots_of}
-use Rattle.log_reading.specs.Found.{Found}
+use Rattle.lp_values.specs.declared.value.Value.{Value}
 use Rattle.query_types.specs.Conditions.{filter_of}
-use Rattle.plan_rows.proofs.Picked.{picks_none, picks_some}
+use Rattle.plan_rows.specs.Picks.{table_row}
+use Rattle.plan_rows.proofs.Picked.{picks_none, picks_some, row_length}
 use Rattle.plan_rows.proofs.picking.PlanPickerPicker.pick.Goals as goal
 
 pub returns-then-not-is_kept : goal.returns-then-not-is_kept
 returns-then-not-is_kept c =
-    let self = c.args.self.now in
-    let found : Found = record { identity = c.args.identity.now; row = record { number = c.args.number; slots = slots_of c.args.line.now c.args.fields.now; columns = c.args._columns.now } } in
-    picks_none (length self.plan.used) self.columns.asked self.columns.rest self.readings self.plan.items (option_map filter_of self.plan.condition) found c.make_room.new.values c.read_columns.new.values self.fits (c.in_ok-make_room.ensures ∙ c.len.ensures) self.parted c.in_ok-read_columns.ensures (sym (self.keeps_alike c.read_columns.new.values) ∙ sym c.in_ok-is_kept.ensures ∙ c.if-not-is_kept.true)
+    let ready = c.args.self.now.ready in
+    let row : List Value = table_row c.args.self.now.readings (record { identity = c.args.identity.now; row = record { number = c.args.number; slots = slots_of c.args.line.now c.args.fields.now; columns = c.args._columns.now } }) in
+    let size = row_length c.args.self.now.readings (record { identity = c.args.identity.now; row = record { number = c.args.number; slots = slots_of c.args.line.now c.args.fields.now; columns = c.args._columns.now } }) in
+    let fits = c.args.self.now.fits in
+    picks_none (length ready.plan.used) ready.columns.asked ready.columns.rest ready.plan.items (option_map filter_of ready.plan.condition) row c.make_room.new.values c.read_columns.new.values
+    (omega arith) (c.in_ok-make_room.ensures ∙ c.len.ensures) ready.parted c.in_ok-read_columns.ensures (sym c.in_ok-is_kept.ensures ∙ c.if-not-is_kept.true)
 
 pub returns : goal.returns
 returns c =
-    let self = c.args.self.now in
-    let found : Found = record { identity = c.args.identity.now; row = record { number = c.args.number; slots = slots_of c.args.line.now c.args.fields.now; columns = c.args._columns.now } } in
-    picks_some (length self.plan.used) self.columns.asked self.columns.rest self.readings self.plan.items (option_map filter_of self.plan.condition) found c.make_room.new.values c.read_columns.new.values c.read_columns-2.new.values c.select_row.new.to self.fits (c.in_ok-make_room.ensures ∙ c.len.ensures) self.parted c.in_ok-read_columns.ensures (sym (self.keeps_alike c.read_columns.new.values) ∙ sym c.in_ok-is_kept.ensures ∙ c.if-not-is_kept.false) c.in_ok-read_columns-2.ensures (c.in_ok-select_row.ensures ∙ self.selects_alike c.read_columns-2.new.values)
+    let ready = c.args.self.now.ready in
+    let row : List Value = table_row c.args.self.now.readings (record { identity = c.args.identity.now; row = record { number = c.args.number; slots = slots_of c.args.line.now c.args.fields.now; columns = c.args._columns.now } }) in
+    let size = row_length c.args.self.now.readings (record { identity = c.args.identity.now; row = record { number = c.args.number; slots = slots_of c.args.line.now c.args.fields.now; columns = c.args._columns.now } }) in
+    let fits = c.args.self.now.fits in
+    picks_some (length ready.plan.used) ready.columns.asked ready.columns.rest ready.plan.items (option_map filter_of ready.plan.condition) row c.make_room.new.values c.read_columns.new.values c.read_columns-2.new.values c.select.new.row
+    (omega arith) (c.in_ok-make_room.ensures ∙ c.len.ensures) ready.parted c.in_ok-read_columns.ensures (sym c.in_ok-is_kept.ensures ∙ c.if-not-is_kept.false) c.in_ok-read_columns-2.ensures c.in_ok-select.ensures

@@ -1,5 +1,6 @@
 -- Two rows that agree in the columns that a plan asks give it the same.
-use Rattle.std.proofs.Common.{◌≡◌, ℕ, Bool, true, false, ◌||◌, ◌==◌, List, [], ◌∷◌, get_or, Option, Some, None, refl, ap, ap₂, arith, rules}
+use Rattle.std.proofs.Common.{◌≡◌, ℕ, Bool, true, ◌==◌, List, [], ◌∷◌, get_or, Option, Some, None, refl, ap, ap₂, arith, rules}
+use Rattle.std.proofs.lemmas.Bool.{or_left, or_right}
 use Rattle.lp_values.specs.declared.value.Value.{Value}
 use Rattle.lp_values.specs.declared.value.Value.TheVariants.{Null}
 use Rattle.lp_values.specs.declared.comparison.Compare.TheVariants as how
@@ -13,13 +14,6 @@ use Rattle.row_engine.specs.Rows.{value_in, values_in, made_by, among, truth_in,
 -- two rows agree in the columns for which a test holds
 abbrev pub Agree : List Value → List Value → (ℕ → Bool) → Type 0
 Agree values row asks = (k : ℕ) → asks k ≡ true → get_or values k Null ≡ get_or row k Null
-
-or_left : (a b : Bool) → a ≡ true → (a || b) ≡ true
-or_left a b is = rw is refl
-
-or_right : (a b : Bool) → b ≡ true → (a || b) ≡ true
-or_right true b is = refl
-or_right false b is = is
 
 same : (n : ℕ) → (n == n) ≡ true
 same n = search (rules, arith)
