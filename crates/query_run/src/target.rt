@@ -36,6 +36,9 @@ impl Target {
         requires { length bytes.now % 4096 ≡ 0 }
         ensures written { MatchResult result (λ _. Gains (G.state stage.old).written (G.state stage.new).written bytes.now) (λ _. GainsSome (G.state stage.old).written (G.state stage.new).written bytes.now) }
         ensures cause { HasCause (G.faults stage.old) (G.faults stage.new) result }
+        ensures output { self.new.output ≡ self.old.output }
+        ensures name { self.new.name ≡ self.old.name }
+        ensures base { self.new.base ≡ self.old.base }
     {
         let mut mark = self.mark;
         stage.put(self.output, &self.name, self.base, &mut mark, bytes)?;

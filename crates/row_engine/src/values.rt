@@ -1,11 +1,11 @@
 // The value of a meaning in a row.
-ghost use Rattle.std.specs.Prelude.{◌≡◌, IfOk, IfSome, drop, get_or};
+ghost use Rattle.std.specs.Prelude.{◌≡◌, IfOk, IfSome, drop, get_or, is_some};
 ghost use Rattle.lp_functions.specs.Applied.{applied};
 ghost use Rattle.lp_values.specs.declared.value.Value.TheVariants.{Null};
 ghost use Rattle.lp_values.specs.Comparing.{compared as comparison};
 ghost use Rattle.query_types.specs.Terms.{maker_of, term_of};
 ghost use Rattle.row_engine.specs.Rows.{branch_of, forms_in, is_yes, made_by, value_in};
-ghost use Rattle.row_engine.specs.Seen.{seen_value};
+ghost use Rattle.row_engine.specs.Seen.{seen_value, stands};
 
 use crate::seen::Seen;
 use lp_functions::{
@@ -157,7 +157,8 @@ pub fn form_value<'a>(
 
 /// The value of a column or a constant, where it stands; `None` where it doesn't stand anywhere.
 pub fn standing<'a>(row: &'a ValueList, meaning: &'a Meaning) -> Option<&'a Value>
-    ensures { IfSome result (λ value. value.now ≡ value_in row.now meaning.now) }
+    ensures value { IfSome result (λ value. value.now ≡ value_in row.now meaning.now) }
+    ensures stands { is_some result ≡ stands row.now meaning.now }
 {
     match meaning.form() {
         Form::Column(index) => row.get(*index),
