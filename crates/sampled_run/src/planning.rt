@@ -33,7 +33,7 @@ fn picker_over<'a>(
     told: Judged,
 ) -> Result<SampledPicker<'a>, Stop>
     requires { is_built (query_of query.now) ≡ true }
-    ensures planned { IfOk result (λ picker. plan_of (table_of told) moment.seconds (query_of query.now) ≡ Ok (planned_in picker.plan)) }
+    ensures planned { IfOk result (λ picker. plan_of (table_of told) moment.seconds (query_of query.now) ≡ Ok (planned_in picker.ready.plan)) }
     ensures told { IfOk result (λ picker. picker.told ≡ told) }
     ensures pattern { IfOk result (λ picker. picker.pattern.now ≡ pattern.now) }
     ensures fault { IfErr result (IsFaultOf (plan_of (table_of told) moment.seconds (query_of query.now))) }
@@ -61,7 +61,7 @@ pub(crate) fn picker_for<'a>(
     rows: &KeptRows,
 ) -> Result<SampledPicker<'a>, Stop>
     requires { is_built (query_of query.now) ≡ true }
-    ensures planned { IfOk result (λ picker. plan_of (table_of (judged limit pattern.now first.now (map found_in rows.now))) moment.seconds (query_of query.now) ≡ Ok (planned_in picker.plan)) }
+    ensures planned { IfOk result (λ picker. plan_of (table_of (judged limit pattern.now first.now (map found_in rows.now))) moment.seconds (query_of query.now) ≡ Ok (planned_in picker.ready.plan)) }
     ensures told { IfOk result (λ picker. picker.told ≡ judged limit pattern.now first.now (map found_in rows.now)) }
     ensures pattern { IfOk result (λ picker. picker.pattern.now ≡ pattern.now) }
     ensures fault { IfErr result (IsFaultOf (plan_of (table_of (judged limit pattern.now first.now (map found_in rows.now))) moment.seconds (query_of query.now))) }

@@ -1,4 +1,4 @@
-use Rattle.std.proofs.Common.{◌∙◌, ◌≤◌, ◌+◌, List, sym, length, option_map, arith}
+use Rattle.std.proofs.Common.{◌∙◌, List, sym, length, option_map, arith}
 use Rattle.line_input.specs.Taken.{slots_of}
 use Rattle.lp_values.specs.declared.value.Value.{Value}
 use Rattle.query_types.specs.Conditions.{filter_of}
