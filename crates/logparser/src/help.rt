@@ -14,21 +14,43 @@ Query (or a file that holds it: file:NAME)
   [USING value AS name, ..]         names for values
   [INTO STDOUT]
   FROM log, ..                      names of files, * and ? in their last part
-  [WHERE condition]                 = <> < > <= >=, [NOT] BETWEEN .. AND .., [NOT] IN (..),
-                                    IS [NOT] NULL, AND, OR, NOT, parentheses
-  A value is a field, a name of AS, a number, a 'text' or NULL.
+  [WHERE condition]                 = <> < > <= >=, [NOT] LIKE 'pattern', [NOT] IN (..),
+                                    [NOT] BETWEEN .. AND .., IS [NOT] NULL, AND, OR, NOT,
+                                    parentheses
+  A value is a field, a name of AS, a number, a 'text', TIMESTAMP('text', 'pattern'), NULL,
+  CASE value WHEN value THEN value .. [ELSE value] END, or what a function gives.
+
+Functions
+  ADD SUB MUL DIV MOD QUANTIZE
+  STRCAT STRLEN STRCNT SUBSTR INDEX_OF LAST_INDEX_OF REPLACE_STR REPLACE_CHR
+  TO_LOWERCASE TO_UPPERCASE TRIM LTRIM RTRIM URLESCAPE URLUNESCAPE
+  EXTRACT_TOKEN EXTRACT_VALUE EXTRACT_PREFIX EXTRACT_SUFFIX
+  EXTRACT_FILENAME EXTRACT_PATH EXTRACT_EXTENSION
+  TO_STRING TO_INT TO_REAL TO_TIMESTAMP TO_DATE TO_TIME
+  SYSTEM_TIMESTAMP SYSTEM_DATE SYSTEM_TIME
+  COALESCE REPLACE_IF_NULL REPLACE_IF_NOT_NULL IPV4_TO_INT INT_TO_IPV4
 
 Options, in any order and in any case
   -i:FORMAT      how the logs are read; without it the first log's name decides:
     IISW3C       W3C extended logs, as IIS writes them (ex*.log, u_ex*.log)
     NCSA         access logs in the common or the combined format (nc*.log)
+    CSV          a header, and fields between commas, in quotes or not (*.csv)
+    TSV          a header, and fields between tabs (*.tsv)
     TEXTLINE     a row for each line (any other name)
     TEXTWORD     a row for each word
   -o:CSV         comma separated values; to be given, as the default isn't built yet
+  -e:N           refuse the run where more than N lines can't be read (-1: never)
   -headers:OFF   no line of names (AUTO, ON)
   -stats:OFF     no statistics (ON)
   --help         alone: this text
   --version      alone: the version
+
+Options for CSV and TSV logs
+  -headerRow:OFF        no header: the columns are Field1, Field2, .. (ON)
+  -dtLines:N            from how many rows the kinds of columns are told, 0 to 1000
+                        (10, and 100 for TSV)
+  -iTsFormat:PATTERN    how times are written ('yyyy-MM-dd hh:mm:ss')
+  -iSeparator:C         what parts the fields of TSV: space, tab, or another character (tab)
 
 Fields
   IISW3C    LogFilename LogRow date time c-ip cs-username s-sitename s-computername s-ip
@@ -37,17 +59,18 @@ Fields
             cs(User-Agent) cs(Cookie) cs(Referer)
   NCSA      LogFilename LogRow RemoteHostName RemoteLogName UserName DateTime Request
             StatusCode BytesSent Referer User-Agent Cookie
+  CSV, TSV  Filename RowNumber, and the columns of the first log that has any
   TEXTLINE, TEXTWORD    LogFilename Index Text
 
 Examples
   logparser -i:TEXTLINE -o:CSV \"SELECT * FROM server.log\"
   logparser -o:CSV \"SELECT cs-uri-stem, time-taken FROM u_ex*.log WHERE sc-status = 404\"
   logparser -o:CSV \"SELECT DateTime, Request FROM nc1.log WHERE StatusCode >= 500\" | head
+  logparser -o:CSV \"SELECT name, MUL(price, 2) AS twice FROM list.csv WHERE name LIKE 'a%'\"
 
-Not built yet, and answered so: CSV and TSV input, other outputs, INTO files, -e of 0 or
-more, -iCheckpoint, functions, CASE, LIKE, TOP, DISTINCT, GROUP BY, HAVING, ORDER BY,
-subqueries, standard input.
+Not built yet, and answered so: other outputs, INTO files, -iCheckpoint, COUNT and the like,
+TOP, DISTINCT, GROUP BY, HAVING, ORDER BY, subqueries, standard input.
 
 Status: 0 whole; 1 out of memory; 2 words, clock, or not built; 3 query; 4 logs; 5 read
-fault; 7 write fault.
+fault; 7 write fault; 8 too many lines that can't be read.
 ";
