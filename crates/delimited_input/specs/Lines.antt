@@ -1,5 +1,5 @@
 -- Lines of CSV and TSV files.
-use Rattle.std.specs.Prelude.{ℕ, ◌-◌, ◌==◌, Bool, true, false, not, ◌&&◌, ◌||◌, List, [], ◌∷◌, ◌++◌, length, map, take, replicate, nat_le, if◌then◌else◌, Option, Some, None, option_map}
+use Rattle.std.specs.Prelude.{ℕ, ◌-◌, ◌==◌, Bool, not, ◌&&◌, ◌||◌, List, [], ◌∷◌, ◌++◌, length, map, take, replicate, nat_le, if◌then◌else◌, Option, Some, None, option_map}
 use Rattle.std.specs.List.{find, list_any}
 use Rattle.lp_model.specs.Reading.{Columns, Slots, Format, Reading, passed, bad, rows}
 use Rattle.delimited_input.specs.declared.options.DelimitedOptions.{DelimitedOptions}
@@ -71,11 +71,3 @@ delimited_reading options text columns =
 
 unfoldable pub delimited_lines : DelimitedOptions → Format
 delimited_lines options = record { columns_after = columns_after options; reading = delimited_reading options }
-
--- commas part the fields of CSV, which may stand in quotes
-abbrev pub csv_lines : Bool → Format
-csv_lines header_row = delimited_lines (record { separator = 44; quotes = true; header_row = header_row })
-
--- TSV has its own separator, and no quotes
-abbrev pub tsv_lines : ℕ → Bool → Format
-tsv_lines separator header_row = delimited_lines (record { separator = separator; quotes = false; header_row = header_row })

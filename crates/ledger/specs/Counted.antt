@@ -1,8 +1,8 @@
 -- Items that were read one after another, and the layouts that are looked at whole.
-use Rattle.std.specs.Prelude.{◌≡◌, ℕ, ◌<◌, ◌≤◌, ◌^◌, List, [], ◌∷◌, length, FitsSigned, ℤ}
+use Rattle.std.specs.Prelude.{◌≡◌, ℕ, List, [], ◌∷◌, length, FitsSigned, ℤ}
 use Rattle.std.specs.Int.{w64}
 use Rattle.ledger_model.specs.Layouts.{Layout, AllFit, spelled, field}
-use Rattle.ledger_model.specs.Numbers.{u64_bytes, i64_bytes}
+use Rattle.ledger_model.specs.Numbers.{i64_bytes}
 use Rattle.ledger_model.specs.Entries.{Kept}
 use Rattle.ledger_model.specs.Grammar.{IsKept, IsStamp, kept_bytes}
 use Rattle.ledger.specs.Reader.{Stood}
@@ -19,10 +19,6 @@ any_signed = field (FitsSigned w64) i64_bytes
 
 abbrev pub kept_field : Layout Kept
 kept_field = field IsKept kept_bytes
-
--- a number of at least so much
-abbrev pub from_on : ℕ → Layout ℕ
-from_on least = field (λ n. (n < 2 ^ 64) × (least ≤ n)) u64_bytes
 
 -- the part and the seconds of a stamp
 abbrev pub stamp_bytes : ℕ × ℤ → List ℕ

@@ -3,9 +3,7 @@ ghost use Rattle.std.specs.Prelude.{◌≡◌, ◌<◌, ◌^◌, List, Option, S
 ghost use Rattle.lp_values.specs.declared.value.Value.{Value};
 ghost use Rattle.line_input.specs.Taken.{slots_of};
 ghost use Rattle.log_reading.specs.Found.{Found};
-ghost use Rattle.query_run.specs.Rows.{every_row, row_from};
 
-use crate::rows::make_row;
 use line_input::{Columns, Fields};
 use lp_outside::Name;
 use lp_values::ValueList;
@@ -30,27 +28,4 @@ pub trait Picker {
     ) -> Result<bool, AllocError>
         requires { number < 2 ^ 63 }
         ensures { IfOk result (λ kept. (if kept then Some row.new else None) ≡ picks self.now (record { identity = identity.now; row = record { number = number; slots = slots_of line.now fields.now; columns = columns.now } })) };
-}
-
-/// The picker of `SELECT *`: every record, with all its fields.
-#[derive(Clone, Copy)]
-pub struct EveryRow;
-
-impl Picker for EveryRow {
-    ghost picks = { λ s. every_row };
-
-    fn pick(
-        &self,
-        alloc: Global,
-        identity: &Name,
-        number: u64,
-        columns: &Option<Columns>,
-        line: &[u8],
-        fields: &Fields,
-        _values: &mut ValueList,
-        row: &mut ValueList,
-    ) -> Result<bool, AllocError> {
-        make_row(alloc, identity, number, line, fields, row)?;
-        Ok(true)
-    }
 }

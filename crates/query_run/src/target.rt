@@ -1,7 +1,7 @@
 // Where an output's text goes.
-ghost use Rattle.std.specs.Prelude.{◌≡◌, ◌%◌, length, MatchResult};
+ghost use Rattle.std.specs.Prelude.{◌≡◌, ◌%◌, length, MatchResult, OnOk};
 ghost use Rattle.lp_model.specs.Outside.{HasCause, Gains, GainsSome};
-ghost use Rattle.lp_outside.specs.Stages.{no_mark};
+ghost use Rattle.lp_outside.specs.Stages.{no_mark, KeepsOthers, AddsText};
 
 use lp_outside::{Mark, Name, Stage, StageFailed};
 
@@ -31,11 +31,13 @@ impl Target {
         }
     }
 
-    /// Puts whole pieces.
+    /// Puts whole pieces, and moves the mark behind them.
     pub fn put<G: Stage>(&mut self, stage: &mut G, bytes: &[u8]) -> Result<(), StageFailed>
         requires { length bytes.now % 4096 ≡ 0 }
         ensures written { MatchResult result (λ _. Gains (G.state stage.old).written (G.state stage.new).written bytes.now) (λ _. GainsSome (G.state stage.old).written (G.state stage.new).written bytes.now) }
         ensures cause { HasCause (G.faults stage.old) (G.faults stage.new) result }
+        ensures text { OnOk result ((G.state stage.old).tells → AddsText self.old.output self.old.name self.old.base self.old.mark self.new.mark bytes.now (G.state stage.old) (G.state stage.new)) }
+        ensures others { (G.state stage.old).tells → KeepsOthers self.old.output self.old.name (G.state stage.old) (G.state stage.new) }
         ensures output { self.new.output ≡ self.old.output }
         ensures name { self.new.name ≡ self.old.name }
         ensures base { self.new.base ≡ self.old.base }
