@@ -1,3 +1,4 @@
 pub mod Columns
 pub mod Directives
 pub mod Carrying
+pub mod Cutting
