@@ -1,0 +1,30 @@
+-- A whole commit: what two texts make of the files, and what each image stands for.
+use Rattle.std.specs.Prelude.{◌≡◌, ◌≢◌, ◌⊎◌, ℕ, List, [], ◌∷◌, ◌++◌}
+use Rattle.disk_model.specs.Disk.{Files, DiskState, LeavesOnly}
+use Rattle.ledger_model.specs.Entries.{Entry, Output}
+use Rattle.lp_outside.specs.declared.stage.Mark.{Mark}
+use Rattle.recovery_model.specs.Recovered.{Recovers}
+use Rattle.commit.specs.States.{IsGood}
+use Rattle.commit.specs.Resume.{CanSettle}
+use Rattle.recovery_model.specs.Recovered.{RecoversAsBefore}
+
+-- two files gain a text each, and all others stay
+pub record AddsTwo (first one second two : List ℕ) (before after : Files) : Type 0 where
+  pub first_is : after first ≡ before first ++ one
+  pub second_is : after second ≡ before second ++ two
+  pub others : (name : List ℕ) → name ≢ first → name ≢ second → after name ≡ before name
+
+-- an output by its name, the place where its text begins and the mark behind it
+abbrev pub output_at : List ℕ → ℕ → Mark → Output
+output_at name base mark = record { name = name; base = base; size = mark.length; last = mark.last }
+
+-- an image stands for what some image stood for at first, or for the state with the entry
+abbrev pub BeforeOrWith : DiskState → List ℕ → List ℕ → List Entry → Entry → Files → Files → Type 0
+BeforeOrWith old ledger stage entries entry after image = RecoversAsBefore old ledger stage image ⊎ Recovers ledger stage (entries ++ entry ∷ []) after image
+
+-- A disk may have been stopped anywhere, a read gives these entries and files, and with this entry the files would have two texts more.
+pub record MayCommit (disk : DiskState) (ledger stage : List ℕ) (entries : List Entry) (entry : Entry) (first one second two : List ℕ) (before after : Files) : Type 0 where
+  pub can : CanSettle disk ledger stage
+  pub recovers : Recovers ledger stage entries before disk.seen
+  pub adds : AddsTwo first one second two before after
+  pub good : IsGood ledger stage entry
