@@ -1,0 +1,14 @@
+pub mod Naming
+pub mod Texts
+pub mod Good
+pub mod Starting
+pub mod Appending
+pub mod Appearing
+pub mod Rotating
+pub mod Removing
+pub mod Running
+pub mod Live
+pub mod Steps
+pub mod Example
+pub mod NumbersExample
+pub mod TwoLogsExample
