@@ -1,0 +1,5 @@
+pub mod Numbers
+pub mod Sets
+pub mod Patterns
+pub mod Rotated
+pub mod Live

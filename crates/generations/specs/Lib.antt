@@ -1,0 +1,4 @@
+pub mod Numbers
+pub mod There
+pub mod Ranges
+pub mod Files
