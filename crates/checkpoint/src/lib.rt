@@ -6,8 +6,6 @@
 
 mod sources;
 mod spans;
-#[cfg(test)]
-mod tests;
 
 pub use command_words::Rotation;
 pub use log_reading::Span;

@@ -12,8 +12,6 @@ mod numbers;
 mod setting;
 mod spec;
 mod table;
-#[cfg(test)]
-mod tests;
 mod text;
 mod usage;
 mod values;

@@ -16,8 +16,6 @@ mod moments;
 mod numbers;
 mod place;
 mod table;
-#[cfg(test)]
-mod tests;
 mod texts;
 mod tokens;
 mod urls;

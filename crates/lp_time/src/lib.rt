@@ -14,8 +14,6 @@ mod pattern;
 mod piece;
 mod reading;
 mod taking;
-#[cfg(test)]
-mod tests;
 mod writing;
 
 pub use character::Character;

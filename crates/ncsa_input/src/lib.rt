@@ -9,8 +9,6 @@ mod reader;
 mod row;
 mod shape;
 mod table;
-#[cfg(test)]
-mod tests;
 
 pub use reader::Ncsa;
 pub use shape::Shape;

@@ -24,6 +24,3 @@ pub use lexer::lex;
 pub use symbol::Symbol;
 pub use token::{Token, TokenKind};
 pub use tokens::Tokens;
-
-#[cfg(test)]
-mod tests;

@@ -13,8 +13,6 @@ mod fault;
 mod query;
 mod subquery;
 mod tail;
-#[cfg(test)]
-mod tests;
 mod token;
 mod values;
 mod whole;

@@ -9,8 +9,6 @@ mod keeping;
 mod kept;
 mod picking;
 mod row;
-#[cfg(test)]
-mod tests;
 
 pub use judging::{Judged, judge, table_of};
 pub use kept::{FirstLog, KeptRow, KeptRows};

@@ -7,8 +7,6 @@
 mod names;
 mod reading;
 mod slots;
-#[cfg(test)]
-mod tests;
 
 pub use names::is_same_name;
 pub use reading::Reading;
