@@ -10,4 +10,5 @@ returns c = record {
   schedule = c.new-4.ensures;
   stop = refl;
   faults = refl;
+  calls = c.new-3.ensures.calls;
 }
