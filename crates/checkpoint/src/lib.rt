@@ -6,6 +6,8 @@
 
 mod sources;
 mod spans;
+#[cfg(test)]
+mod tests;
 
 pub use command_words::Rotation;
 pub use log_reading::Span;

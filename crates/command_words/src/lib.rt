@@ -12,6 +12,8 @@ mod numbers;
 mod setting;
 mod spec;
 mod table;
+#[cfg(test)]
+mod tests;
 mod text;
 mod usage;
 mod values;

@@ -1,12 +1,11 @@
 -- The states of a disk between the steps of a commit, and what is known of each file within a step.
 use Rattle.std.specs.Prelude.{◌≡◌, ◌≢◌, ℕ, ◌<◌, ◌^◌, List, [], ◌∷◌, ◌++◌, length, take, map, Some, slice_get}
 use Rattle.std.specs.List.{AllByRecursion}
-use Rattle.std.specs.Bool.{⊤}
 use Rattle.disk_model.specs.Disk.{Files, DiskState, IsImage, IsSynced, LeavesOnly}
 use Rattle.ledger_model.specs.Entries.{Entry, Output}
 use Rattle.ledger_model.specs.Grammar.{IsEntry, payload_of}
 use Rattle.ledger_model.specs.Ledgers.{Pair, IsPair, body_of, spelled_pair, front_of, IsClosed, IsLedger}
-use Rattle.recovery_model.specs.Recovered.{IsOther, IsFile, AreApart, Recovers, RecoversEither}
+use Rattle.commit.specs.Recovered.{unfinished, IsFile, AreApart, Recovers, RecoversEither}
 use Rattle.commit.specs.Redo.{frames_in}
 
 -- whatever a crash now leaves, and what a read gives, stands for this
@@ -32,26 +31,20 @@ pub record IsGood (ledger stage : List ℕ) (entry : Entry) : Type 0 where
   pub size : length (payload_of entry) < 2 ^ 64
   pub apart : AreApart ledger stage entry.outputs
 
--- the done byte of the last of these is set, or there is none
-abbrev pub LastIsDone : List Pair → Type 0
-LastIsDone [] = ⊤
-LastIsDone (pair ∷ []) = pair.done ≡ 90
-LastIsDone (pair ∷ next ∷ pairs) = LastIsDone (next ∷ pairs)
-
 -- the last entry is done or there is none: all is on the disk but the stage, and the next gate stands closed at a place of the ledger
 pub record IsSettled (disk : DiskState) (ledger stage : List ℕ) (place : ℕ) (entries : List Entry) (files : Files) : Type 0 where
   pub honest : disk.honest
   pub differ : ledger ≢ stage
   pub pairs : List Pair
   pub fit : AllByRecursion IsPair pairs
-  pub finished : LastIsDone pairs
+  pub finished : unfinished pairs ≡ []
   pub rest : List ℕ
   pub split : disk.seen ledger ≡ front_of pairs ++ rest
   pub closed : IsClosed rest
   pub ledger_synced : IsSynced disk ledger
   pub place_is : place ≡ length (front_of pairs)
   pub entries_are : entries ≡ map (λ pair. pair.entry) pairs
-  pub files_are : (name file : List ℕ) → IsOther ledger stage name → disk.may_leave name file → file ≡ files name
+  pub files_are : (name file : List ℕ) → name ≢ ledger → name ≢ stage → disk.may_leave name file → file ≡ files name
 
 -- the ledger has no entries, and all is on the disk but the stage
 pub record HasNone (disk : DiskState) (ledger stage : List ℕ) (files : Files) : Type 0 where
@@ -59,13 +52,12 @@ pub record HasNone (disk : DiskState) (ledger stage : List ℕ) (files : Files) 
   pub differ : ledger ≢ stage
   pub is_ledger : IsLedger (disk.seen ledger) []
   pub ledger_synced : IsSynced disk ledger
-  pub files_are : (name file : List ℕ) → IsOther ledger stage name → disk.may_leave name file → file ≡ files name
+  pub files_are : (name file : List ℕ) → name ≢ ledger → name ≢ stage → disk.may_leave name file → file ≡ files name
 
 -- the texts of an entry's outputs are staged, and with them the disk would stand for these files
 pub record HasStaged (disk : DiskState) (ledger stage : List ℕ) (entry : Entry) (before after : Files) : Type 0 where
   pub good : IsGood ledger stage entry
-  pub whole : entry.staged ≡ length (disk.seen stage)
-  pub staged : (name : List ℕ) → IsOther ledger stage name → IsFile (frames_in disk stage entry.staged) entry.outputs name (before name) (after name)
+  pub staged : (name : List ℕ) → name ≢ ledger → name ≢ stage → IsFile (frames_in disk stage entry.staged) entry.outputs name (before name) (after name)
 
 -- an entry is on the disk behind a closed gate, and so are the texts of its outputs; with it the disk would stand for the second files
 pub record IsSealed (disk : DiskState) (ledger stage : List ℕ) (place : ℕ) (entry : Entry) (entries : List Entry) (before after : Files) : Type 0 where
@@ -74,18 +66,20 @@ pub record IsSealed (disk : DiskState) (ledger stage : List ℕ) (place : ℕ) (
   pub good : IsGood ledger stage entry
   pub pairs : List Pair
   pub fit : AllByRecursion IsPair pairs
-  pub finished : LastIsDone pairs
+  pub finished : unfinished pairs ≡ []
   pub gate : ℕ
   pub shut : gate ≢ 165
-  -- its done byte is 0, and the pair 0 0 stands behind it
-  pub more : List ℕ
-  pub ledger_is : disk.seen ledger ≡ front_of pairs ++ (gate ∷ 0 ∷ body_of entry) ++ 0 ∷ 0 ∷ more
+  pub done : ℕ
+  pub not_done : done ≢ 90
+  pub rest : List ℕ
+  pub closed : IsClosed rest
+  pub ledger_is : disk.seen ledger ≡ front_of pairs ++ (gate ∷ done ∷ body_of entry) ++ rest
   pub ledger_synced : IsSynced disk ledger
   pub stage_synced : IsSynced disk stage
   pub place_is : place ≡ length (front_of pairs)
   pub entries_are : entries ≡ map (λ pair. pair.entry) pairs
-  pub files_are : (name file : List ℕ) → IsOther ledger stage name → disk.may_leave name file → file ≡ before name
-  pub staged : (name : List ℕ) → IsOther ledger stage name → IsFile (frames_in disk stage entry.staged) entry.outputs name (before name) (after name)
+  pub files_are : (name file : List ℕ) → name ≢ ledger → name ≢ stage → disk.may_leave name file → file ≡ before name
+  pub staged : (name : List ℕ) → name ≢ ledger → name ≢ stage → IsFile (frames_in disk stage entry.staged) entry.outputs name (before name) (after name)
 
 -- the last entry is open, and isn't done: its gate stands at a place of the ledger, and all is on the disk but its outputs
 pub record IsOpen (disk : DiskState) (ledger stage : List ℕ) (place : ℕ) (entry : Entry) (entries : List Entry) (files : Files) : Type 0 where
@@ -103,39 +97,39 @@ pub record IsOpen (disk : DiskState) (ledger stage : List ℕ) (place : ℕ) (en
   pub stage_synced : IsSynced disk stage
   pub place_is : place ≡ length (front_of earlier)
   pub entries_are : entries ≡ map (λ pair. pair.entry) earlier ++ entry ∷ []
-  pub files_are : (name file : List ℕ) → IsOther ledger stage name → disk.may_leave name file → IsFile (frames_in disk stage entry.staged) entry.outputs name file (files name)
+  pub files_are : (name file : List ℕ) → name ≢ ledger → name ≢ stage → disk.may_leave name file → IsFile (frames_in disk stage entry.staged) entry.outputs name file (files name)
 
 -- What is known of each file within a step, by its name.
 
 -- an entry is written behind a closed gate: the ledger up to the gate and the files stay
 pub record Resting (ledger stage : List ℕ) (pairs : List Pair) (gate : ℕ) (files : Files) (name file : List ℕ) : Type 0 where
   pub ledger_is : name ≡ ledger → (next : ℕ) × (more : List ℕ) × (file ≡ front_of pairs ++ gate ∷ next ∷ more)
-  pub file_is : IsOther ledger stage name → file ≡ files name
+  pub file_is : name ≢ ledger → name ≢ stage → file ≡ files name
 
 -- a ledger with no entries is begun
 pub record Beginning (ledger stage : List ℕ) (files : Files) (name file : List ℕ) : Type 0 where
   pub ledger_is : name ≡ ledger → IsLedger file []
-  pub file_is : IsOther ledger stage name → file ≡ files name
+  pub file_is : name ≢ ledger → name ≢ stage → file ≡ files name
 
 -- a gate is opened
 pub record Gating (ledger stage stage_bytes : List ℕ) (pairs : List Pair) (done : ℕ) (entry : Entry) (rest : List ℕ) (files : Files) (name file : List ℕ) : Type 0 where
   pub ledger_is : name ≡ ledger → (gate : ℕ) × (file ≡ front_of pairs ++ (gate ∷ done ∷ body_of entry) ++ rest)
   pub stage_is : name ≡ stage → file ≡ stage_bytes
-  pub file_is : IsOther ledger stage name → file ≡ files name
+  pub file_is : name ≢ ledger → name ≢ stage → file ≡ files name
 
 -- the outputs of an open entry are written, of which so many are done
 pub record Known (ledger stage ledger_bytes stage_bytes : List ℕ) (entry : Entry) (files : Files) (count : ℕ) (name file : List ℕ) : Type 0 where
   pub ledger_is : name ≡ ledger → file ≡ ledger_bytes
   pub stage_is : name ≡ stage → file ≡ stage_bytes
-  pub restored : IsOther ledger stage name → IsFile (take entry.staged stage_bytes) entry.outputs name file (files name)
+  pub restored : name ≢ ledger → name ≢ stage → IsFile (take entry.staged stage_bytes) entry.outputs name file (files name)
   pub done : (k : ℕ) (output : Output) → k < count → slice_get entry.outputs k ≡ Some output → output.name ≡ name → file ≡ files name
 
 -- all outputs are written, and the done byte is set
 pub record Settling (ledger stage stage_bytes : List ℕ) (earlier : List Pair) (entry : Entry) (rest : List ℕ) (files : Files) (name file : List ℕ) : Type 0 where
   pub ledger_is : name ≡ ledger → (done : ℕ) × (file ≡ front_of earlier ++ spelled_pair (record { done = done; entry = entry }) ++ rest)
   pub stage_is : name ≡ stage → file ≡ stage_bytes
-  pub file_is : IsOther ledger stage name → file ≡ files name
+  pub file_is : name ≢ ledger → name ≢ stage → file ≡ files name
 
 -- each file read is what the disk stands for, and is on the disk
 abbrev pub ShowsFiles : DiskState → List ℕ → List ℕ → Files → Type 0
-ShowsFiles disk ledger stage files = (name : List ℕ) → IsOther ledger stage name → (disk.seen name ≡ files name) × IsSynced disk name
+ShowsFiles disk ledger stage files = (name : List ℕ) → name ≢ ledger → name ≢ stage → (disk.seen name ≡ files name) × IsSynced disk name

@@ -4,7 +4,7 @@ ghost use Rattle.std.specs.List.{join_with_byte, list_any, slice_split};
 ghost use Rattle.lp_model.specs.Csv.{csv_field};
 ghost use Rattle.delimited_input.specs.Fields.{fields_of};
 
-/// The law that fields which were written as CSV are read back, as the fields of one line: what a line is, and that a CR inside makes it bad, is said elsewhere.
+/// The law that fields which were written as CSV are read back, whatever bytes they hold.
 pub fn written_fields_are_read()
     ensures { (only : Bool) (fields : List (List ℕ)) → 0 < length fields → fields_of 44 true (join_with_byte 44 (map (csv_field only) fields)) ≡ fields }
 {}

@@ -14,6 +14,8 @@ mod reader;
 mod row;
 mod sampler;
 mod tally;
+#[cfg(test)]
+mod tests;
 mod values;
 
 pub use laws::{separators_part_fields, written_fields_are_read};

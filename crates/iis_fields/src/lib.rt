@@ -6,6 +6,8 @@
 
 mod column;
 mod table;
+#[cfg(test)]
+mod tests;
 
 pub use column::{Column, Columns, copy_columns};
 pub use table::{LOGGED, iis_names, iis_reading};

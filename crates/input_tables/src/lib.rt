@@ -9,6 +9,8 @@ mod field;
 mod format;
 mod known;
 mod tables;
+#[cfg(test)]
+mod tests;
 
 pub use format::TableFormat;
 pub use tables::{readings_of, table_of};

@@ -8,6 +8,8 @@ mod fault;
 mod lengths;
 mod listing;
 mod names;
+#[cfg(test)]
+mod tests;
 
 pub use fault::ListFault;
 pub use lengths::{NameLength, NameLengths};

@@ -71,8 +71,6 @@ Examples
 Not built yet, and answered so: other outputs, INTO files, -iCheckpoint, COUNT and the like,
 TOP, DISTINCT, GROUP BY, HAVING, ORDER BY, subqueries, standard input.
 
-The manual is docs/manual.md in the repository; docs/examples.md answers common questions.
-
 Status: 0 whole; 1 out of memory; 2 words, clock, or not built; 3 query; 4 logs; 5 read
 fault; 7 write fault; 8 too many lines that can't be read.
 ";

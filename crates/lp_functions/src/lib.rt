@@ -16,6 +16,8 @@ mod moments;
 mod numbers;
 mod place;
 mod table;
+#[cfg(test)]
+mod tests;
 mod texts;
 mod tokens;
 mod urls;

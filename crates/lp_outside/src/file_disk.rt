@@ -2,35 +2,24 @@
 ghost use Rattle.std.specs.Prelude.{◌≡◌, ◌≤◌, length, IfOk};
 ghost use Rattle.lp_model.specs.Outside.{HasCause};
 
-use crate::folders::{make_folders, sync_folders};
+use crate::folders::{make_folders, sync_folder};
 use crate::kept::{Kept, is_absence};
 use crate::{Disk, DiskFailed, Name};
 use std::fs::{OpenFile, OpenOptions};
 use std::io;
 use std::io::ErrorKind;
-use std::os::unix::fs::FileExt;
 use std::rt::Files;
 
 // The longest file, 2^62 bytes.
 const LONGEST_FILE: u64 = 1 << 62;
 
-/// The files of a system as a disk. The two that were used last are kept open, so that a text that goes from one file into
-/// another takes one call of the system for each read and each write. A write makes the file and its folders where they are
-/// missing; no other call makes a file.
+/// The files of a system as a disk. The one that was used last is kept open, so that most reads and writes take one call
+/// or two. A write makes the file and its folders where they are missing; no other call makes a file.
 #[derive(Drop)]
 pub struct FileDisk<'a, R: Files> {
     rt: &'a R,
-    last: Option<Kept<R::File>>,
-    before: Option<Kept<R::File>>,
+    open: Option<Kept<R::File>>,
     faults: u64,
-}
-
-// Whether this is the open file of that name.
-fn is_open<F: Drop>(open: &Option<Kept<F>>, name: &Name) -> bool {
-    match open {
-        Some(file) => file.is(name),
-        None => false,
-    }
 }
 
 // Opens a file for reading, or for both, where it is there.
@@ -66,45 +55,25 @@ fn open_in_folders<R: Files>(rt: &R, name: &Name) -> io::Result<R::File> {
     }
 }
 
-impl<'a, R: Files> FileDisk<'a, R>
-where
-    R::File: FileExt,
-{
+impl<'a, R: Files> FileDisk<'a, R> {
     pub fn new(rt: &'a R) -> Self
         ensures { ⟦<FileDisk<'a, R> as Disk>⟧.faults result ≡ 0 }
     {
         FileDisk {
             rt,
-            last: None,
-            before: None,
+            open: None,
             faults: 0,
         }
     }
 
-    // Takes an open file, where one is this one and serves.
+    // Takes the open file, where it is this one and serves.
     fn take(&mut self, name: &Name, writes: bool) -> Option<Kept<R::File>>
         ensures { self.new.faults ≡ self.old.faults }
     {
-        if !is_open(&self.last, name) {
-            std::mem::swap(&mut self.last, &mut self.before);
-        }
-        if !is_open(&self.last, name) {
-            return None;
-        }
-        match self.last.take() {
-            Some(file) if file.writes || !writes => Some(file),
+        match self.open.take() {
+            Some(file) if file.is(name) && (file.writes || !writes) => Some(file),
             _ => None,
         }
-    }
-
-    // Keeps a file open as the one that was used last.
-    fn keep(&mut self, file: Kept<R::File>)
-        ensures { self.new.faults ≡ self.old.faults }
-    {
-        if let Some(last) = self.last.take() {
-            self.before = Some(last);
-        }
-        self.last = Some(file);
     }
 
     // Takes the open file, or opens it where it is there.
@@ -132,23 +101,23 @@ where
         ensures count { IfOk result (λ count. count ≤ length into.new) }
         ensures faults { self.new.faults ≡ self.old.faults }
     {
-        let Some(file) = self.take_there(name, false)? else {
+        let Some(mut file) = self.take_there(name, false)? else {
             return Ok(0);
         };
         let count = file.read_at(at, into)?;
-        self.keep(file);
+        self.open = Some(file);
         Ok(count)
     }
 
     fn write_file(&mut self, name: &Name, at: u64, bytes: &[u8]) -> io::Result<()>
         ensures { self.new.faults ≡ self.old.faults }
     {
-        let file = match self.take(name, true) {
+        let mut file = match self.take(name, true) {
             Some(file) => file,
             None => Kept::new(name, open_in_folders(self.rt, name)?, true),
         };
         file.write_at(at, bytes)?;
-        self.keep(file);
+        self.open = Some(file);
         Ok(())
     }
 
@@ -161,7 +130,7 @@ where
         if file.file.metadata()?.len() > to {
             file.file.set_len(to)?;
         }
-        self.keep(file);
+        self.open = Some(file);
         Ok(())
     }
 
@@ -172,12 +141,11 @@ where
             return Ok(());
         };
         file.file.sync_all()?;
-        // A file that is new, or whose folders are, may be lost with its name, so these are made durable once.
         if !file.is_named {
-            sync_folders(self.rt, name)?;
+            sync_folder(self.rt, name.as_str())?;
             file.is_named = true;
         }
-        self.keep(file);
+        self.open = Some(file);
         Ok(())
     }
 }
@@ -196,10 +164,7 @@ fn counted<T: Drop>(faults: &mut u64, answer: io::Result<T>) -> Result<T, DiskFa
     }
 }
 
-impl<'a, R: Files> Disk for FileDisk<'a, R>
-where
-    R::File: FileExt,
-{
+impl<'a, R: Files> Disk for FileDisk<'a, R> {
     ghost use Rattle.lp_outside.specs.Untold.{untold};
 
     ghost state = { λ disk. untold };

@@ -15,38 +15,15 @@ fn folder_of(path: &str) -> &str {
     }
 }
 
-// Makes the names in a folder durable.
-fn sync_folder<R: Files>(rt: &R, folder: &str) -> io::Result<()> {
-    fs::open(rt, folder)?.sync_all()
-}
-
-/// Makes the name of a file durable in the folder that holds it, and the name of each folder above in the one above that. One
-/// above that may not be opened is passed over: it was there before, since its makers sync what they make.
-pub fn sync_folders<R: Files>(rt: &R, name: &Name) -> io::Result<()> {
-    let mut path = ArrayString::<512>::new();
-    let mut is_first = true;
-    for part in name.as_str().split('/') {
-        if !is_first {
-            add(&mut path, "/")?;
-        }
-        add(&mut path, part)?;
-        is_first = false;
-        if part.is_empty() {
-            continue;
-        }
-        match sync_folder(rt, folder_of(path.as_str())) {
-            Err(e) if e.kind() == ErrorKind::PermissionDenied && path.len() < name.as_str().len() =>
-                {}
-            synced => synced?,
-        }
-    }
-    Ok(())
+/// Makes the name of a file or a folder durable in the folder that holds it.
+pub fn sync_folder<R: Files>(rt: &R, path: &str) -> io::Result<()> {
+    fs::open(rt, folder_of(path))?.sync_all()
 }
 
 // Makes a folder where it is missing, and its name durable.
 fn make_folder<R: Files>(rt: &R, path: &str) -> io::Result<()> {
     match fs::create_dir(rt, path) {
-        Ok(()) => sync_folder(rt, folder_of(path)),
+        Ok(()) => sync_folder(rt, path),
         Err(e) if e.kind() == ErrorKind::AlreadyExists => Ok(()),
         Err(e) => Err(e),
     }

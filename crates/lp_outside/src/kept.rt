@@ -1,21 +1,21 @@
-// Files of a system that are kept open between calls.
+// Files of a system, one of them kept open.
 ghost use Rattle.std.specs.Prelude.{◌≡◌, ◌≤◌, length, IfOk, bytes_eq};
 
 use crate::Name;
 use std::fs::OpenFile;
-use std::io::ErrorKind;
-use std::os::unix::fs::FileExt;
+use std::io::{ErrorKind, Read, Seek, SeekFrom, Write};
 use std::rt::Files;
 use std::{fs, io};
 
-/// An open file. Its reads and writes name their place, so none has to be remembered.
+/// An open file, and the place where it is.
 #[derive(Drop)]
 pub struct Kept<F: Drop> {
     name: Name,
     pub file: F,
+    at: u64,
     /// Whether it may be written.
     pub writes: bool,
-    /// Whether its name is durable in its folders.
+    /// Whether its name is durable in its folder.
     pub is_named: bool,
 }
 
@@ -25,6 +25,7 @@ impl<F: Drop> Kept<F> {
         Kept {
             name: name.copy(),
             file,
+            at: 0,
             writes,
             is_named: false,
         }
@@ -38,26 +39,46 @@ impl<F: Drop> Kept<F> {
     }
 }
 
-impl<F: FileExt + Drop> Kept<F> {
+impl<F: Read + Seek + Drop> Kept<F> {
+    // Goes to a place.
+    fn go_to(&mut self, at: u64) -> io::Result<()> {
+        if self.at != at {
+            self.file.seek(SeekFrom::Start(at))?;
+            self.at = at;
+        }
+        Ok(())
+    }
+
+    // The place is behind so many bytes more.
+    fn pass(&mut self, count: usize) {
+        self.at = self.at.saturating_add(count as u64);
+    }
+
     /// Some bytes from a place on.
-    pub fn read_at(&self, at: u64, into: &mut [u8]) -> io::Result<usize>
+    pub fn read_at(&mut self, at: u64, into: &mut [u8]) -> io::Result<usize>
         ensures { IfOk result (λ count. count ≤ length into.new) }
     {
-        self.file.read_at(into, at)
+        self.go_to(at)?;
+        let count = self.file.read(into)?;
+        self.pass(count);
+        Ok(count)
     }
 }
 
-impl<F: FileExt + OpenFile + Drop> Kept<F> {
+impl<F: Read + Write + Seek + OpenFile + Drop> Kept<F> {
     /// Writes bytes from a place on; the system fills a gap before it with zero bytes.
-    pub fn write_at(&self, at: u64, bytes: &[u8]) -> io::Result<()> {
+    pub fn write_at(&mut self, at: u64, bytes: &[u8]) -> io::Result<()> {
         if bytes.is_empty() {
             return self.reach(at);
         }
-        self.file.write_all_at(bytes, at)
+        self.go_to(at)?;
+        self.file.write_all(bytes)?;
+        self.pass(bytes.len());
+        Ok(())
     }
 
-    // Makes the file as long as this, where it is shorter: a write of nothing fills a gap too.
-    fn reach(&self, at: u64) -> io::Result<()> {
+    // Makes the file as long as this, where it is shorter.
+    fn reach(&mut self, at: u64) -> io::Result<()> {
         if self.file.metadata()?.len() < at {
             self.file.set_len(at)?;
         }

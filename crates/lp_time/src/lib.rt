@@ -14,6 +14,8 @@ mod pattern;
 mod piece;
 mod reading;
 mod taking;
+#[cfg(test)]
+mod tests;
 mod writing;
 
 pub use character::Character;

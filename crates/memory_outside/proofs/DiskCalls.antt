@@ -36,7 +36,3 @@ pub crash_image : (s : Store) (first : List MemoryFile) (calls : List Call) (ima
 crash_image s first calls image seen one two same are honest name =
     subst (λ (f : Files). MayLeave (files_in s.first.items) s.calls.items name (f name)) (sym same)
     (subst (λ (cs : List Call). AreImage (files_in s.first.items) cs image) two (subst (λ (fs : List MemoryFile). AreImage (files_in fs) calls image) one are) (λ n. (store_files s n, honest n)) name)
-
--- what was done was followed by what left the store as it was
-pub done_before : (change : List ℕ → List ℕ → List ℕ → Type 0) (s u v : Store) → v ≡ u → ((store_state s).honest → Works change (store_state s) (store_state u)) → (store_state s).honest → Works change (store_state s) (store_state v)
-done_before change s u v same work = subst (λ (x : Store). (store_state s).honest → Works change (store_state s) (store_state x)) (sym same) work

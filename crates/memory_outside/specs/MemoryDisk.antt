@@ -1,12 +1,10 @@
 -- What a disk in memory holds and has done.
-use Rattle.std.specs.Prelude.{◌≡◌, ◌||◌, ◌==◌, ℕ, Bool, false, List, [], Option, Some, None, nat_le}
+use Rattle.std.specs.Prelude.{◌≡◌, ◌||◌, ℕ, Bool, false, List, Option, Some, None, nat_le}
 use Rattle.lp_model.specs.Outside.{Folder}
 use Rattle.disk_model.specs.Disk.{Files, DiskState}
 use Rattle.memory_outside.specs.Files.{folder_of, files_in}
 use Rattle.memory_outside.specs.Schedule.{is_due, IsFresh}
 use Rattle.memory_outside.specs.Store.{Stays, store_state, store_files}
-use Rattle.memory_outside.specs.Store.{Notes as StoreNotes}
-use Rattle.memory_outside.specs.declared.store.Call.{Call}
 use Rattle.memory_outside.specs.Crash.{crashed}
 use Rattle.memory_outside.specs.declared.replaying.Torn.{Torn}
 use Rattle.memory_outside.specs.declared.schedule.Schedule.{Schedule}
@@ -36,34 +34,14 @@ disk_stop disk = disk.stop
 abbrev pub disk_faults : MemoryDisk → ℕ
 disk_faults disk = disk.faults
 
--- how often it wanted memory
-abbrev pub disk_wanted : MemoryDisk → ℕ
-disk_wanted disk = disk.wanted
-
--- the calls that changed it since all of it was lasting, and the files as they were then
-abbrev pub disk_calls : MemoryDisk → List Call
-disk_calls disk = disk.store.calls.items
-
-abbrev pub disk_first : MemoryDisk → Files
-disk_first disk = files_in disk.store.first.items
-
 -- what a crash leaves by this list
 abbrev pub disk_crashed : MemoryDisk → List Torn → Files
-disk_crashed disk torn = crashed torn (disk_calls disk) (disk_first disk)
+disk_crashed disk torn = crashed torn disk.store.calls.items (files_in disk.store.first.items)
 
 -- a stop has come by this call
 abbrev pub is_stopped : Option ℕ → ℕ → Bool
 is_stopped None call = false
 is_stopped (Some stop) call = nat_le stop call
-
--- a stop takes this call
-abbrev pub is_stop : Option ℕ → ℕ → Bool
-is_stop None call = false
-is_stop (Some stop) call = stop == call
-
--- the next call is the one that a stop takes
-abbrev pub is_at_stop : MemoryDisk → Bool
-is_at_stop disk = is_stop disk.stop disk.schedule.calls
 
 -- the next call is named to fail, or a stop has come
 abbrev pub is_to_fail : MemoryDisk → Bool
@@ -76,11 +54,6 @@ pub record IsNewDisk (disk : MemoryDisk) : Type 0 where
   pub schedule : IsFresh disk.schedule
   pub stop : disk.stop ≡ None
   pub faults : disk.faults ≡ 0
-  pub calls : disk_calls disk ≡ []
-
--- one call more was noted
-abbrev pub Notes : Call → MemoryDisk → MemoryDisk → Type 0
-Notes call before now = StoreNotes call before.store now.store
 
 -- the files, and what a crash may leave of them, are as before
 abbrev pub KeepsFiles : MemoryDisk → MemoryDisk → Type 0

@@ -1,5 +1,5 @@
 -- What a disk in memory may leave, from the list of its calls.
-use Rattle.std.specs.Prelude.{◌≡◌, ℕ, ◌+◌, ◌-◌, ◌≤◌, List, [], ◌∷◌, ◌++◌, length, take}
+use Rattle.std.specs.Prelude.{◌≡◌, ℕ, ◌+◌, ◌-◌, ◌≤◌, List, [], ◌∷◌, length, take}
 use Rattle.std.specs.Bool.{⊤}
 use Rattle.disk_model.specs.Disk.{Files, DiskState, At, Torn, Shortened}
 use Rattle.memory_outside.specs.Files.{folder_of, files_in}
@@ -58,8 +58,3 @@ pub record Stays (before now : Store) : Type 0 where
   pub first : now.first.items ≡ before.first.items
   pub calls : now.calls.items ≡ before.calls.items
   pub files : folder_of now.files.items ≡ folder_of before.files.items
-
--- one call more was noted
-pub record Notes (call : Call) (before now : Store) : Type 0 where
-  pub first : now.first.items ≡ before.first.items
-  pub calls : now.calls.items ≡ before.calls.items ++ call ∷ []

@@ -13,6 +13,8 @@ mod memory_source;
 mod replaying;
 mod schedule;
 mod store;
+#[cfg(test)]
+mod tests;
 
 pub use memory_disk::MemoryDisk;
 pub use memory_logs::MemoryLogs;

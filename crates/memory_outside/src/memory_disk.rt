@@ -1,6 +1,6 @@
 // A disk in memory.
-ghost use Rattle.std.specs.Prelude.{◌≡◌, ◌≢◌, ◌⊎◌, ◌++◌, [], true, ◌<◌, ◌≤◌, ◌+◌, ◌^◌, ℕ, List, IfOk, OnOk, OnErr, IsTrue, IsErr, Some, None, length, min, take, drop, ◌-◌};
-ghost use Rattle.lp_model.specs.Outside.{bytes_in, HasCause, Rose};
+ghost use Rattle.std.specs.Prelude.{◌≡◌, ◌≢◌, ◌⊎◌, ◌++◌, ◌<◌, ◌≤◌, ◌+◌, ◌^◌, ℕ, List, IfOk, OnOk, OnErr, IsTrue, IsErr, Some, None, length, min, take, drop, ◌-◌};
+ghost use Rattle.lp_model.specs.Outside.{bytes_in, HasCause};
 ghost use Rattle.disk_model.specs.Disk.{IsImage, IsSynced, Works, Torn, At};
 ghost use Rattle.memory_outside.specs.Files.{Changes};
 
@@ -19,15 +19,13 @@ pub struct MemoryDisk {
     schedule: Schedule,
     stop: Option<u64>,
     faults: u64,
-    // How often a call wanted memory, which no other field tells: without it no clause could say that a call was done.
-    wanted: u64,
 }
 
 // The longest file, 2^62 bytes.
 const LONGEST_FILE: u64 = 1 << 62;
 
 impl MemoryDisk {
-    ghost use Rattle.memory_outside.specs.MemoryDisk.{disk_state, disk_files, disk_folder, disk_schedule, disk_stop, disk_faults, disk_calls, disk_first, disk_crashed, is_at_stop, is_to_fail, IsNewDisk, KeepsFiles, KeepsRest};
+    ghost use Rattle.memory_outside.specs.MemoryDisk.{disk_state, disk_files, disk_folder, disk_schedule, disk_stop, disk_faults, disk_crashed, is_to_fail, IsNewDisk, KeepsFiles, KeepsRest};
     ghost use Rattle.memory_outside.specs.Schedule.{Adds, IsSame, Passes};
 
     /// No files, no fault, no stop, and no call named to fail.
@@ -40,7 +38,6 @@ impl MemoryDisk {
             schedule: Schedule::new(alloc),
             stop: None,
             faults: 0,
-            wanted: 0,
         }
     }
 
@@ -92,8 +89,6 @@ impl MemoryDisk {
     /// order, and those without an item lost. Then all is lasting, and a stop has ended. An `Err` changes nothing.
     pub fn crash(&mut self, torn: &TornList) -> Result<(), AllocError>
         ensures exact { OnOk result (disk_files self.new ≡ disk_crashed self.old torn.now) }
-        ensures calls { OnOk result (disk_calls self.new ≡ []) }
-        ensures first { OnOk result (disk_first self.new ≡ disk_files self.new) }
         ensures image { OnOk result ((disk_state self.old).honest → IsImage (disk_state self.old) (disk_files self.new)) }
         ensures honest { OnOk result (disk_state self.new).honest }
         ensures lasting { OnOk result ((name : List ℕ) → IsSynced (disk_state self.new) name) }
@@ -115,29 +110,15 @@ impl MemoryDisk {
     }
 
     // Whether the next call is the one that a stop takes.
-    fn stops_here(&self) -> bool
-        ensures { result ≡ is_at_stop self.now }
-    {
+    fn stops_here(&self) -> bool {
         self.stop == Some(self.schedule.calls)
-    }
-
-    // A call failed for want of memory.
-    fn wants_memory(&mut self) -> DiskFailed
-        ensures faults { Rose self.old.faults self.new.faults }
-        ensures later { self.old.faults ≤ self.new.faults }
-        ensures wanted { Rose self.old.wanted self.new.wanted }
-        ensures same { (self.new.store ≡ self.old.store) × (self.new.stop ≡ self.old.stop) × (self.new.schedule ≡ self.old.schedule) }
-    {
-        self.faults = self.faults.saturating_add(1);
-        self.wanted = self.wanted.saturating_add(1);
-        DiskFailed
     }
 
     // Whether the next call is to fail, named or stopped. It is then past.
     fn fails(&mut self) -> bool
         ensures answer { result ≡ is_to_fail self.old }
         ensures passes { Passes (disk_schedule self.old) (disk_schedule self.new) }
-        ensures same { (self.new.store ≡ self.old.store) × (self.new.stop ≡ self.old.stop) × (self.new.faults ≡ self.old.faults) × (self.new.wanted ≡ self.old.wanted) }
+        ensures same { (self.new.store ≡ self.old.store) × (self.new.stop ≡ self.old.stop) × (self.new.faults ≡ self.old.faults) }
     {
         let call = self.schedule.calls;
         let due = self.schedule.pass();
@@ -150,8 +131,7 @@ impl MemoryDisk {
 
 impl Disk for MemoryDisk {
     ghost use Rattle.disk_model.specs.Disk.{Shows, Nothing, Shortened, overwritten, start_of};
-    ghost use Rattle.memory_outside.specs.MemoryDisk.{disk_state, disk_files, disk_schedule, disk_stop, disk_faults, disk_wanted, is_at_stop, is_to_fail, Notes, KeepsFiles};
-    ghost use Rattle.memory_outside.specs.declared.store.Call.TheVariants.{Write, Cut, Sync};
+    ghost use Rattle.memory_outside.specs.MemoryDisk.{disk_state, disk_files, disk_schedule, disk_faults, is_to_fail};
     ghost use Rattle.memory_outside.specs.Schedule.{Passes};
     ghost use Rattle.memory_outside.specs.MemoryLaws.{left_now, only_now};
 
@@ -175,10 +155,8 @@ impl Disk for MemoryDisk {
         ensures bound { IfOk result (λ found. found ≤ 2 ^ 62) }
         ensures cause { HasCause (disk_faults self.old) (disk_faults self.new) result }
         ensures named { IsTrue (is_to_fail self.old) → IsErr result }
-        ensures long { 2 ^ 62 < length (disk_files self.old name.now) → IsErr result }
         ensures only_named { IsErr result → (IsTrue (is_to_fail self.old)) ⊎ (2 ^ 62 < length (disk_files self.old name.now)) }
         ensures passes { Passes (disk_schedule self.old) (disk_schedule self.new) }
-        ensures stop { disk_stop self.new ≡ disk_stop self.old }
     {
         if self.fails() {
             self.faults = self.faults.saturating_add(1);
@@ -203,10 +181,8 @@ impl Disk for MemoryDisk {
         ensures bound { IfOk result (λ count. 0 < count → at + count ≤ 2 ^ 62) }
         ensures cause { HasCause (disk_faults self.old) (disk_faults self.new) result }
         ensures named { IsTrue (is_to_fail self.old) → IsErr result }
-        ensures long { 2 ^ 62 < length (disk_files self.old name.now) → IsErr result }
         ensures only_named { IsErr result → (IsTrue (is_to_fail self.old)) ⊎ (2 ^ 62 < length (disk_files self.old name.now)) }
         ensures passes { Passes (disk_schedule self.old) (disk_schedule self.new) }
-        ensures stop { disk_stop self.new ≡ disk_stop self.old }
     {
         if self.fails() {
             self.faults = self.faults.saturating_add(1);
@@ -229,12 +205,7 @@ impl Disk for MemoryDisk {
         ensures bound { OnOk result (at + length bytes.now ≤ 2 ^ 62) }
         ensures cause { HasCause (disk_faults self.old) (disk_faults self.new) result }
         ensures named { IsTrue (is_to_fail self.old) → IsErr result }
-        ensures only_named { IsErr result → (IsTrue (is_to_fail self.old)) ⊎ (2 ^ 62 < at + length bytes.now) ⊎ (Rose (disk_wanted self.old) (disk_wanted self.new)) }
-        ensures noted { OnOk result (Notes (Write name.now (at - length (disk_files self.old name.now)) at bytes.now) self.old self.new) }
-        ensures taken { IsTrue (is_at_stop self.old) → at + length bytes.now ≤ 2 ^ 62 → Notes (Write name.now (at - length (disk_files self.old name.now)) at bytes.now) self.old self.new ⊎ Rose (disk_wanted self.old) (disk_wanted self.new) }
-        ensures left { OnErr result (KeepsFiles self.old self.new ⊎ (IsTrue (is_at_stop self.old) × Notes (Write name.now (at - length (disk_files self.old name.now)) at bytes.now) self.old self.new)) }
         ensures passes { Passes (disk_schedule self.old) (disk_schedule self.new) }
-        ensures stop { disk_stop self.new ≡ disk_stop self.old }
     {
         let stops = self.stops_here();
         let fails = self.fails();
@@ -245,11 +216,10 @@ impl Disk for MemoryDisk {
         }
         match self.store.write(name, at, bytes) {
             Ok(()) if !fails => Ok(()),
-            Ok(()) => {
+            _ => {
                 self.faults = self.faults.saturating_add(1);
                 Err(DiskFailed)
             }
-            Err(_) => Err(self.wants_memory()),
         }
     }
 
@@ -261,12 +231,7 @@ impl Disk for MemoryDisk {
         ensures cut { OnOk result ((disk_state self.old).tells → disk_files self.new name.now ≡ take to (disk_files self.old name.now)) }
         ensures cause { HasCause (disk_faults self.old) (disk_faults self.new) result }
         ensures named { IsTrue (is_to_fail self.old) → IsErr result }
-        ensures only_named { IsErr result → (IsTrue (is_to_fail self.old)) ⊎ (Rose (disk_wanted self.old) (disk_wanted self.new)) }
-        ensures noted { OnOk result (Notes (Cut name.now to) self.old self.new) }
-        ensures taken { IsTrue (is_at_stop self.old) → Notes (Cut name.now to) self.old self.new ⊎ Rose (disk_wanted self.old) (disk_wanted self.new) }
-        ensures left { OnErr result (KeepsFiles self.old self.new ⊎ (IsTrue (is_at_stop self.old) × Notes (Cut name.now to) self.old self.new)) }
         ensures passes { Passes (disk_schedule self.old) (disk_schedule self.new) }
-        ensures stop { disk_stop self.new ≡ disk_stop self.old }
     {
         let stops = self.stops_here();
         let fails = self.fails();
@@ -276,11 +241,10 @@ impl Disk for MemoryDisk {
         }
         match self.store.cut(name, to) {
             Ok(()) if !fails => Ok(()),
-            Ok(()) => {
+            _ => {
                 self.faults = self.faults.saturating_add(1);
                 Err(DiskFailed)
             }
-            Err(_) => Err(self.wants_memory()),
         }
     }
 
@@ -291,11 +255,7 @@ impl Disk for MemoryDisk {
         ensures durable { OnOk result ((disk_state self.old).honest → IsSynced (disk_state self.new) name.now) }
         ensures cause { HasCause (disk_faults self.old) (disk_faults self.new) result }
         ensures named { IsTrue (is_to_fail self.old) → IsErr result }
-        ensures only_named { IsErr result → (IsTrue (is_to_fail self.old)) ⊎ (Rose (disk_wanted self.old) (disk_wanted self.new)) }
-        ensures noted { OnOk result (Notes (Sync name.now (disk_files self.old name.now)) self.old self.new) }
-        ensures left { OnErr result (KeepsFiles self.old self.new) }
         ensures passes { Passes (disk_schedule self.old) (disk_schedule self.new) }
-        ensures stop { disk_stop self.new ≡ disk_stop self.old }
     {
         if self.fails() {
             self.faults = self.faults.saturating_add(1);
@@ -303,7 +263,10 @@ impl Disk for MemoryDisk {
         }
         match self.store.sync(name) {
             Ok(()) => Ok(()),
-            Err(_) => Err(self.wants_memory()),
+            Err(_) => {
+                self.faults = self.faults.saturating_add(1);
+                Err(DiskFailed)
+            }
         }
     }
 }

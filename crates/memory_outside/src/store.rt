@@ -3,7 +3,7 @@ ghost use Rattle.std.specs.Prelude.{◌≡◌, ◌⊎◌, ◌++◌, [], ◌∷�
 ghost use Rattle.lp_model.specs.Outside.{bytes_in};
 ghost use Rattle.disk_model.specs.Disk.{overwritten, start_of, Works, Shows, Nothing, At, Torn, Shortened, IsSynced};
 ghost use Rattle.memory_outside.specs.Files.{folder_of, files_in, put_in, Changes};
-ghost use Rattle.memory_outside.specs.Store.{store_state, store_files, IsFirst, Stays, Notes};
+ghost use Rattle.memory_outside.specs.Store.{store_state, store_files, IsFirst, Stays};
 ghost use Rattle.memory_outside.specs.declared.store.Call.TheVariants.{Write, Cut, Sync};
 
 use crate::files::{MemoryFile, append, bytes_of, copied, store};
@@ -107,7 +107,7 @@ fn change(
     bytes: &[u8],
 ) -> Result<(), AllocError>
     ensures ok { OnOk result (files_in files.new.items ≡ put_in name.now (overwritten (files_in files.old.items name.now) at bytes.now) (files_in files.old.items)) }
-    ensures err { OnErr result (folder_of files.new.items ≡ folder_of files.old.items) }
+    ensures err { OnErr result (files_in files.new.items ≡ files_in files.old.items) }
 {
     let old = bytes_of(files, name);
     if old.len() as u64 == at {
@@ -127,7 +127,7 @@ fn shorten(
     to: u64,
 ) -> Result<(), AllocError>
     ensures ok { OnOk result (files_in files.new.items ≡ put_in name.now (take to (files_in files.old.items name.now)) (files_in files.old.items)) }
-    ensures err { OnErr result (folder_of files.new.items ≡ folder_of files.old.items) }
+    ensures err { OnErr result (files_in files.new.items ≡ files_in files.old.items) }
 {
     let old = bytes_of(files, name);
     if old.len() as u64 <= to {
@@ -158,51 +158,43 @@ impl Store {
         bytes_of(&self.files, name)
     }
 
-    /// Writes into a file. An `Err` changes nothing.
+    /// Writes into a file. After an `Err` the call may be noted all the same.
     pub fn write(&mut self, name: &Name, at: u64, bytes: &[u8]) -> Result<(), AllocError>
         ensures crash { (store_state self.old).honest → Works (At name.now (Torn (start_of (store_files self.old name.now) at) (at + length bytes.now))) (store_state self.old) (store_state self.new) }
         ensures shows { Shows (At name.now (Torn (start_of (store_files self.old name.now) at) (at + length bytes.now))) (store_state self.old) (store_state self.new) }
         ensures ok { OnOk result (store_files self.new name.now ≡ overwritten (store_files self.old name.now) at bytes.now) }
-        ensures noted { OnOk result (Notes (Write name.now (at - length (store_files self.old name.now)) at bytes.now) self.old self.new) }
-        ensures err { OnErr result (Stays self.old self.new) }
     {
         let gap = at.saturating_sub(self.bytes(name).len() as u64);
         let copy = copied(self.alloc, bytes)?;
-        self.calls.reserve(1)?;
-        change(self.alloc, &mut self.files, name, at, bytes)?;
         self.calls.push(Call::Write {
             name: name.copy(),
             gap,
             at,
             bytes: copy,
         })?;
+        change(self.alloc, &mut self.files, name, at, bytes)?;
         Ok(())
     }
 
-    /// Cuts a file. An `Err` changes nothing.
+    /// Cuts a file. After an `Err` the call may be noted all the same.
     pub fn cut(&mut self, name: &Name, to: u64) -> Result<(), AllocError>
         ensures crash { (store_state self.old).honest → Works (At name.now (Shortened to)) (store_state self.old) (store_state self.new) }
         ensures shows { Shows (At name.now (Shortened to)) (store_state self.old) (store_state self.new) }
         ensures ok { OnOk result (store_files self.new name.now ≡ take to (store_files self.old name.now)) }
-        ensures noted { OnOk result (Notes (Cut name.now to) self.old self.new) }
-        ensures err { OnErr result (Stays self.old self.new) }
     {
-        self.calls.reserve(1)?;
-        shorten(self.alloc, &mut self.files, name, to)?;
         self.calls.push(Call::Cut {
             name: name.copy(),
             to,
         })?;
+        shorten(self.alloc, &mut self.files, name, to)?;
         Ok(())
     }
 
-    /// Makes a file lasting. An `Err` changes nothing.
+    /// Makes a file lasting.
     pub fn sync(&mut self, name: &Name) -> Result<(), AllocError>
         ensures crash { (store_state self.old).honest → Works Nothing (store_state self.old) (store_state self.new) }
         ensures same { self.new.files ≡ self.old.files }
         ensures durable { OnOk result ((store_state self.old).honest → IsSynced (store_state self.new) name.now) }
-        ensures noted { OnOk result (Notes (Sync name.now (store_files self.old name.now)) self.old self.new) }
-        ensures err { OnErr result (Stays self.old self.new) }
     {
         let bytes = copied(self.alloc, self.bytes(name))?;
         self.calls.push(Call::Sync {

@@ -9,6 +9,8 @@ mod reader;
 mod row;
 mod shape;
 mod table;
+#[cfg(test)]
+mod tests;
 
 pub use reader::Ncsa;
 pub use shape::Shape;

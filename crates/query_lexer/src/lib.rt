@@ -24,3 +24,6 @@ pub use lexer::lex;
 pub use symbol::Symbol;
 pub use token::{Token, TokenKind};
 pub use tokens::Tokens;
+
+#[cfg(test)]
+mod tests;

@@ -13,6 +13,8 @@ mod fault;
 mod query;
 mod subquery;
 mod tail;
+#[cfg(test)]
+mod tests;
 mod token;
 mod values;
 mod whole;

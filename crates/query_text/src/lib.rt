@@ -7,6 +7,8 @@
 mod fault;
 mod reading;
 mod stdin;
+#[cfg(test)]
+mod tests;
 
 pub use fault::{QueryFault, ReadFault};
 pub use reading::read_query;

@@ -7,7 +7,7 @@ use Rattle.ledger_model.specs.Entries.{Entry, Output}
 use Rattle.ledger_model.specs.Ledgers.{Pair}
 use Rattle.ledger_model.proofs.Reading.{one_ledger}
 use Rattle.recovery_model.specs.Stage.{u32_at, u64_at, Frame, IsFrame, IsChain, IsStaged, text_of}
-use Rattle.recovery_model.specs.Recovered.{unfinished, IsOther, staged_part, IsFile, Recovers, RecoversAsBefore}
+use Rattle.recovery_model.specs.Recovered.{unfinished, staged_part, IsFile, Recovers, RecoversAsBefore}
 
 -- one frame stands at a place
 pub one_frame : (bytes : List ℕ) (index : ℕ) (f g : Frame) → IsFrame bytes index f → IsFrame bytes index g → f.place ≡ g.place → (f.prev ≡ g.prev) × (f.offset ≡ g.offset) × (f.bytes ≡ g.bytes)
@@ -52,22 +52,22 @@ one_file stage outputs name file a b one two = ⊎_elim
     (listed_or_not outputs name)
 
 pub one_state : (ledger stage : List ℕ) (js ks : List Entry) (files others image : Files) → Recovers ledger stage js files image → Recovers ledger stage ks others image
-    → (js ≡ ks) × ((name : List ℕ) → IsOther ledger stage name → files name ≡ others name)
+    → (js ≡ ks) × ((name : List ℕ) → name ≢ ledger → name ≢ stage → files name ≡ others name)
 one_state ledger stage js ks files others image r s =
     let pairs : s.pairs ≡ r.pairs = one_ledger (image ledger) s.pairs r.pairs s.is_ledger r.is_ledger in (
       r.entries_are ∙ sym (s.entries_are ∙ ap (map (λ (p : Pair). p.entry)) pairs),
-      λ name other. one_file (staged_part r.pairs (image stage)) (unfinished r.pairs) name (image name) (files name) (others name) (r.files_are name other)
-          (subst (λ (ps : List Pair). IsFile (staged_part ps (image stage)) (unfinished ps) name (image name) (others name)) pairs (s.files_are name other)),
+      λ name off_ledger off_stage. one_file (staged_part r.pairs (image stage)) (unfinished r.pairs) name (image name) (files name) (others name) (r.files_are name off_ledger off_stage)
+          (subst (λ (ps : List Pair). IsFile (staged_part ps (image stage)) (unfinished ps) name (image name) (others name)) pairs (s.files_are name off_ledger off_stage)),
     )
 
 -- an image stands for other files that are the same but for the ledger and the stage
-pub alike : (ledger stage : List ℕ) (js ks : List Entry) (files others image : Files) → js ≡ ks → ((name : List ℕ) → IsOther ledger stage name → files name ≡ others name) → Recovers ledger stage js files image → Recovers ledger stage ks others image
+alike : (ledger stage : List ℕ) (js ks : List Entry) (files others image : Files) → js ≡ ks → ((name : List ℕ) → name ≢ ledger → name ≢ stage → files name ≡ others name) → Recovers ledger stage js files image → Recovers ledger stage ks others image
 alike ledger stage js ks files others image same are r = record {
   pairs = r.pairs;
   is_ledger = r.is_ledger;
   entries_are = sym same ∙ r.entries_are;
   apart = r.apart;
-  files_are = λ name other. subst (IsFile (staged_part r.pairs (image stage)) (unfinished r.pairs) name (image name)) (are name other) (r.files_are name other);
+  files_are = λ name off_ledger off_stage. subst (IsFile (staged_part r.pairs (image stage)) (unfinished r.pairs) name (image name)) (are name off_ledger off_stage) (r.files_are name off_ledger off_stage);
 }
 
 -- what stands as before stands for all that the image before stood for

@@ -9,6 +9,8 @@ mod keeping;
 mod kept;
 mod picking;
 mod row;
+#[cfg(test)]
+mod tests;
 
 pub use judging::{Judged, judge, table_of};
 pub use kept::{FirstLog, KeptRow, KeptRows};

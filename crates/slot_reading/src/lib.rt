@@ -7,6 +7,8 @@
 mod names;
 mod reading;
 mod slots;
+#[cfg(test)]
+mod tests;
 
 pub use names::is_same_name;
 pub use reading::Reading;

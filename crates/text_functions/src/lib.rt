@@ -12,6 +12,8 @@ mod likeness;
 mod occurrences;
 mod places;
 mod replacing;
+#[cfg(test)]
+mod tests;
 mod tokens;
 
 pub use edges::{extract_extension, extract_filename, extract_path, ltrim, rtrim, trim};

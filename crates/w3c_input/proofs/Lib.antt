@@ -1,4 +1,3 @@
 pub mod Columns
 pub mod Directives
 pub mod Carrying
-pub mod Cutting

@@ -8,5 +8,7 @@ mod directive;
 mod fields;
 mod reader;
 mod row;
+#[cfg(test)]
+mod tests;
 
 pub use reader::IisW3c;

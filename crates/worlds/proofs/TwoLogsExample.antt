@@ -184,7 +184,7 @@ rests : GoesOn text_lines written [] empty_span
 rests = record { bytes = []; is = refl; from_is = refl; forward = omega arith; ends = inl refl; standing_is = refl }
 
 before_is : Recovers ledger stage [] empty empty
-before_is = recovers_nothing ledger stage empty empty refl (λ name other. refl)
+before_is = recovers_nothing ledger stage empty empty refl (λ name off_ledger off_stage. refl)
 
 off_ledger_empty : (name : List ℕ) → name ≢ ledger → files name ≡ []
 off_ledger_empty name off = ⊎_elim (λ p. absurd (off p.0)) (λ p. rw p.1 refl) (name_or_not name ledger)
@@ -200,8 +200,8 @@ after_is = record {
   pairs = pair ∷ [];
   is_ledger = inr (record { long = ledger_size; fit = (is_pair, tt); rest = 0 ∷ 0 ∷ []; split = refl; closed = (λ e. absurd (omega arith), omega arith) });
   entries_are = refl;
-  apart = λ k output is. absurd (cc);
-  files_are = λ name other. record { listed = λ k output is. absurd (cc); unlisted = λ none. sym (off_ledger_empty name other.0) };
+  apart = record { off_ledger = λ k output is. absurd (cc); off_stage = λ k output is. absurd (cc) };
+  files_are = λ name off_ledger off_stage. record { listed = λ k output is. absurd (cc); unlisted = λ none. sym (off_ledger_empty name off_ledger) };
 }
 
 a_is_first : generation_name a 1 ≡ a1
@@ -395,7 +395,7 @@ with_entry = record {
   each_moment = λ image of. inr (recovers_same ledger stage (entry ∷ []) empty files image (λ name. ⊎_elim (λ since. sym (since name)) (λ now. sym (now name)) of) after_is);
   ends = record {
     each = λ image is. recovers_same ledger stage (entry ∷ []) empty files image (λ name. sym (is name)) after_is;
-    seen = λ name other. off_ledger_empty name other.0;
+    seen = λ name off_ledger off_stage. off_ledger_empty name off_ledger;
   };
 }
 

@@ -5,6 +5,9 @@ use Rattle.memory_outside.specs.Files.{folder_of, files_in, put_in}
 use Rattle.memory_outside.proofs.MemorySteps.{put_from, appended, on_err}
 use Rattle.memory_outside.proofs.store.change.Goals as goal
 
+pub returns-in_err-append-clause-err : goal.returns-in_err-append-clause-err
+returns-in_err-append-clause-err c = let seen : Folder → Files = λ d n. bytes_in d n in on_err c.from_residual.result (files_in c.append.new.files.items ≡ files_in c.args.files.now.items) (ap seen c.in_err-append.ensures.err)
+
 pub returns-then-old-at-clause-ok : goal.returns-then-old-at-clause-ok
 returns-then-old-at-clause-ok c =
     let f = files_in c.args.files.now.items in

@@ -10,5 +10,4 @@ returns c = record {
   schedule = c.new-4.ensures;
   stop = refl;
   faults = refl;
-  calls = c.new-3.ensures.calls;
 }

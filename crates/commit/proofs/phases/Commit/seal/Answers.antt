@@ -1,8 +1,0 @@
-use Rattle.std.proofs.Common.{◌≡◌, ℕ, ◌+◌, ◌≤◌, ◌<◌, ◌^◌, min, length, arith}
-use Rattle.ledger_model.specs.Grammar.{payload_of}
-use Rattle.ledger.specs.Written.{entry_of}
-use Rattle.commit.proofs.Places.{place_behind}
-use Rattle.commit.proofs.phases.Commit.seal.Goals as goal
-
-pub returns-clause-sealed : goal.returns-clause-sealed
-returns-clause-sealed g c = λ entries before after settled staged. (c.in_ok-seal.ensures.sealed entries before after settled staged, place_behind c.args.self.now.place (length (payload_of (entry_of c.args.entry.now))) _ c.size-size.ensures staged.good.size)

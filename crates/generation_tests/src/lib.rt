@@ -1,0 +1,5 @@
+//! What `generations` lists, over logs in memory.
+#![tactic(auto)]
+
+#[cfg(test)]
+mod tests;
