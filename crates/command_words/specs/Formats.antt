@@ -1,11 +1,10 @@
 -- The formats, and which one a name chooses.
-use Rattle.std.specs.Prelude.{ℕ, Bool, ◌&&◌, ◌||◌, List, codes, find, nat_eq, ◌==◌, if◌then◌else◌, Option}
+use Rattle.std.specs.Prelude.{ℕ, Bool, ◌&&◌, ◌||◌, List, [], ◌∷◌, codes, find, nat_eq, ◌==◌, if◌then◌else◌, Option}
 use Rattle.std.specs.List.{after_last, ends_with}
 use Rattle.command_words.specs.declared.formats.InputFormat.{InputFormat}
 use Rattle.command_words.specs.declared.formats.InputFormat.TheVariants as I
 use Rattle.command_words.specs.declared.formats.OutputFormat.{OutputFormat}
 use Rattle.command_words.specs.declared.formats.OutputFormat.TheVariants as O
-use Rattle.command_words.specs.declared.formats.TheConstants.{INPUTS, OUTPUTS}
 use Rattle.command_words.specs.Texts.{same_text, begins_as, ends_as}
 
 abbrev pub input_name : InputFormat → List ℕ
@@ -23,12 +22,19 @@ output_name O.Tsv = codes "TSV"
 output_name O.W3c = codes "W3C"
 output_name O.Tpl = codes "TPL"
 
+-- all formats
+abbrev pub inputs : List InputFormat
+inputs = I.IisW3c ∷ I.Ncsa ∷ I.Csv ∷ I.Tsv ∷ I.TextLine ∷ I.TextWord ∷ []
+
+abbrev pub outputs : List OutputFormat
+outputs = O.Nat ∷ O.Csv ∷ O.Tsv ∷ O.W3c ∷ O.Tpl ∷ []
+
 -- the format of that name, whatever its case
 abbrev pub input_in : List ℕ → Option InputFormat
-input_in text = find (λ format. same_text text (input_name format)) INPUTS
+input_in text = find (λ format. same_text text (input_name format)) inputs
 
 abbrev pub output_in : List ℕ → Option OutputFormat
-output_in text = find (λ format. same_text text (output_name format)) OUTPUTS
+output_in text = find (λ format. same_text text (output_name format)) outputs
 
 abbrev pub is_slash : ℕ → Bool
 is_slash byte = byte == 47

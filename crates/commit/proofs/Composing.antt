@@ -1,12 +1,12 @@
 -- The phases of a commit, one after the other.
-use Rattle.std.proofs.Common.{◌≡◌, ◌≢◌, ◌⊎◌, inl, inr, ⊎_elim, ℕ, List, [], ◌∷◌, ◌++◌, refl, sym, ◌∙◌, ap, subst, arith, append_assoc}
+use Rattle.std.proofs.Common.{◌≡◌, inl, inr, ⊎_elim, ℕ, List, [], ◌∷◌, ◌++◌, sym, ◌∙◌, subst, arith, append_assoc}
 use Rattle.disk_model.specs.Disk.{Files, DiskState, IsImage, LeavesOnly}
 use Rattle.disk_model.proofs.DiskSteps.{LeavesOnly-then}
 use Rattle.ledger_model.specs.Entries.{Entry}
 use Rattle.ledger_model.specs.Ledgers.{body_of, front_of}
 use Rattle.recovery_model.specs.Recovered.{Recovers, RecoversEither, RecoversAsBefore}
 use Rattle.commit.specs.States.{IsSettled, IsSealed, IsGood, Keeps, Preserves, KeepsEither, ShowsFiles}
-use Rattle.commit.specs.Resume.{CanSettle, Settles}
+use Rattle.commit.specs.Resume.{CanSettle}
 use Rattle.commit.specs.declared.phases.CommitFiles.{CommitFiles}
 use Rattle.commit.proofs.SealedEntries.{resting_start, resting_stage, resting_means, settled_stage}
 use Rattle.commit.proofs.DoneBytes.{preserves_from}

@@ -1,10 +1,10 @@
 -- Frames behind frames, of 4,096 bytes each but the last.
-use Rattle.std.proofs.Common.{◌≡◌, ◌⊎◌, inl, inr, ⊎_elim, ℕ, ◌+◌, ◌-◌, ◌≤◌, ◌<◌, min, List, [], ◌∷◌, ◌++◌, length, flat_map, refl, sym, ◌∙◌, ap, subst, arith, append_assoc, length-append}
+use Rattle.std.proofs.Common.{◌≡◌, ◌⊎◌, inl, inr, ℕ, ◌-◌, ◌≤◌, ◌<◌, min, List, [], ◌∷◌, ◌++◌, length, flat_map, refl, sym, ◌∙◌, ap, subst, arith, append_assoc}
 use Rattle.std.specs.List.{AllByRecursion}
 use Rattle.std.proofs.lemmas.List.{append-nil}
 use Rattle.std.proofs.lemmas.Grind.{flat_map-append}
 use Rattle.recovery_model.specs.Stage.{Frame}
-use Rattle.commit.specs.Putting.{frame_bytes, Cuts, GainsFrames, HasGained}
+use Rattle.commit.specs.Putting.{frame_bytes, GainsFrames, HasGained}
 
 pub gained_none : (output left : ℕ) (old : List ℕ) → HasGained output [] left old old
 gained_none output left old = record {

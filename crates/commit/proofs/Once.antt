@@ -1,8 +1,7 @@
 -- A stage fits or breaks at one place.
-use Rattle.std.proofs.Common.{◌≡◌, ◌⊎◌, inl, inr, ⊎_elim, ℕ, ◌+◌, ◌<◌, List, [], ◌∷◌, length, Some, refl, sym, ◌∙◌, ap, subst, arith}
-use Rattle.std.specs.Prelude.{slice_get}
+use Rattle.std.proofs.Common.{◌≡◌, ◌⊎◌, inl, inr, ⊎_elim, ℕ, ◌<◌, List, [], ◌∷◌, sym, ◌∙◌, subst, arith}
 use Rattle.ledger_model.specs.Entries.{Output}
-use Rattle.recovery_model.specs.Stage.{Frame, IsFrame, IsStaged, HasNoFrame, Leads, BreaksStage}
+use Rattle.recovery_model.specs.Stage.{Frame, HasNoFrame, Leads, BreaksStage}
 use Rattle.recovery_model.proofs.OneState.{one_frame}
 use Rattle.commit.specs.Outputs.{AllStaged, BreaksOutputs}
 use Rattle.commit.proofs.Restoring.{one_output}

@@ -1,5 +1,5 @@
 -- Beginning a ledger that has no entries.
-use Rattle.std.proofs.Common.{◌≡◌, ◌≢◌, inl, ⊎_elim, ℕ, ◌≤◌, ◌<◌, List, [], ◌∷◌, ◌++◌, length, refl, sym, ◌∙◌, ap, subst, arith}
+use Rattle.std.proofs.Common.{◌≡◌, inl, ⊎_elim, ℕ, ◌≤◌, ◌<◌, List, [], ◌∷◌, ◌++◌, length, refl, sym, ◌∙◌, ap, subst, arith}
 use Rattle.disk_model.specs.Disk.{Files, DiskState, IsImage, At, Works, IsSynced, Means, Stands, Nothing}
 use Rattle.disk_model.proofs.DiskSteps.{same_or_not, Stands-start, Stands-works}
 use Rattle.ledger_model.specs.Ledgers.{HasPairs, IsLedger, mark}

@@ -1,12 +1,12 @@
 -- What a commit lets stand while it stages, over no calls and over some and others.
 use Rattle.std.specs.Prelude.{◌≡◌, ℕ, List}
-use Rattle.std.proofs.Common.{refl, sym, ◌∙◌, ap, subst}
+use Rattle.std.proofs.Common.{refl, ◌∙◌, ap, subst}
 use Rattle.disk_model.specs.Disk.{DiskState, Works, Shows, At}
 use Rattle.disk_model.proofs.DiskSteps.{Works-none, Works-more, At-joins}
 use Rattle.disk_changes.specs.Changes.{Anything}
 use Rattle.commit.specs.declared.phases.CommitFiles.{CommitFiles}
 use Rattle.commit.specs.declared.phases.Commit.{Commit}
-use Rattle.commit.specs.Phases.{disk_of, stage_of, Same, Goes}
+use Rattle.commit.specs.Phases.{disk_of, stage_of, Goes}
 
 pub goes_nowhere : {D : Type 0} → (state : D → DiskState) → (c : Commit D) → Goes state c c
 goes_nowhere state c = record {

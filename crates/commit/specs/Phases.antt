@@ -7,7 +7,7 @@ use Rattle.ledger_model.specs.Entries.{Entry}
 use Rattle.ledger_model.specs.Grammar.{payload_of}
 use Rattle.lp_outside.specs.Stages.{StageState}
 use Rattle.recovery_model.specs.Recovered.{RecoversEither}
-use Rattle.commit.specs.States.{IsSettled, IsSealed, IsOpen, HasStaged, Keeps, Preserves, KeepsEither, ShowsFiles}
+use Rattle.commit.specs.States.{IsSettled, IsSealed, IsOpen, HasStaged, Preserves, KeepsEither}
 use Rattle.commit.specs.Putting.{IsText, HasStage}
 use Rattle.commit.specs.Resume.{CanSettle, Settles}
 use Rattle.commit.specs.declared.phases.Commit.{Commit}

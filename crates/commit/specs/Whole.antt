@@ -1,6 +1,6 @@
 -- A whole commit: what two texts make of the files, and what each image stands for.
 use Rattle.std.specs.Prelude.{◌≡◌, ◌≢◌, ◌⊎◌, ℕ, List, [], ◌∷◌, ◌++◌}
-use Rattle.disk_model.specs.Disk.{Files, DiskState, LeavesOnly}
+use Rattle.disk_model.specs.Disk.{Files, DiskState}
 use Rattle.ledger_model.specs.Entries.{Entry, Output}
 use Rattle.lp_outside.specs.declared.stage.Mark.{Mark}
 use Rattle.recovery_model.specs.Recovered.{Recovers}

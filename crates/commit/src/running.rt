@@ -10,14 +10,13 @@ ghost use Rattle.ledger.specs.declared.refused.Part2.{Part2};
 ghost use Rattle.recovery_model.specs.Recovered.{Recovers};
 ghost use Rattle.commit.specs.States.{IsGood, Keeps, ShowsFiles};
 ghost use Rattle.commit.specs.Resume.{CanSettle, Settles};
-ghost use Rattle.stages.specs.Gained.{HasText};
+ghost use Rattle.lp_outside.specs.Gained.{HasText};
 ghost use Rattle.commit.specs.Whole.{AddsTwo, MayCommit, output_at, BeforeOrWith};
 ghost use Rattle.commit.specs.Phases.{disk_of, ledger_of, stage_of, staged_of, Same, Goes, Unsettled, Settled, Staged, Sealed, PreservesHeld, SettlesHeld, LeavesEither};
 
 use crate::{Commit, CommitFault, CommitFiles};
 use ledger::{Entry, Output};
-use lp_outside::{Disk, Name, StageFailed};
-use stages::{Placed, Stage, place_text};
+use lp_outside::{Disk, Name, Placed, Stage, StageFailed, place_text};
 use std::alloc::AllocError;
 
 /// Why a run was refused before its gate.

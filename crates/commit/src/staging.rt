@@ -3,8 +3,7 @@ ghost use Rattle.std.specs.Prelude.{◌≡◌, ◌%◌, ◌<◌, ◌≢◌, [], 
 ghost use Rattle.commit.specs.StagedTexts.{one_read};
 
 use crate::{Commit, put};
-use lp_outside::{Disk, Mark, Name, StageFailed};
-use stages::Stage;
+use lp_outside::{Disk, Mark, Name, Stage, StageFailed};
 
 impl<'d, D: Disk> Stage for Commit<'d, D> {
     ghost use Rattle.std.specs.Bool.{⊤};

@@ -9,7 +9,8 @@ use Rattle.log_reading.specs.declared.span.Span.{Span}
 use Rattle.log_reading.specs.Page.{IsTooMany, IsWithin}
 use Rattle.log_reading.specs.Spans.{AreKept, BadLine, spans_bad_lines}
 use Rattle.output_formats.specs.Headers.{csv_of}
-use Rattle.query_run.specs.declared.executing.Counts.{Counts}
+use Rattle.query_run.specs.Output.{StageKind, OutputAt, placed_at, GainsText, GainsFront}
+use Rattle.query_run.specs.declared.executing.Written.{Written}
 use Rattle.query_types.specs.declared.fault.TypeFault.{TypeFault}
 use Rattle.sampled_run.specs.Holds.{IsFront, IsRefused}
 use Rattle.sampled_run.specs.Past.{Rules, rules_of}
@@ -24,71 +25,77 @@ Kept options spans folder = AreKept (delimited_lines options) false spans folder
 abbrev pub rules_in : ℕ → Spec → ℤ → model.Query → Rules
 rules_in limit spec moment q = rules_of limit spec.ts_format moment q (csv_of spec.headers)
 
-written_all : (told : Option Folder) (before now : Option (List ℕ)) (spec : Spec) (moment : ℤ) (q : model.Query) (options : DelimitedOptions) (limit : ℕ) (spans : List Span) (counts : Counts)
-    → Told told (λ folder. Kept options spans folder → IsSampled (rules_in limit spec moment q) before (past_of (delimited_lines options) false folder spans) (delimited_lines options) folder spans counts now)
-    → IsWithin spec.errors counts.bad
-    → IsExecuted (F.Sampled options limit) told before now spec moment q spans counts
-written_all None before now spec moment q options limit spans counts ran within = tt
-written_all (Some folder) before now spec moment q options limit spans counts ran within = λ kept.
+abbrev Has : {S : Type 0} → {kind : StageKind S} → OutputAt kind → Written → S → List ℕ → Type 0
+Has {kind = kind} before run now text = GainsText before (placed_at kind before.output run.output now) text
+
+abbrev Front : {S : Type 0} → {kind : StageKind S} → OutputAt kind → S → List ℕ → Type 0
+Front before now text = GainsFront before now text
+
+written_all : {S : Type 0} {kind : StageKind S} (told : Option Folder) (before : OutputAt kind) (now : S) (spec : Spec) (moment : ℤ) (q : model.Query) (options : DelimitedOptions) (limit : ℕ) (spans : List Span) (run : Written)
+    → Told told (λ folder. Kept options spans folder → IsSampled (rules_in limit spec moment q) before (past_of (delimited_lines options) false folder spans) (delimited_lines options) folder spans run now)
+    → IsWithin spec.errors run.counts.bad
+    → IsExecuted (F.Sampled options limit) told (Has before run now) spec moment q spans run.counts
+written_all None before now spec moment q options limit spans run ran within = tt
+written_all (Some folder) before now spec moment q options limit spans run ran within = λ kept.
     let all = ran kept in
     record {
       plan = all.written.plan;
       is_planned = all.written.planned;
-      written = λ again. record { text = all.written.text; processed = all.processed; output = all.written.output; bad = all.bad; within = within };
+      written = λ again. record { text = all.written.text; processed = all.processed; output = all.written.rows; bad = all.bad; within = within };
     }
 
-pub executed : (told : Option Folder) (before now : Option (List ℕ)) (spec : Spec) (moment : ℤ) (q : model.Query) (options : DelimitedOptions) (limit : ℕ) (slice spans : List Span) (counts : Counts) (most : Option ℕ)
+pub executed : {S : Type 0} {kind : StageKind S} (told : Option Folder) (before : OutputAt kind) (now : S) (spec : Spec) (moment : ℤ) (q : model.Query) (options : DelimitedOptions) (limit : ℕ) (slice spans : List Span) (run : Written) (most : Option ℕ)
     → slice ≡ spans → most ≡ spec.errors
-    → Told told (λ folder. Kept options slice folder → IsSampled (rules_in limit spec moment q) before (past_of (delimited_lines options) false folder slice) (delimited_lines options) folder slice counts now)
-    → IsWithin most counts.bad
-    → IsExecuted (F.Sampled options limit) told before now spec moment q spans counts
-executed told before now spec moment q options limit slice spans counts most listed same ran within =
-    subst (λ (s : List Span). IsExecuted (F.Sampled options limit) told before now spec moment q s counts) listed
-    (written_all told before now spec moment q options limit slice counts ran (subst (λ (m : Option ℕ). IsWithin m counts.bad) same within))
+    → Told told (λ folder. Kept options slice folder → IsSampled (rules_in limit spec moment q) before (past_of (delimited_lines options) false folder slice) (delimited_lines options) folder slice run now)
+    → IsWithin most run.counts.bad
+    → IsExecuted (F.Sampled options limit) told (Has before run now) spec moment q spans run.counts
+executed told before now spec moment q options limit slice spans run most listed same ran within =
+    subst (λ (s : List Span). IsExecuted (F.Sampled options limit) told (Has before run now) spec moment q s run.counts) listed
+    (written_all told before now spec moment q options limit slice run ran (subst (λ (m : Option ℕ). IsWithin m run.counts.bad) same within))
 
-stopped_all : (told : Option Folder) (before now : Option (List ℕ)) (spec : Spec) (moment : ℤ) (q : model.Query) (options : DelimitedOptions) (limit : ℕ) (spans : List Span)
+stopped_all : {S : Type 0} {kind : StageKind S} (told : Option Folder) (before : OutputAt kind) (now : S) (spec : Spec) (moment : ℤ) (q : model.Query) (options : DelimitedOptions) (limit : ℕ) (spans : List Span)
     → Told told (λ folder. Kept options spans folder → IsFront (rules_in limit spec moment q) before (past_of (delimited_lines options) false folder spans) now)
-    → IsStopped (F.Sampled options limit) told before now spec moment q spans
+    → IsStopped (F.Sampled options limit) told (now ≡ before.stage) (Front before now) spec moment q spans
 stopped_all None before now spec moment q options limit spans front = tt
 stopped_all (Some folder) before now spec moment q options limit spans front = λ kept. elim (front kept) [
   | inl same ↦ inl same
   | inr within ↦ inr (record { plan = within.plan; is_planned = within.planned; front = λ again. within.front })
 ]
 
-pub stopped : (told : Option Folder) (before now : Option (List ℕ)) (spec : Spec) (moment : ℤ) (q : model.Query) (options : DelimitedOptions) (limit : ℕ) (slice spans : List Span)
+pub stopped : {S : Type 0} {kind : StageKind S} (told : Option Folder) (before : OutputAt kind) (now : S) (spec : Spec) (moment : ℤ) (q : model.Query) (options : DelimitedOptions) (limit : ℕ) (slice spans : List Span)
     → slice ≡ spans
     → Told told (λ folder. Kept options slice folder → IsFront (rules_in limit spec moment q) before (past_of (delimited_lines options) false folder slice) now)
-    → IsStopped (F.Sampled options limit) told before now spec moment q spans
+    → IsStopped (F.Sampled options limit) told (now ≡ before.stage) (Front before now) spec moment q spans
 stopped told before now spec moment q options limit slice spans listed front =
-    subst (λ (s : List Span). IsStopped (F.Sampled options limit) told before now spec moment q s) listed (stopped_all told before now spec moment q options limit slice front)
+    subst (λ (s : List Span). IsStopped (F.Sampled options limit) told (now ≡ before.stage) (Front before now) spec moment q s) listed (stopped_all told before now spec moment q options limit slice front)
 
 -- no plan was made, and nothing written
 
-abbrev Refuses : Option Folder → Option (List ℕ) → Option (List ℕ) → Spec → ℤ → model.Query → DelimitedOptions → ℕ → List Span → TypeFault → Type 0
+abbrev Refuses : {S : Type 0} → {kind : StageKind S} → Option Folder → OutputAt kind → S → Spec → ℤ → model.Query → DelimitedOptions → ℕ → List Span → TypeFault → Type 0
 Refuses told before now spec moment q options limit spans fault = Told told (λ folder. Kept options spans folder → IsRefused (rules_in limit spec moment q) before (past_of (delimited_lines options) false folder spans) fault now)
 
-unplanned_all : (told : Option Folder) (before now : Option (List ℕ)) (spec : Spec) (moment : ℤ) (q : model.Query) (options : DelimitedOptions) (limit : ℕ) (spans : List Span) (fault : TypeFault)
+unplanned_all : {S : Type 0} {kind : StageKind S} (told : Option Folder) (before : OutputAt kind) (now : S) (spec : Spec) (moment : ℤ) (q : model.Query) (options : DelimitedOptions) (limit : ℕ) (spans : List Span) (fault : TypeFault)
     → Refuses told before now spec moment q options limit spans fault → IsUnplanned (F.Sampled options limit) told spec moment q spans fault
 unplanned_all None before now spec moment q options limit spans fault refused = tt
 unplanned_all (Some folder) before now spec moment q options limit spans fault refused = λ kept. (refused kept).fault
 
-pub unplanned : (told : Option Folder) (before now : Option (List ℕ)) (spec : Spec) (moment : ℤ) (q : model.Query) (options : DelimitedOptions) (limit : ℕ) (slice spans : List Span) (fault : TypeFault)
+pub unplanned : {S : Type 0} {kind : StageKind S} (told : Option Folder) (before : OutputAt kind) (now : S) (spec : Spec) (moment : ℤ) (q : model.Query) (options : DelimitedOptions) (limit : ℕ) (slice spans : List Span) (fault : TypeFault)
     → slice ≡ spans → Refuses told before now spec moment q options limit slice fault → IsUnplanned (F.Sampled options limit) told spec moment q spans fault
 unplanned told before now spec moment q options limit slice spans fault listed refused =
     subst (λ (s : List Span). IsUnplanned (F.Sampled options limit) told spec moment q s fault) listed (unplanned_all told before now spec moment q options limit slice fault refused)
 
-untouched_all : (told : Option Folder) (before now : Option (List ℕ)) (spec : Spec) (moment : ℤ) (q : model.Query) (options : DelimitedOptions) (limit : ℕ) (spans : List Span) (fault : TypeFault)
-    → Refuses told before now spec moment q options limit spans fault → IsUntouched (F.Sampled options limit) told before now spec spans
+untouched_all : {S : Type 0} {kind : StageKind S} (told : Option Folder) (before : OutputAt kind) (now : S) (spec : Spec) (moment : ℤ) (q : model.Query) (options : DelimitedOptions) (limit : ℕ) (spans : List Span) (fault : TypeFault)
+    → Refuses told before now spec moment q options limit spans fault → IsUntouched (F.Sampled options limit) told (now ≡ before.stage) spec spans
 untouched_all None before now spec moment q options limit spans fault refused = tt
 untouched_all (Some folder) before now spec moment q options limit spans fault refused = λ kept. (refused kept).nothing
 
-pub untouched : (told : Option Folder) (before now : Option (List ℕ)) (spec : Spec) (moment : ℤ) (q : model.Query) (options : DelimitedOptions) (limit : ℕ) (slice spans : List Span) (fault : TypeFault)
-    → slice ≡ spans → Refuses told before now spec moment q options limit slice fault → IsUntouched (F.Sampled options limit) told before now spec spans
+pub untouched : {S : Type 0} {kind : StageKind S} (told : Option Folder) (before : OutputAt kind) (now : S) (spec : Spec) (moment : ℤ) (q : model.Query) (options : DelimitedOptions) (limit : ℕ) (slice spans : List Span) (fault : TypeFault)
+    → slice ≡ spans → Refuses told before now spec moment q options limit slice fault → IsUntouched (F.Sampled options limit) told (now ≡ before.stage) spec spans
 untouched told before now spec moment q options limit slice spans fault listed refused =
-    subst (λ (s : List Span). IsUntouched (F.Sampled options limit) told before now spec s) listed (untouched_all told before now spec moment q options limit slice fault refused)
+    subst (λ (s : List Span). IsUntouched (F.Sampled options limit) told (now ≡ before.stage) spec s) listed (untouched_all told before now spec moment q options limit slice fault refused)
 
-pub refused_stopped : (told : Option Folder) (before now : Option (List ℕ)) (spec : Spec) (moment : ℤ) (q : model.Query) (options : DelimitedOptions) (limit : ℕ) (slice spans : List Span) (fault : TypeFault)
-    → slice ≡ spans → Refuses told before now spec moment q options limit slice fault → IsStopped (F.Sampled options limit) told before now spec moment q spans
+pub refused_stopped : {S : Type 0} {kind : StageKind S} (told : Option Folder) (before : OutputAt kind) (now : S) (spec : Spec) (moment : ℤ) (q : model.Query) (options : DelimitedOptions) (limit : ℕ) (slice spans : List Span) (fault : TypeFault)
+    → slice ≡ spans → Refuses told before now spec moment q options limit slice fault → IsStopped (F.Sampled options limit) told (now ≡ before.stage) (Front before now) spec moment q spans
 refused_stopped told before now spec moment q options limit slice spans fault listed refused =
     stopped told before now spec moment q options limit slice spans listed (front_of told refused)
   where

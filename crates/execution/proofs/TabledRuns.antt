@@ -1,7 +1,7 @@
 -- What the run of a plan says of its query, where the format has a table.
 use Rattle.std.proofs.Common.{◌≡◌, true, false, List, ℕ, ℤ, length, Option, Some, None, Ok, subst}
 use Rattle.grammar.specs.Trees as model
-use Rattle.lp_model.specs.Outside.{Folder, Told, Gains, GainsSome}
+use Rattle.lp_model.specs.Outside.{Folder, Told}
 use Rattle.command_words.specs.declared.spec.Spec.{Spec}
 use Rattle.log_reading.specs.declared.span.Span.{Span}
 use Rattle.log_reading.specs.Page.{IsTooMany, IsWithin}
@@ -21,39 +21,39 @@ Kept format spans folder = AreKept (lines_of format) false spans folder
 abbrev text_of : Spec → TableFormat → Planned → Folder → List Span → List ℕ
 text_of spec format plan folder spans = csv_of spec.headers true plan.names (plan_rows (readings_of format) plan (lines_of format) folder spans)
 
-written_all : (told : Option Folder) (before now : Option (List ℕ)) (spec : Spec) (format : TableFormat) (plan : Planned) (spans : List Span) (counts : Counts)
-    → Told told (λ folder. Kept format spans folder → Gains before now (text_of spec format plan folder spans))
+written_all : (told : Option Folder) (Has : List ℕ → Type 0) (spec : Spec) (format : TableFormat) (plan : Planned) (spans : List Span) (counts : Counts)
+    → Told told (λ folder. Kept format spans folder → Has (text_of spec format plan folder spans))
     → Told told (λ folder. Kept format spans folder → counts.processed ≡ length (spans_found (lines_of format) false folder spans))
     → Told told (λ folder. Kept format spans folder → counts.output ≡ length (plan_rows (readings_of format) plan (lines_of format) folder spans))
     → Told told (λ folder. Kept format spans folder → counts.bad ≡ length (spans_bad (lines_of format) false folder spans))
     → IsWithin spec.errors counts.bad
-    → Told told (λ folder. Kept format spans folder → Writes before now spec (F.Tabled format) plan spans counts folder)
-written_all None before now spec format plan spans counts text processed output bad within = tt
-written_all (Some folder) before now spec format plan spans counts text processed output bad within =
+    → Told told (λ folder. Kept format spans folder → Writes Has spec (F.Tabled format) plan spans counts folder)
+written_all None Has spec format plan spans counts text processed output bad within = tt
+written_all (Some folder) Has spec format plan spans counts text processed output bad within =
     λ kept. record { text = text kept; processed = processed kept; output = output kept; bad = bad kept; within = within }
 
-pub executed : (told : Option Folder) (before now : Option (List ℕ)) (spec : Spec) (moment : ℤ) (q : model.Query) (format : TableFormat) (plan : Planned) (slice spans : List Span) (counts : Counts) (most : Option ℕ)
+pub executed : (told : Option Folder) (Has : List ℕ → Type 0) (spec : Spec) (moment : ℤ) (q : model.Query) (format : TableFormat) (plan : Planned) (slice spans : List Span) (counts : Counts) (most : Option ℕ)
     → slice ≡ spans → plan_of (table_of format) moment q ≡ Ok plan → most ≡ spec.errors
-    → Told told (λ folder. Kept format slice folder → Gains before now (text_of spec format plan folder slice))
+    → Told told (λ folder. Kept format slice folder → Has (text_of spec format plan folder slice))
     → Told told (λ folder. Kept format slice folder → counts.processed ≡ length (spans_found (lines_of format) false folder slice))
     → Told told (λ folder. Kept format slice folder → counts.output ≡ length (plan_rows (readings_of format) plan (lines_of format) folder slice))
     → Told told (λ folder. Kept format slice folder → counts.bad ≡ length (spans_bad (lines_of format) false folder slice))
     → IsWithin most counts.bad
-    → IsExecuted (F.Tabled format) told before now spec moment q spans counts
-executed told before now spec moment q format plan slice spans counts most listed planned limit text processed output bad within =
-    let Of : List Span → Type 0 = λ s. Told told (λ folder. Kept format s folder → Writes before now spec (F.Tabled format) plan s counts folder) in
+    → IsExecuted (F.Tabled format) told Has spec moment q spans counts
+executed told Has spec moment q format plan slice spans counts most listed planned limit text processed output bad within =
+    let Of : List Span → Type 0 = λ s. Told told (λ folder. Kept format s folder → Writes Has spec (F.Tabled format) plan s counts folder) in
     record {
       plan = plan;
       is_planned = planned;
-      written = subst Of listed (written_all told before now spec format plan slice counts text processed output bad (subst (λ (m : Option ℕ). IsWithin m counts.bad) limit within));
+      written = subst Of listed (written_all told Has spec format plan slice counts text processed output bad (subst (λ (m : Option ℕ). IsWithin m counts.bad) limit within));
     }
 
-pub front : (told : Option Folder) (before now : Option (List ℕ)) (spec : Spec) (moment : ℤ) (q : model.Query) (format : TableFormat) (plan : Planned) (slice spans : List Span)
+pub front : (told : Option Folder) (Front : List ℕ → Type 0) (spec : Spec) (moment : ℤ) (q : model.Query) (format : TableFormat) (plan : Planned) (slice spans : List Span)
     → slice ≡ spans → plan_of (table_of format) moment q ≡ Ok plan
-    → Told told (λ folder. Kept format slice folder → GainsSome before now (text_of spec format plan folder slice))
-    → HoldsFront (F.Tabled format) told before now spec moment q spans (table_of format)
-front told before now spec moment q format plan slice spans listed planned text =
-    let Of : List Span → Type 0 = λ s. Told told (λ folder. Kept format s folder → GainsSome before now (text_of spec format plan folder s)) in
+    → Told told (λ folder. Kept format slice folder → Front (text_of spec format plan folder slice))
+    → HoldsFront (F.Tabled format) told Front spec moment q spans (table_of format)
+front told Front spec moment q format plan slice spans listed planned text =
+    let Of : List Span → Type 0 = λ s. Told told (λ folder. Kept format s folder → Front (text_of spec format plan folder s)) in
     record { plan = plan; is_planned = planned; front = subst Of listed text }
 
 pub parse_error : (told : Option Folder) (spec : Spec) (moment : ℤ) (q : model.Query) (format : TableFormat) (plan : Planned) (slice spans : List Span) (most : Option ℕ) (line : BadLine)

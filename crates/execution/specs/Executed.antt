@@ -1,7 +1,7 @@
 -- What a query writes over spans of logs.
 use Rattle.std.specs.Prelude.{◌≡◌, ◌⊎◌, ℕ, ℤ, true, false, List, length, pos, ◌≤ℤ◌, ◌<ℤ◌, Option, Ok, Err, ⊤}
 use Rattle.grammar.specs.Trees as model
-use Rattle.lp_model.specs.Outside.{Folder, Told, Gains, GainsSome}
+use Rattle.lp_model.specs.Outside.{Folder, Told}
 use Rattle.lp_time.specs.declared.piece.Piece.{Piece}
 use Rattle.lp_values.specs.declared.value.Value.{Value}
 use Rattle.command_words.specs.declared.spec.Spec.{Spec}
@@ -53,33 +53,33 @@ rows_in (F.Sampled options limit) pattern plan folder spans = rows_with pattern 
 abbrev pub text_in : Spec → LogFormat → Planned → Folder → List Span → List ℕ
 text_in spec format plan folder spans = csv_of spec.headers true plan.names (rows_in format spec.ts_format plan folder spans)
 
--- an output gains the CSV text of a plan's rows; so many records, rows and bad lines were met, of these no more than there may be
-pub record Writes (before now : Option (List ℕ)) (spec : Spec) (format : LogFormat) (plan : Planned) (spans : List Span) (counts : Counts) (folder : Folder) : Type 0 where
-  pub text : Gains before now (text_in spec format plan folder spans)
+-- an output has gained the CSV text of a plan's rows, in a given sense; so many records, rows and bad lines were met, of these no more than there may be
+pub record Writes (Has : List ℕ → Type 0) (spec : Spec) (format : LogFormat) (plan : Planned) (spans : List Span) (counts : Counts) (folder : Folder) : Type 0 where
+  pub text : Has (text_in spec format plan folder spans)
   pub processed : counts.processed ≡ length (spans_found (lines_in format) false folder spans)
   pub output : counts.output ≡ length (rows_in format spec.ts_format plan folder spans)
   pub bad : counts.bad ≡ length (spans_bad (lines_in format) false folder spans)
   pub within : IsWithin spec.errors counts.bad
 
 -- where each span begins as its log was kept, the output gains the text of the rows of the query's plan over a table
-pub record WritesAll (format : LogFormat) (told : Option Folder) (before now : Option (List ℕ)) (spec : Spec) (moment : ℤ) (q : model.Query) (spans : List Span) (counts : Counts) (table : TableColumns) : Type 0 where
+pub record WritesAll (format : LogFormat) (told : Option Folder) (Has : List ℕ → Type 0) (spec : Spec) (moment : ℤ) (q : model.Query) (spans : List Span) (counts : Counts) (table : TableColumns) : Type 0 where
   pub plan : Planned
   pub is_planned : plan_of table moment q ≡ Ok plan
-  pub written : Told told (λ folder. AreKept (lines_in format) false spans folder → Writes before now spec format plan spans counts folder)
+  pub written : Told told (λ folder. AreKept (lines_in format) false spans folder → Writes Has spec format plan spans counts folder)
 
 -- the output gains the text of the query's rows
-abbrev pub IsExecuted : LogFormat → Option Folder → Option (List ℕ) → Option (List ℕ) → Spec → ℤ → model.Query → List Span → Counts → Type 0
-IsExecuted format told before now spec moment q spans counts = OnTable format spec.ts_format told spans (WritesAll format told before now spec moment q spans counts)
+abbrev pub IsExecuted : LogFormat → Option Folder → (List ℕ → Type 0) → Spec → ℤ → model.Query → List Span → Counts → Type 0
+IsExecuted format told Has spec moment q spans counts = OnTable format spec.ts_format told spans (WritesAll format told Has spec moment q spans counts)
 
 -- the output holds the front of that text
-pub record HoldsFront (format : LogFormat) (told : Option Folder) (before now : Option (List ℕ)) (spec : Spec) (moment : ℤ) (q : model.Query) (spans : List Span) (table : TableColumns) : Type 0 where
+pub record HoldsFront (format : LogFormat) (told : Option Folder) (Front : List ℕ → Type 0) (spec : Spec) (moment : ℤ) (q : model.Query) (spans : List Span) (table : TableColumns) : Type 0 where
   pub plan : Planned
   pub is_planned : plan_of table moment q ≡ Ok plan
-  pub front : Told told (λ folder. AreKept (lines_in format) false spans folder → GainsSome before now (text_in spec format plan folder spans))
+  pub front : Told told (λ folder. AreKept (lines_in format) false spans folder → Front (text_in spec format plan folder spans))
 
 -- a run stopped before it wrote anything, or within the text
-abbrev pub IsStopped : LogFormat → Option Folder → Option (List ℕ) → Option (List ℕ) → Spec → ℤ → model.Query → List Span → Type 0
-IsStopped format told before now spec moment q spans = OnTable format spec.ts_format told spans (λ table. (now ≡ before) ⊎ HoldsFront format told before now spec moment q spans table)
+abbrev pub IsStopped : LogFormat → Option Folder → Type 0 → (List ℕ → Type 0) → Spec → ℤ → model.Query → List Span → Type 0
+IsStopped format told Nothing Front spec moment q spans = OnTable format spec.ts_format told spans (λ table. Nothing ⊎ HoldsFront format told Front spec moment q spans table)
 
 -- over a table that is known before a log is read, the query has a plan
 abbrev pub IsTyped : LogFormat → ℤ → model.Query → Type 0
@@ -96,5 +96,5 @@ abbrev pub IsUnplanned : LogFormat → Option Folder → Spec → ℤ → model.
 IsUnplanned format told spec moment q spans fault = OnTable format spec.ts_format told spans (λ table. plan_of table moment q ≡ Err fault)
 
 -- nothing is written
-abbrev pub IsUntouched : LogFormat → Option Folder → Option (List ℕ) → Option (List ℕ) → Spec → List Span → Type 0
-IsUntouched format told before now spec spans = OnTable format spec.ts_format told spans (λ table. now ≡ before)
+abbrev pub IsUntouched : LogFormat → Option Folder → Type 0 → Spec → List Span → Type 0
+IsUntouched format told Nothing spec spans = OnTable format spec.ts_format told spans (λ table. Nothing)

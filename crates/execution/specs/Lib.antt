@@ -2,3 +2,4 @@ pub mod Formats
 pub mod Built
 pub mod Executed
 pub mod Faults
+pub mod Standard

@@ -3,11 +3,13 @@ ghost use Rattle.std.specs.Prelude.{◌≡◌, ◌≤◌, ◌+◌, true, length,
 ghost use Rattle.lp_model.specs.Outside.{Rose, OnlyGrow, Told, bytes_in};
 ghost use Rattle.command_words.specs.Table.{IsInRange};
 ghost use Rattle.log_reading.specs.Spans.{AllSpans, IsSpan, spans_size};
+ghost use Rattle.query_run.specs.Output.{kind_of, placed_at, GainsText, GainsFront};
 ghost use Rattle.query_tree.specs.Views.{query_of};
 ghost use Rattle.execution.specs.Built.{all_built};
 ghost use Rattle.execution.specs.Executed.{IsMoment, IsExecuted, IsParseError, IsStopped, IsUnplanned, IsUntouched};
 ghost use Rattle.execution.specs.Faults.{IfParse, IfPlan};
 ghost use Rattle.execution.specs.Formats.{log_format};
+ghost use Rattle.execution.specs.Standard.{IsStandard, standard_at};
 
 use crate::formats::{LogFormat, log_format};
 use crate::sampled::execute_sampled;
@@ -22,7 +24,9 @@ use sampled_run::Moment;
 use std::alloc::Global;
 
 // The output of a run: the first of its stage, with the name that no log has.
-fn standard_output() -> Target {
+fn standard_output() -> Target
+    ensures { IsStandard result }
+{
     match Name::read("STDOUT") {
         Ok(name) => Target::new(0, name, 0),
         Err(_) => unreachable!(),
@@ -48,15 +52,17 @@ pub fn execute<L: Logs, I: Source, G: Stage>(
     requires spans { AllSpans spans.now IsSpan }
     requires there { Told (L.folder logs.old) (λ folder. AllSpans spans.now (λ span. span.listed ≤ length (bytes_in folder span.name))) }
     ensures grows { OnlyGrow (L.folder logs.old) (L.folder logs.new) }
-    ensures ran { IfOk result (λ ran. IsExecuted (log_format spec.now (query_of query.now)) (L.folder logs.new) (G.state stage.old).written (G.state stage.new).written spec.now moment (query_of query.now) spans.now ran.counts) }
-    ensures stopped { OnErr result (IsStopped (log_format spec.now (query_of query.now)) (L.folder logs.new) (G.state stage.old).written (G.state stage.new).written spec.now moment (query_of query.now) spans.now) }
+    ensures ran { IfOk result (λ ran. IsExecuted (log_format spec.now (query_of query.now)) (L.folder logs.new) (λ text. GainsText (standard_at (kind_of G.state G.ended) stage.old) (placed_at (kind_of G.state G.ended) 0 ran.output stage.new) text) spec.now moment (query_of query.now) spans.now ran.counts) }
+    ensures ended { IfOk result (λ ran. G.ended stage.new ran.output.name ran.output.base ran.output.mark) }
+    ensures stopped { OnErr result (IsStopped (log_format spec.now (query_of query.now)) (L.folder logs.new) (stage.new ≡ stage.old) (λ text. GainsFront (standard_at (kind_of G.state G.ended) stage.old) stage.new text) spec.now moment (query_of query.now) spans.now) }
     ensures plan { IfPlan result (IsUnplanned (log_format spec.now (query_of query.now)) (L.folder logs.new) spec.now moment (query_of query.now) spans.now) }
-    ensures before { IfPlan result (λ fault. IsUntouched (log_format spec.now (query_of query.now)) (L.folder logs.new) (G.state stage.old).written (G.state stage.new).written spec.now spans.now) }
+    ensures before { IfPlan result (λ fault. IsUntouched (log_format spec.now (query_of query.now)) (L.folder logs.new) (stage.new ≡ stage.old) spec.now spans.now) }
     ensures parse { IfParse result (IsParseError (log_format spec.now (query_of query.now)) (L.folder logs.new) spec.now moment (query_of query.now) spans.now) }
     ensures input { input.new ≡ input.old }
     ensures given { L.given logs.new ≤ L.given logs.old + spans_size spans.now }
     ensures later_logs { L.faults logs.old ≤ L.faults logs.new }
     ensures logs { IsErrOf result RunFault.LogsFault → Rose (L.faults logs.old) (L.faults logs.new) }
+    ensures goes { G.goes stage.old stage.new }
     ensures later { G.faults stage.old ≤ G.faults stage.new }
     ensures stage { IsErrOf result RunFault.StageFault → Rose (G.faults stage.old) (G.faults stage.new) }
 {

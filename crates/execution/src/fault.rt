@@ -1,12 +1,14 @@
 // How a run of a query ends.
 use lp_outside::Name;
-use query_run::Counts;
+use query_run::{Counts, Output};
 use query_types::TypeFault;
 
 /// What a run did.
 #[derive(Drop)]
 pub struct Ran {
     pub counts: Counts,
+    /// The output that has the text.
+    pub output: Output,
 }
 
 /// Why a run of a query stops. The fault of a plan is never want of memory.

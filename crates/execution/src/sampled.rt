@@ -3,6 +3,7 @@ ghost use Rattle.std.specs.Prelude.{◌≡◌, ◌≤◌, ◌+◌, true, length,
 ghost use Rattle.lp_model.specs.Outside.{Rose, OnlyGrow, Told, bytes_in};
 ghost use Rattle.delimited_input.specs.Separators.{IsRefused};
 ghost use Rattle.log_reading.specs.Spans.{AllSpans, IsSpan, spans_size};
+ghost use Rattle.query_run.specs.Output.{kind_of, placed_at, reached, GainsText, GainsFront};
 ghost use Rattle.query_tree.specs.Views.{query_of};
 ghost use Rattle.query_types.specs.Built.{is_built};
 ghost use Rattle.execution.specs.Executed.{IsExecuted, IsParseError, IsStopped, IsUnplanned, IsUntouched};
@@ -39,14 +40,16 @@ pub(crate) fn execute_sampled<L: Logs, G: Stage>(
     requires spans { AllSpans spans.now IsSpan }
     requires there { Told (L.folder logs.old) (λ folder. AllSpans spans.now (λ span. span.listed ≤ length (bytes_in folder span.name))) }
     ensures grows { OnlyGrow (L.folder logs.old) (L.folder logs.new) }
-    ensures ran { IfOk result (λ ran. IsExecuted (F.Sampled options limit) (L.folder logs.new) (G.state stage.old).written (G.state stage.new).written spec.now moment.seconds (query_of query.now) spans.now ran.counts) }
-    ensures stopped { OnErr result (IsStopped (F.Sampled options limit) (L.folder logs.new) (G.state stage.old).written (G.state stage.new).written spec.now moment.seconds (query_of query.now) spans.now) }
+    ensures ran { IfOk result (λ ran. IsExecuted (F.Sampled options limit) (L.folder logs.new) (λ text. GainsText (reached (kind_of G.state G.ended) target stage.old) (placed_at (kind_of G.state G.ended) target.output ran.output stage.new) text) spec.now moment.seconds (query_of query.now) spans.now ran.counts) }
+    ensures ended { IfOk result (λ ran. G.ended stage.new ran.output.name ran.output.base ran.output.mark) }
+    ensures stopped { OnErr result (IsStopped (F.Sampled options limit) (L.folder logs.new) (stage.new ≡ stage.old) (λ text. GainsFront (reached (kind_of G.state G.ended) target stage.old) stage.new text) spec.now moment.seconds (query_of query.now) spans.now) }
     ensures plan { IfPlan result (IsUnplanned (F.Sampled options limit) (L.folder logs.new) spec.now moment.seconds (query_of query.now) spans.now) }
-    ensures before { IfPlan result (λ fault. IsUntouched (F.Sampled options limit) (L.folder logs.new) (G.state stage.old).written (G.state stage.new).written spec.now spans.now) }
+    ensures before { IfPlan result (λ fault. IsUntouched (F.Sampled options limit) (L.folder logs.new) (stage.new ≡ stage.old) spec.now spans.now) }
     ensures parse { IfParse result (IsParseError (F.Sampled options limit) (L.folder logs.new) spec.now moment.seconds (query_of query.now) spans.now) }
     ensures given { L.given logs.new ≤ L.given logs.old + spans_size spans.now }
     ensures later_logs { L.faults logs.old ≤ L.faults logs.new }
     ensures logs { IsErrOf result RunFault.LogsFault → Rose (L.faults logs.old) (L.faults logs.new) }
+    ensures goes { G.goes stage.old stage.new }
     ensures later { G.faults stage.old ≤ G.faults stage.new }
     ensures stage { IsErrOf result RunFault.StageFault → Rose (G.faults stage.old) (G.faults stage.new) }
 {
@@ -64,7 +67,10 @@ pub(crate) fn execute_sampled<L: Logs, G: Stage>(
         target,
         stage,
     ) {
-        Ok(counts) => Ok(Ran { counts }),
+        Ok(run) => Ok(Ran {
+            counts: run.counts,
+            output: run.output,
+        }),
         Err(SampleFault::Plan(fault)) => Err(RunFault::Plan(fault)),
         Err(SampleFault::Bad { log, row }) => Err(RunFault::ParseErrors { log, row }),
         Err(SampleFault::Logs) => Err(RunFault::LogsFault),

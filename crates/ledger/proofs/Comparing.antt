@@ -1,20 +1,27 @@
 -- Outputs that stand in a payload are read again, for their names.
-use Rattle.std.proofs.Common.{◌≡◌, ◌≢◌, ℕ, ◌+◌, ◌<◌, ◌^◌, List, [], ◌∷◌, ◌++◌, length, refl, sym, ◌∙◌, ap, subst, append_assoc, arith, Result, Ok, Err, Bool, true, false}
+use Rattle.std.proofs.Common.{◌≡◌, ◌≢◌, ℕ, ◌+◌, ◌<◌, ◌^◌, List, [], ◌∷◌, ◌++◌, ◌*◌, ◌%◌, ◌≤◌, length, take, drop, get_or, map, set, suc, refl, sym, ◌∙◌, ap, subst, append_assoc, arith, Result, Ok, Err, Bool, true, false}
+use Rattle.std.specs.Prelude.{◌==◌, ◌||◌}
+use Rattle.std.specs.List.{list_any}
+use Rattle.std.proofs.Math.Seq.{take-suc-set}
+use Rattle.std.proofs.lemmas.Bool.{false≢true}
+use Rattle.std.proofs.lemmas.Bool.Decides.{nat_tests}
 use Rattle.std.specs.Result.{MatchResult}
 use Rattle.std.specs.Str.{bytes_eq}
-use Rattle.std.proofs.lemmas.List.{length-append, append-nil}
+use Rattle.std.proofs.lemmas.List.{length-append, append-nil, map-append, drop_more, drop_all}
 use Rattle.std.proofs.lemmas.Slice.Eq.{bytes_eq-Decides}
 use Rattle.std.proofs.lemmas.Bool.Decides.{not_from_Decides}
 use Rattle.ledger_model.specs.Layouts.{Layout, AllFit, spelled}
 use Rattle.ledger_model.specs.Numbers.{u64_bytes, text_bytes}
 use Rattle.ledger_model.specs.Entries.{Output}
-use Rattle.ledger_model.specs.Grammar.{IsName, IsNew, output_layout}
+use Rattle.ledger_model.specs.Grammar.{IsName, IsNew, name_field, output_layout}
+use Rattle.ledger_model.proofs.Fields.{text_law}
 use Rattle.ledger_model.proofs.Laws.{IsLawful}
 use Rattle.ledger.specs.declared.refused.LedgerRefused.{LedgerRefused}
 use Rattle.ledger.specs.declared.refused.LedgerRefused.TheVariants.{DiskFault, LedgerFault}
-use Rattle.ledger.specs.Reader.{RefusedAt, Reads, left_of}
+use Rattle.ledger.specs.Reader.{RefusedAt, Reads, IsRead, left_of}
 use Rattle.ledger.specs.Counted.{SomeItems}
-use Rattle.ledger.specs.Placing.{IsOfDisk, Compares}
+use Rattle.ledger.specs.Placing.{IsOfDisk, hash_on, name_hash, HasHashes, HashedItems, ComparesSeen}
+use Rattle.ledger.proofs.Counting.{items_more}
 
 -- a value that stands in front is the one that is read
 pub gives_front : {A : Type 0} (layout : Layout A) → IsLawful layout → (file : List ℕ) (to a b : ℕ) (value : A) (more : List ℕ) → left_of file to a ≡ layout.spell value ++ more → layout.Fits value → (r : Result A LedgerRefused) → Reads layout file to a b r → MatchResult r (λ u. (u ≡ value) × (left_of file to b ≡ more)) IsOfDisk
@@ -54,6 +61,9 @@ new_snoc (y ∷ past) x name new differs = (new.0, new_snoc past x name new.1 di
 new_middle : (past rest : List Output) (x : Output) (name : List ℕ) → x.name ≡ name → IsNew (past ++ (x ∷ rest)) name → ⊥
 new_middle [] rest x name same new = new.0 same
 new_middle (y ∷ past) rest x name same new = new_middle past rest x name same new.1
+
+nested_front : (a b c d e : List ℕ) → (a ++ (b ++ (c ++ d))) ++ e ≡ a ++ (b ++ (c ++ (d ++ e)))
+nested_front a b c d e = simp append_assoc
 
 nested : (a b c d e f : List ℕ) → ((a ++ (b ++ (c ++ d))) ++ e) ++ f ≡ a ++ (b ++ (c ++ (d ++ (e ++ f))))
 nested a b c d e f = simp append_assoc
@@ -102,5 +112,50 @@ pub of_disk : {A : Type 0} (layout : Layout A) (file : List ℕ) (to from : ℕ)
 of_disk layout file to from DiskFault is = tt
 of_disk layout file to from (LedgerFault part at) is = absurd is
 
-pub compares_at : (file : List ℕ) (to other first count : ℕ) (name : List ℕ) (r : Result Bool LedgerRefused) → other ≡ to → Compares file other first count name r → Compares file to first count name r
-compares_at file to other first count name r same c = subst (λ (n : ℕ). Compares file n first count name r) same c
+pub compares_at : (file : List ℕ) (to other first count : ℕ) (seen name : List ℕ) (r : Result Bool LedgerRefused) → other ≡ to → ComparesSeen seen file other first count name r → ComparesSeen seen file to first count name r
+compares_at file to other first count seen name r same c = subst (λ (n : ℕ). ComparesSeen seen file n first count name r) same c
+
+-- the name that was read is that of the output that stands there
+pub front_name : (file : List ℕ) (to from mid at : ℕ) (before : List Output) (output : Output) (name : List ℕ) → IsRead name_field file to from mid name → IsRead (output_layout before) file to from at output → name ≡ output.name
+front_name file to from mid at before output name read whole =
+    (gives_front name_field (text_law IsName) file to from mid output.name (u64_bytes output.base ++ (u64_bytes output.size ++ (u64_bytes output.last ++ left_of file to at)))
+    (whole.stood.split ∙ nested_front (text_bytes output.name) (u64_bytes output.base) (u64_bytes output.size) (u64_bytes output.last) (left_of file to at)) (whole.fits.0.0, whole.fits.0.1.0) (Ok name) read).0
+
+-- a name whose hash no output's name has is new
+pub new_by_hash : (outputs : List Output) (seen name : List ℕ) → seen ≡ map (λ (o : Output). name_hash o.name) outputs → list_any (λ h. h == name_hash name) seen ≡ false → IsNew outputs name
+new_by_hash [] seen name are none = tt
+new_by_hash (o ∷ outputs) seen name are none =
+    let any : (name_hash o.name == name_hash name) || list_any (λ h. h == name_hash name) (map (λ (p : Output). name_hash p.name) outputs) ≡ false = subst (λ (l : List ℕ). list_any (λ h. h == name_hash name) l ≡ false) are none in (
+      λ same. false≢true (sym (or_false _ _ any).0 ∙ equal_self _ _ (ap name_hash same)),
+      new_by_hash outputs (map (λ (p : Output). name_hash p.name) outputs) name refl (or_false _ _ any).1,
+    )
+  where
+    or_false : (a b : Bool) → a || b ≡ false → (a ≡ false) × (b ≡ false)
+    or_false false b e = (refl, e)
+    or_false true b e = absurd (false≢true (sym e))
+
+    equal_self : (m n : ℕ) → m ≡ n → (m == n) ≡ true
+    equal_self m n e = grind (arith, nat_tests)
+
+-- one output more
+hashes_more : (outputs : List Output) (output : Output) (seen : List ℕ) (i h : ℕ) → i < length seen → HasHashes (take i seen) outputs → h ≡ name_hash output.name → HasHashes (take (i + 1) (set seen i h)) (outputs ++ output ∷ [])
+hashes_more outputs output seen i h lt has is =
+    let next : i + 1 ≡ suc i = omega arith in
+    ap (λ (n : ℕ). take n (set seen i h)) next ∙ take-suc-set seen i h lt ∙ (λ j. has j ++ (is j ∷ [])) ∙ sym (map-append (λ (o : Output). name_hash o.name) outputs (output ∷ []))
+
+pub hashed_none : (file : List ℕ) (to from at : ℕ) → from ≡ at → HashedItems file to from at 0 []
+hashed_none file to from at same = (record { items = []; count_is = refl; fit = tt; stood = record { split = ap (λ (n : ℕ). left_of file to n) same; moved = omega (arith, same) } }, refl)
+
+pub hashed_more : (file : List ℕ) (to from mid at i h : ℕ) (seen : List ℕ) (some : HashedItems file to from mid i (take i seen)) (output : Output) → IsRead (output_layout some.0.items) file to mid at output → i < length seen → h ≡ name_hash output.name
+    → HashedItems file to from at (i + 1) (take (i + 1) (set seen i h))
+unfolding items_more
+hashed_more file to from mid at i h seen some output read lt is = (items_more output_layout file to from mid at i some.0 output read, hashes_more some.0.items output seen i h lt some.1 is)
+
+-- one byte of a hash more
+pub hash_step : (bytes : List ℕ) (i h : ℕ) → i < length bytes → hash_on h (drop i bytes) ≡ hash_on (((h * 1_099_511_628_211) % 2 ^ 64 + get_or bytes i 0) % 2 ^ 64) (drop (i + 1) bytes)
+unfolding hash_on
+hash_step bytes i h lt = rw (drop_more bytes i 0 lt) refl
+
+pub hash_end : (bytes : List ℕ) (i h : ℕ) → length bytes ≤ i → hash_on h (drop i bytes) ≡ h
+unfolding hash_on
+hash_end bytes i h le = rw (drop_all i bytes le) refl

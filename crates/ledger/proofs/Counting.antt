@@ -8,11 +8,11 @@ use Rattle.ledger.specs.Reader.{IsRead, SomeRead, RefusedAt, Checks, left_of}
 use Rattle.ledger.specs.Counted.{SomeItems}
 use Rattle.ledger.proofs.Moving.{stood_then, stood_as}
 
-fit_snoc : {A : Type 0} (item : List A → Layout A) (before xs : List A) (x : A) → AllFit item before xs → (item (before ++ xs)).Fits x → AllFit item before (xs ++ x ∷ [])
+pub fit_snoc : {A : Type 0} (item : List A → Layout A) (before xs : List A) (x : A) → AllFit item before xs → (item (before ++ xs)).Fits x → AllFit item before (xs ++ x ∷ [])
 fit_snoc {A} item before [] x f fits = (subst (λ (b : List A). (item b).Fits x) (append-nil before) fits, tt)
 fit_snoc {A} item before (y ∷ ys) x f fits = (f.0, fit_snoc item (before ++ y ∷ []) ys x f.1 (subst (λ (b : List A). (item b).Fits x) (sym (append_assoc before (y ∷ []) ys)) fits))
 
-spelled_snoc : {A : Type 0} (item : List A → Layout A) (before xs : List A) (x : A) → spelled item before (xs ++ x ∷ []) ≡ spelled item before xs ++ (item (before ++ xs)).spell x
+pub spelled_snoc : {A : Type 0} (item : List A → Layout A) (before xs : List A) (x : A) → spelled item before (xs ++ x ∷ []) ≡ spelled item before xs ++ (item (before ++ xs)).spell x
 spelled_snoc {A} item before [] x = append-nil ((item before).spell x) ∙ ap (λ (b : List A). (item b).spell x) (sym (append-nil before))
 spelled_snoc {A} item before (y ∷ ys) x =
     ap (λ (t : List ℕ). (item before).spell y ++ t) (spelled_snoc item (before ++ y ∷ []) ys x)
@@ -23,7 +23,7 @@ pub items_none : {A : Type 0} (item : List A → Layout A) (file : List ℕ) (to
 items_none item file to at = record { items = []; count_is = refl; fit = tt; stood = record { split = refl; moved = omega arith } }
 
 -- one item more
-pub items_more : {A : Type 0} (item : List A → Layout A) (file : List ℕ) (to from mid at count : ℕ) (some : SomeItems item file to from mid count) (value : A) → IsRead (item some.items) file to mid at value → SomeItems item file to from at (count + 1)
+unfoldable pub items_more : {A : Type 0} (item : List A → Layout A) (file : List ℕ) (to from mid at count : ℕ) (some : SomeItems item file to from mid count) (value : A) → IsRead (item some.items) file to mid at value → SomeItems item file to from at (count + 1)
 items_more item file to from mid at count some value read = record {
   items = some.items ++ value ∷ [];
   count_is = omega (arith, length-append some.items (value ∷ []), some.count_is);

@@ -1,7 +1,7 @@
 -- What a reader of a part of a ledger has before it.
 use Rattle.std.specs.Prelude.{◌≡◌, ◌⊎◌, ℕ, ◌+◌, ◌-◌, ◌<◌, ◌≤◌, ◌^◌, List, ◌++◌, length, take, drop}
 use Rattle.std.specs.Bool.{⊤}
-use Rattle.std.specs.Prelude.{Result, MatchResult, IfErr}
+use Rattle.std.specs.Prelude.{Result, MatchResult, IfErr, OnOk}
 use Rattle.lp_model.specs.Outside.{Rose}
 use Rattle.disk_model.specs.Disk.{DiskState, Works, Shows, Nothing}
 use Rattle.ledger_model.specs.Layouts.{Layout, field}
@@ -87,9 +87,10 @@ abbrev pub RoseFor : ℕ → ℕ → LedgerRefused → Type 0
 RoseFor before now DiskFault = Rose before now
 RoseFor before now (LedgerFault part at) = ⊤
 
--- a count of faults never falls, and a call is refused for the disk only where it rose
+-- a count of faults never falls, stays where the call is done, and a call is refused for the disk only where it rose
 pub record HasReason {T : Type 0} (before now : ℕ) (result : Result T LedgerRefused) : Type 0 where
   pub later : before ≤ now
+  pub same : OnOk result (now ≡ before)
   pub failed : IfErr result (RoseFor before now)
 
 -- a call that reads a value of a layout, and one that only looks at one

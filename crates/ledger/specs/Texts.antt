@@ -1,5 +1,5 @@
 -- Texts that are read whole.
-use Rattle.std.specs.Prelude.{◌≡◌, ℕ, ◌≤◌, List, ◌++◌, length, Result, MatchResult, IfErr}
+use Rattle.std.specs.Prelude.{◌≡◌, ℕ, ◌≤◌, List, ◌++◌, length, Result, MatchResult, IfErr, OnOk}
 use Rattle.std.specs.Bool.{⊤}
 use Rattle.lp_model.specs.Outside.{Rose}
 use Rattle.ledger_model.specs.Layouts.{Layout}
@@ -48,8 +48,10 @@ TextRoseFor before now Text.DiskFault = Rose before now
 TextRoseFor before now (Text.LedgerFault part at) = ⊤
 TextRoseFor before now Text.Memory = ⊤
 
+-- a count of faults never falls, stays where the call is done, and a call is refused for the disk only where it rose
 pub record HasTextReason {T : Type 0} (before now : ℕ) (result : Result T TextRefused) : Type 0 where
   pub later : before ≤ now
+  pub same : OnOk result (now ≡ before)
   pub failed : IfErr result (TextRoseFor before now)
 
 -- the refusal is none of the bytes

@@ -1,11 +1,12 @@
 // Looks at the outputs of a payload, whose names differ.
 #![tactic(auto, using(crate::proofs::Resting::rests_then))]
 
-ghost use Rattle.std.specs.Prelude.{◌≡◌, ℕ, ◌+◌, ◌<◌, ◌≤◌, ◌^◌, List, MatchBool};
-ghost use Rattle.ledger.specs.Reader.{Rests, Looks, HasReason, Holds, CanRead, Checks};
+ghost use Rattle.std.specs.Prelude.{◌≡◌, ℕ, ◌+◌, ◌<◌, ◌≤◌, ◌^◌, List, length, IfOk, MatchBool};
+ghost use Rattle.ledger.specs.Reader.{Rests, Looks, HasReason, Holds, CanRead, Checks, IsRead};
 ghost use Rattle.ledger.specs.Counted.{SomeItems};
-ghost use Rattle.ledger.specs.Placing.{Compares};
+ghost use Rattle.ledger.specs.Placing.{name_hash, HasHashes, Compares, ComparesSeen};
 ghost use Rattle.ledger_model.specs.Grammar.{outputs_layout, output_layout, ending_layout};
+ghost use Rattle.ledger_model.specs.Entries.{Output};
 ghost use Rattle.ledger_model.specs.Layouts.{listed};
 
 use crate::checking::check_counts;
@@ -14,6 +15,23 @@ use crate::{EntryReader, LedgerRefused};
 use lp_outside::{Disk, Name};
 
 const LIMIT: u64 = 1 << 63;
+
+/// The most outputs that an entry has.
+const MOST: usize = 10_000;
+
+const FACTOR: u64 = 1_099_511_628_211;
+
+/// A number that two names share only by rare chance, if they differ.
+fn hash_of(name: &Name) -> u64
+    ensures { result ≡ name_hash name.now }
+{
+    let bytes = name.as_str().as_bytes();
+    let mut hash: u64 = 0;
+    for byte in bytes {
+        hash = hash.wrapping_mul(FACTOR).wrapping_add(u64::from(*byte));
+    }
+    hash
+}
 
 /// Whether a text that begins at a place of a file ends at 2^63 or behind it.
 fn ends_high(base: u64, size: u64) -> bool
@@ -48,22 +66,48 @@ fn is_taken<D: Disk>(
     Ok(false)
 }
 
-/// An output behind others, of which the first stands at a place.
+/// Whether a name of this hash is that of one of the outputs that stand at a place, whose names have these hashes. They are
+/// read again only where one of them has the same.
+fn is_known<D: Disk>(
+    disk: &mut D,
+    ledger: &Name,
+    first: u64,
+    to: u64,
+    count: u64,
+    name: &Name,
+    hash: u64,
+    seen: &[u64],
+) -> Result<bool, LedgerRefused>
+    requires { hash ≡ name_hash name.now }
+    ensures compares { (file : List ℕ) → Holds (D.state disk.old) ledger.now file → ComparesSeen seen.now file to first count name.now result }
+    ensures rests { Rests (D.state disk.old) (D.state disk.new) }
+    ensures reason { HasReason (D.faults disk.old) (D.faults disk.new) result }
+{
+    if !seen.contains(&hash) {
+        return Ok(false);
+    }
+    is_taken(disk, ledger, first, to, count, name)
+}
+
+/// An output behind others, of which the first stands at a place and whose names have these hashes; gives its name's hash.
 fn output<D: Disk>(
     disk: &mut D,
     ledger: &Name,
     reader: &mut EntryReader,
     first: u64,
     count: u64,
-) -> Result<(), LedgerRefused>
+    seen: &[u64],
+) -> Result<u64, LedgerRefused>
     ensures looks { (file : List ℕ) (to : ℕ) → CanRead (D.state disk.old) ledger.now file to reader.old → CanRead (D.state disk.new) ledger.now file to reader.new
-        × ((some : SomeItems output_layout file to first reader.old.at count) → Checks (output_layout some.items) file to reader.old.at reader.new.at result) }
+        × ((some : SomeItems output_layout file to first reader.old.at count) → HasHashes seen.now some.items → Checks (output_layout some.items) file to reader.old.at reader.new.at result) }
+    ensures hash { IfOk result (λ hash. (file : List ℕ) (to : ℕ) → CanRead (D.state disk.old) ledger.now file to reader.old → (before : List Output) (output : Output) → IsRead (output_layout before) file to reader.old.at reader.new.at output → hash ≡ name_hash output.name) }
     ensures rests { Rests (D.state disk.old) (D.state disk.new) }
     ensures reason { HasReason (D.faults disk.old) (D.faults disk.new) result }
 {
     let start = reader.place();
     let name = reader.take_name(disk, ledger)?;
-    let taken = is_taken(disk, ledger, first, reader.end(), count, &name)?;
+    let hash = hash_of(&name);
+    let taken = is_known(disk, ledger, first, reader.end(), count, &name, hash, seen)?;
     if taken {
         return Err(damaged(start));
     }
@@ -74,7 +118,7 @@ fn output<D: Disk>(
         return Err(damaged(place));
     }
     reader.number(disk, ledger)?;
-    Ok(())
+    Ok(hash)
 }
 
 fn output_items<D: Disk>(
@@ -83,13 +127,17 @@ fn output_items<D: Disk>(
     reader: &mut EntryReader,
     count: u64,
 ) -> Result<(), LedgerRefused>
+    requires { count ≤ 10_000 }
     ensures looks { Looks (listed output_layout count) (D.state disk.old) (D.state disk.new) ledger.now reader.old reader.new result }
     ensures rests { Rests (D.state disk.old) (D.state disk.new) }
     ensures reason { HasReason (D.faults disk.old) (D.faults disk.new) result }
 {
     let first = reader.place();
+    let mut seen = [0; MOST];
     for index in 0..count {
-        output(disk, ledger, reader, first, index)?;
+        let place = index as usize;
+        let hash = output(disk, ledger, reader, first, index, &seen[..place])?;
+        seen[place] = hash;
     }
     Ok(())
 }

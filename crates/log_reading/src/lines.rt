@@ -29,6 +29,7 @@ fn take_rows<T: Taker<O>, O>(
     ensures takes { OnOk result (T.takes taker.old out.old (found_of identity.now (records_read number columns.now (rows (map (slots_of line.now) list.now)))) taker.new out.new) }
     ensures stops { OnErr result (T.stops taker.old out.old (found_of identity.now (records_read number columns.now (rows (map (slots_of line.now) list.now)))) taker.new out.new) }
     ensures count { OnOk result (T.count taker.new ≡ T.count taker.old + length list.now) }
+    ensures goes { T.goes out.old out.new }
     ensures later { T.faults out.old ≤ T.faults out.new }
     ensures failed { IsErrOf result TakeFault.Failed → Rose (T.faults out.old) (T.faults out.new) }
     ensures stopped { IsErrOf result TakeFault.Stopped → T.stopped taker.new }
@@ -82,6 +83,7 @@ fn take_text<R: LineReader, T: Taker<O>, O>(
     ensures bad { OnOk result (page.new.bad ≤ page.old.bad + 1) }
     ensures count { OnOk result (T.count page.new.taker ≤ T.count page.old.taker + length page.old.splitter.line + 1) }
     ensures splitter { page.new.splitter ≡ page.old.splitter }
+    ensures goes { T.goes out.old out.new }
     ensures later { T.faults out.old ≤ T.faults out.new }
     ensures failed { IsErrOf result LineFault.Failed → Rose (T.faults out.old) (T.faults out.new) }
     ensures stopped { IsErrOf result LineFault.Stopped → T.stopped page.new.taker }
@@ -169,6 +171,7 @@ pub fn take_next<R: LineReader, T: Taker<O>, O>(
     ensures end { OnOk result (page.new.splitter.place + length page.new.splitter.left ≡ page.old.splitter.place + length page.old.splitter.left) }
     ensures shorter { IfOk result (λ more. IsTrue more → length page.new.splitter.left < length page.old.splitter.left) }
     ensures last { IfOk result (λ more. IsFalse more → length page.new.splitter.left ≤ position_or_len is_lf page.new.splitter.left) }
+    ensures goes { T.goes out.old out.new }
     ensures later { T.faults out.old ≤ T.faults out.new }
     ensures failed { IsErrOf result LineFault.Failed → Rose (T.faults out.old) (T.faults out.new) }
     ensures stopped { IsErrOf result LineFault.Stopped → T.stopped page.new.taker }
@@ -208,6 +211,7 @@ pub fn take_rest<R: LineReader, T: Taker<O>, O>(
     ensures within { OnOk result (IsWithin page.new.most_bad page.new.bad) }
     ensures most { page.new.most_bad ≡ page.old.most_bad }
     ensures spends { OnOk result (Spends T.count page.old page.new 1) }
+    ensures goes { T.goes out.old out.new }
     ensures later { T.faults out.old ≤ T.faults out.new }
     ensures failed { IsErrOf result LineFault.Failed → Rose (T.faults out.old) (T.faults out.new) }
     ensures stopped { IsErrOf result LineFault.Stopped → T.stopped page.new.taker }

@@ -56,6 +56,7 @@ fn read_piece<R: LineReader, L: Logs, T: Taker<O>, O>(
     ensures given_at_most { OnErr result (L.given logs.new + (page.old.splitter.place + length page.old.splitter.left) ≤ L.given logs.old + span.now.listed) }
     ensures later_logs { L.faults logs.old ≤ L.faults logs.new }
     ensures logs { IsErrOf result RunFault.Logs → Rose (L.faults logs.old) (L.faults logs.new) }
+    ensures goes { T.goes out.old out.new }
     ensures later { T.faults out.old ≤ T.faults out.new }
     ensures output { IsErrOf result RunFault.Output → Rose (T.faults out.old) (T.faults out.new) }
     ensures stopped { IsErrOf result RunFault.Stopped → T.stopped page.new.taker }
@@ -105,6 +106,7 @@ fn read_log<R: LineReader, L: Logs, T: Taker<O>, O>(
     ensures given { L.given logs.new + page.old.splitter.place ≤ L.given logs.old + span.now.listed }
     ensures later_logs { L.faults logs.old ≤ L.faults logs.new }
     ensures logs { IsErrOf result RunFault.Logs → Rose (L.faults logs.old) (L.faults logs.new) }
+    ensures goes { T.goes out.old out.new }
     ensures later { T.faults out.old ≤ T.faults out.new }
     ensures output { IsErrOf result RunFault.Output → Rose (T.faults out.old) (T.faults out.new) }
     ensures stopped { IsErrOf result RunFault.Stopped → T.stopped page.new.taker }
@@ -150,6 +152,7 @@ fn finish_log<R: LineReader, T: Taker<O>, O>(
     ensures most { page.new.most_bad ≡ page.old.most_bad }
     ensures spends { OnOk result (Spends T.count page.old page.new 1) }
     ensures place { waits ≡ true → page.new.splitter ≡ page.old.splitter }
+    ensures goes { T.goes out.old out.new }
     ensures later { T.faults out.old ≤ T.faults out.new }
     ensures failed { IsErrOf result LineFault.Failed → Rose (T.faults out.old) (T.faults out.new) }
     ensures stopped { IsErrOf result LineFault.Stopped → T.stopped page.new.taker }
@@ -201,6 +204,7 @@ fn take_span<R: LineReader, L: Logs, T: Taker<O>, O>(
     ensures given { L.given logs.new + span.now.from ≤ L.given logs.old + span.now.listed }
     ensures later_logs { L.faults logs.old ≤ L.faults logs.new }
     ensures logs { IsErrOf result RunFault.Logs → Rose (L.faults logs.old) (L.faults logs.new) }
+    ensures goes { T.goes out.old out.new }
     ensures later { T.faults out.old ≤ T.faults out.new }
     ensures output { IsErrOf result RunFault.Output → Rose (T.faults out.old) (T.faults out.new) }
     ensures stopped { IsErrOf result RunFault.Stopped → T.stopped page.new.taker }
@@ -277,6 +281,7 @@ pub fn take_noted<R: LineReader, L: Logs, T: Taker<O>, O>(
     ensures given { L.given logs.new + span.now.from ≤ L.given logs.old + span.now.listed }
     ensures later_logs { L.faults logs.old ≤ L.faults logs.new }
     ensures logs { IsErrOf result RunFault.Logs → Rose (L.faults logs.old) (L.faults logs.new) }
+    ensures goes { T.goes out.old out.new }
     ensures later { T.faults out.old ≤ T.faults out.new }
     ensures output { IsErrOf result RunFault.Output → Rose (T.faults out.old) (T.faults out.new) }
     ensures stopped { IsErrOf result RunFault.Stopped → T.stopped page.new.taker }

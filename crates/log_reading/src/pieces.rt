@@ -30,6 +30,7 @@ pub fn take_lines<R: LineReader, T: Taker<O>, O>(
     ensures spends { OnOk result (Spends T.count page.old page.new 0) }
     ensures end { OnOk result (page.new.splitter.place + length page.new.splitter.left ≡ page.old.splitter.place + length page.old.splitter.left) }
     ensures last { OnOk result (length page.new.splitter.left ≤ position_or_len is_lf page.new.splitter.left) }
+    ensures goes { T.goes out.old out.new }
     ensures later { T.faults out.old ≤ T.faults out.new }
     ensures failed { IsErrOf result LineFault.Failed → Rose (T.faults out.old) (T.faults out.new) }
     ensures stopped { IsErrOf result LineFault.Stopped → T.stopped page.new.taker }
@@ -63,6 +64,7 @@ pub fn take_piece<R: LineReader, T: Taker<O>, O>(
     ensures spends { OnOk result (Spends T.count page.old page.new (length piece.now)) }
     ensures end { OnOk result (page.new.splitter.place + length page.new.splitter.left ≡ page.old.splitter.place + length page.old.splitter.left + length piece.now) }
     ensures last { OnOk result (length page.new.splitter.left ≤ position_or_len is_lf page.new.splitter.left) }
+    ensures goes { T.goes out.old out.new }
     ensures later { T.faults out.old ≤ T.faults out.new }
     ensures failed { IsErrOf result LineFault.Failed → Rose (T.faults out.old) (T.faults out.new) }
     ensures stopped { IsErrOf result LineFault.Stopped → T.stopped page.new.taker }

@@ -43,6 +43,7 @@ pub fn take_spans<R: LineReader, L: Logs, T: Taker<O>, O>(
     ensures given { L.given logs.new ≤ L.given logs.old + spans_size spans.now }
     ensures later_logs { L.faults logs.old ≤ L.faults logs.new }
     ensures logs { IsErrOf result RunFault.Logs → Rose (L.faults logs.old) (L.faults logs.new) }
+    ensures goes { T.goes out.old out.new }
     ensures later { T.faults out.old ≤ T.faults out.new }
     ensures output { IsErrOf result RunFault.Output → Rose (T.faults out.old) (T.faults out.new) }
     ensures stopped { IsErrOf result RunFault.Stopped → T.stopped page.new.taker }

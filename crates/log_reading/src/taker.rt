@@ -32,7 +32,7 @@ pub enum LineFault {
 
 /// Takes rows, one after the other, with an output `O` at hand: a writer, a table of groups, a list of values.
 ///
-/// The loop over logs knows a taker by its relations and the five laws alone.
+/// The loop over logs knows a taker by its relations and their laws alone.
 pub trait Taker<O> {
     /// From the first state and output it has taken these rows to the second state and output.
     ghost takes: { Self → O → List Found → Self → O → Type 0 };
@@ -48,6 +48,9 @@ pub trait Taker<O> {
 
     /// How often the output has failed.
     ghost faults: { O → ℕ };
+
+    /// What the output lets stand from one moment to a later one, whether or not a row was taken.
+    ghost goes: { O → O → Type 0 };
 
     /// Takes a row, whose fields may be parts of this line.
     fn take(
@@ -65,9 +68,14 @@ pub trait Taker<O> {
         ensures takes { OnOk result (takes self.old out.old (found_of identity.now (records_read number columns.now (rows (slots_of line.now fields.now ∷ [])))) self.new out.new) }
         ensures stops { OnErr result (stops self.old out.old (found_of identity.now (records_read number columns.now (rows (slots_of line.now fields.now ∷ [])))) self.new out.new) }
         ensures count { OnOk result (count self.new ≡ count self.old + 1) }
+        ensures goes { goes out.old out.new }
         ensures later { faults out.old ≤ faults out.new }
         ensures failed { IsErrOf result TakeFault.Failed → Rose (faults out.old) (faults out.new) }
         ensures stopped { IsErrOf result TakeFault.Stopped → stopped self.new };
+
+    ghost goes_nowhere: { (w : O) → goes w w };
+
+    ghost goes_on: { (u v w : O) → goes u v → goes v w → goes u w };
 
     ghost takes_none: { (s : Self) (w : O) → takes s w [] s w };
 

@@ -1,7 +1,7 @@
 -- What the steps of a run make of its answer.
 use Rattle.std.proofs.Common.{◌≡◌, ◌⊎◌, ℕ, ℤ, ◌≤◌, false, List, Option, Some, Err, refl, inl, inr, arith}
 use Rattle.grammar.specs.Trees as model
-use Rattle.lp_model.specs.Outside.{Folder, OnlyGrow, GainsSome, Rose}
+use Rattle.lp_model.specs.Outside.{Folder, OnlyGrow, Gains, GainsSome, Rose}
 use Rattle.checkpoint.specs.Wholes.{whole_spans}
 use Rattle.command_words.specs.declared.spec.Spec.{Spec}
 use Rattle.execution.specs.Executed.{IsExecuted, IsMoment, IsUntouched, Writes, text_in}
@@ -67,16 +67,16 @@ unlisted_answers old new spec moment q (ParseErrors log row) is same rose = absu
 
 -- a query was run over whole logs
 pub whole : (old new : World) (mid : Option Folder) (spec : Spec) (moment : ℤ) (q : model.Query) (spans : List Span) (counts : Counts) → AreSpans old.folder mid q spans → OnlyGrow mid new.folder
-    → IsExecuted (log_format spec q) new.folder old.out new.out spec moment q spans counts → Tells old.err new.err (told_statistics spec.stats counts) (Rose old.err_faults new.err_faults) → IsWhole old new spec moment q
+    → IsExecuted (log_format spec q) new.folder (λ (t : List ℕ). Gains old.out new.out t) spec moment q spans counts → Tells old.err new.err (told_statistics spec.stats counts) (Rose old.err_faults new.err_faults) → IsWhole old new spec moment q
 whole old new mid spec moment q spans counts found grow ran told = record {
   logs = found.logs;
   are_logs = logs_later old.folder mid new.folder q found.logs grow found.are_logs;
   counts = counts;
-  written = on_whole new.folder (log_format spec q) spec.ts_format found.logs spans (WritesSpans (log_format spec q) new.folder old.out new.out spec moment q spans counts) (WritesAll new.folder old.out new.out spec moment q found.logs counts) found.wholes
+  written = on_whole new.folder (log_format spec q) spec.ts_format found.logs spans (WritesSpans (log_format spec q) new.folder (λ (t : List ℕ). Gains old.out new.out t) spec moment q spans counts) (WritesAll new.folder old.out new.out spec moment q found.logs counts) found.wholes
       (λ table w. record {
         plan = w.plan;
         is_planned = w.is_planned;
-        written = whole_told new.folder (log_format spec q) found.logs spans (λ s folder. Writes old.out new.out spec (log_format spec q) w.plan s counts folder) found.wholes w.written;
+        written = whole_told new.folder (log_format spec q) found.logs spans (λ s folder. Writes (λ (t : List ℕ). Gains old.out new.out t) spec (log_format spec q) w.plan s counts folder) found.wholes w.written;
       })
       ran;
   told = told;
@@ -84,7 +84,7 @@ whole old new mid spec moment q spans counts found grow ran told = record {
 
 -- nothing is written, or the front of the text
 front_of : (old new : World) (spec : Spec) (moment : ℤ) (q : model.Query) (logs : List NameLength) (spans : List Span) (table : TableColumns) → spans ≡ whole_spans logs
-    → (new.out ≡ old.out) ⊎ HoldsSpans (log_format spec q) new.folder old.out new.out spec moment q spans table → (new.out ≡ old.out) ⊎ HoldsFront new.folder old.out new.out spec moment q logs table
+    → (new.out ≡ old.out) ⊎ HoldsSpans (log_format spec q) new.folder (λ (t : List ℕ). GainsSome old.out new.out t) spec moment q spans table → (new.out ≡ old.out) ⊎ HoldsFront new.folder old.out new.out spec moment q logs table
 front_of old new spec moment q logs spans table wholes (inl same) = inl same
 front_of old new spec moment q logs spans table wholes (inr front) = inr (record {
   plan = front.plan;
@@ -92,13 +92,13 @@ front_of old new spec moment q logs spans table wholes (inr front) = inr (record
   front = whole_told new.folder (log_format spec q) logs spans (λ s folder. GainsSome old.out new.out (text_in spec (log_format spec q) front.plan folder s)) wholes front.front;
 })
 
-stopped_front : (old new : World) (spec : Spec) (moment : ℤ) (q : model.Query) (logs : List NameLength) (spans : List Span) → spans ≡ whole_spans logs → IsStoppedIn (log_format spec q) new.folder old.out new.out spec moment q spans → IsFront new.folder old.out new.out spec moment q logs
+stopped_front : (old new : World) (spec : Spec) (moment : ℤ) (q : model.Query) (logs : List NameLength) (spans : List Span) → spans ≡ whole_spans logs → IsStoppedIn (log_format spec q) new.folder (new.out ≡ old.out) (λ (t : List ℕ). GainsSome old.out new.out t) spec moment q spans → IsFront new.folder old.out new.out spec moment q logs
 stopped_front old new spec moment q logs spans wholes stop =
-    on_whole new.folder (log_format spec q) spec.ts_format logs spans (λ table. (new.out ≡ old.out) ⊎ HoldsSpans (log_format spec q) new.folder old.out new.out spec moment q spans table)
+    on_whole new.folder (log_format spec q) spec.ts_format logs spans (λ table. (new.out ≡ old.out) ⊎ HoldsSpans (log_format spec q) new.folder (λ (t : List ℕ). GainsSome old.out new.out t) spec moment q spans table)
     (λ table. (new.out ≡ old.out) ⊎ HoldsFront new.folder old.out new.out spec moment q logs table) wholes (λ table front. front_of old new spec moment q logs spans table wholes front) stop
 
 -- it stopped
-halted : (old new : World) (mid : Option Folder) (spec : Spec) (moment : ℤ) (q : model.Query) (spans : List Span) → AreSpans old.folder mid q spans → OnlyGrow mid new.folder → IsStoppedIn (log_format spec q) new.folder old.out new.out spec moment q spans → IsHalted old.folder new.folder old.out new.out spec moment q
+halted : (old new : World) (mid : Option Folder) (spec : Spec) (moment : ℤ) (q : model.Query) (spans : List Span) → AreSpans old.folder mid q spans → OnlyGrow mid new.folder → IsStoppedIn (log_format spec q) new.folder (new.out ≡ old.out) (λ (t : List ℕ). GainsSome old.out new.out t) spec moment q spans → IsHalted old.folder new.folder old.out new.out spec moment q
 halted old new mid spec moment q spans found grow stop = record {
   logs = found.logs;
   are_logs = logs_later old.folder mid new.folder q found.logs grow found.are_logs;
@@ -107,7 +107,7 @@ halted old new mid spec moment q spans found grow stop = record {
 
 -- a bad line was one too many
 exceeded : (old new : World) (mid : Option Folder) (spec : Spec) (moment : ℤ) (q : model.Query) (spans : List Span) (line : BadLine) → AreSpans old.folder mid q spans → OnlyGrow mid new.folder
-    → IsStoppedIn (log_format spec q) new.folder old.out new.out spec moment q spans → IsExceeded (log_format spec q) new.folder spec moment q spans line → IsParseError old.folder new.folder old.out new.out spec moment q line
+    → IsStoppedIn (log_format spec q) new.folder (new.out ≡ old.out) (λ (t : List ℕ). GainsSome old.out new.out t) spec moment q spans → IsExceeded (log_format spec q) new.folder spec moment q spans line → IsParseError old.folder new.folder old.out new.out spec moment q line
 exceeded old new mid spec moment q spans line found grow stop e = record {
   logs = found.logs;
   are_logs = logs_later old.folder mid new.folder q found.logs grow found.are_logs;
@@ -118,7 +118,7 @@ exceeded old new mid spec moment q spans line found grow stop e = record {
 
 -- no plan was made
 unplanned : (old new : World) (mid : Option Folder) (spec : Spec) (moment : ℤ) (q : model.Query) (spans : List Span) (fault : TypeFault) → AreSpans old.folder mid q spans → OnlyGrow mid new.folder
-    → IsUnplannedIn (log_format spec q) new.folder spec moment q spans fault → IsUntouched (log_format spec q) new.folder old.out new.out spec spans → IsUnplanned old.folder new.folder old.out new.out spec moment q fault
+    → IsUnplannedIn (log_format spec q) new.folder spec moment q spans fault → IsUntouched (log_format spec q) new.folder (new.out ≡ old.out) spec spans → IsUnplanned old.folder new.folder old.out new.out spec moment q fault
 unplanned old new mid spec moment q spans fault found grow plan before = record {
   logs = found.logs;
   are_logs = logs_later old.folder mid new.folder q found.logs grow found.are_logs;
@@ -127,8 +127,8 @@ unplanned old new mid spec moment q spans fault found grow plan before = record 
 }
 
 pub stopped_answers : (old new : World) (mid : Option Folder) (spec : Spec) (moment : ℤ) (q : model.Query) (spans : List Span) (fault : RunFault) → AreSpans old.folder mid q spans → OnlyGrow mid new.folder
-    → IsStoppedIn (log_format spec q) new.folder old.out new.out spec moment q spans → IfPlan {T = Unit {0}} (Err fault) (IsUnplannedIn (log_format spec q) new.folder spec moment q spans)
-    → IfPlan {T = Unit {0}} (Err fault) (λ f. IsUntouched (log_format spec q) new.folder old.out new.out spec spans)
+    → IsStoppedIn (log_format spec q) new.folder (new.out ≡ old.out) (λ (t : List ℕ). GainsSome old.out new.out t) spec moment q spans → IfPlan {T = Unit {0}} (Err fault) (IsUnplannedIn (log_format spec q) new.folder spec moment q spans)
+    → IfPlan {T = Unit {0}} (Err fault) (λ f. IsUntouched (log_format spec q) new.folder (new.out ≡ old.out) spec spans)
     → IfParse {T = Unit {0}} (Err fault) (IsExceeded (log_format spec q) new.folder spec moment q spans)
     → (fault ≡ X.LogsFault → Rose old.logs_faults new.logs_faults) → (fault ≡ X.StageFault → Rose old.out_faults new.out_faults) → AnswersBuilt old new spec moment q (stopped fault)
 stopped_answers old new mid spec moment q spans (X.Plan fault) found grow stop plan before parse logs stage = unplanned old new mid spec moment q spans fault found grow plan before

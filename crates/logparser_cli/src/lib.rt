@@ -6,8 +6,6 @@
 
 mod listing;
 mod running;
-#[cfg(test)]
-mod tests;
 
 pub use reports::Status;
 pub use running::run;

@@ -1,8 +1,9 @@
 // A stage: texts of outputs that wait.
-ghost use Rattle.std.specs.Prelude.{◌≡◌, ◌+◌, ◌%◌, ◌^◌, ◌≤◌, ℕ, List, [], length, OnOk, IfOk, IsSomeAnd, MatchResult, option_map};
-ghost use Rattle.lp_model.specs.Outside.{HasCause, Told, Gains, GainsSome};
+ghost use Rattle.std.specs.Prelude.{◌≡◌, ◌+◌, ◌%◌, ◌^◌, ◌≤◌, ℕ, List, [], length, OnOk, OnErr, IfOk, Option, IsSomeAnd};
+ghost use Rattle.lp_model.specs.Outside.{HasCause, Told, GainsSome};
 ghost use Rattle.lp_outside.specs.declared.stage.Mark.{Mark};
-ghost use Rattle.lp_outside.specs.Stages.{StageState, no_mark, KeepsAll, KeepsOthers, KeepsClosed, AddsText};
+ghost use Rattle.lp_outside.specs.Stages.{StageState, no_mark, KeepsAll, KeepsClosed};
+ghost use Rattle.lp_outside.specs.Gained.{Gained, SparesOthers, SparesLengths, KeepsLengths, SparesEnded, KeepsEnded};
 
 use crate::Name;
 use thiserror::Error;
@@ -42,12 +43,21 @@ pub trait Stage {
     /// How often it has failed.
     ghost faults: { Self → ℕ };
 
+    /// What it lets stand from one moment to a later one, over all its calls.
+    ghost goes: { Self → Self → Type 0 };
+
+    /// The output of this name and base was ended at this mark.
+    ghost ended: { Self → List ℕ → ℕ → Mark → Type 0 };
+
     /// The length of an output's file.
     fn held(&mut self, name: &Name) -> Result<u64, StageFailed>
+        ensures goes { goes self.old self.new }
         ensures texts { (state self.old).tells → KeepsAll (state self.old) (state self.new) }
         ensures written { (state self.new).written ≡ (state self.old).written }
         ensures taken { (state self.new).taken ≡ (state self.old).taken }
         ensures length { IfOk result (λ bytes. (state self.old).is_length name.now bytes) }
+        ensures lengths { KeepsLengths (state self.old) (state self.new) }
+        ensures ended { KeepsEnded ended self.old self.new }
         ensures bound { IfOk result (λ bytes. bytes ≤ 2 ^ 62) }
         ensures cause { HasCause (faults self.old) (faults self.new) result };
 
@@ -61,20 +71,33 @@ pub trait Stage {
         bytes: &[u8],
     ) -> Result<(), StageFailed>
         requires { mark.old.length % 4096 ≡ 0 }
-        ensures others { (state self.old).tells → KeepsOthers output name.now (state self.old) (state self.new) }
-        ensures text { OnOk result ((state self.old).tells → AddsText output name.now base mark.old mark.new bytes.now (state self.old) (state self.new)) }
-        ensures length { OnOk result (mark.new.length ≡ (mark.old.length + length bytes.now) % 2 ^ 64) }
-        ensures written { MatchResult result (λ _. Gains (state self.old).written (state self.new).written bytes.now) (λ _. GainsSome (state self.old).written (state self.new).written bytes.now) }
-        ensures taken { MatchResult result (λ _. (state self.new).taken ≡ option_map (λ count. count + length bytes.now) (state self.old).taken) (λ _. Told (state self.old).taken (λ before. IsSomeAnd (state self.new).taken (λ now. before ≤ now))) }
+        ensures goes { goes self.old self.new }
+        ensures gained { OnOk result (Gained output name.now base mark.old mark.new bytes.now (state self.old) (state self.new)) }
+        // After a refusal a stream has written the front of the bytes.
+        ensures front { OnErr result (GainsSome (state self.old).written (state self.new).written bytes.now) }
+        ensures taken { OnErr result (Told (state self.old).taken (λ before. IsSomeAnd (state self.new).taken (λ now. before ≤ now))) }
+        ensures others { SparesOthers output name.now (state self.old) (state self.new) }
+        ensures lengths { SparesLengths name.now (state self.old) (state self.new) }
+        ensures ended { SparesEnded ended name.now self.old self.new }
         ensures cause { HasCause (faults self.old) (faults self.new) result };
 
     /// Ends an output. Its text stays.
     fn close(&mut self, name: &Name, base: u64, mark: &Mark) -> Result<(), StageFailed>
+        ensures goes { goes self.old self.new }
         ensures kept { (state self.old).tells → KeepsClosed name.now base mark.now (state self.old) (state self.new) }
         ensures tells { OnOk result ((state self.old).tells → (state self.new).tells) }
         ensures written { (state self.new).written ≡ (state self.old).written }
         ensures taken { (state self.new).taken ≡ (state self.old).taken }
+        ensures lengths { SparesLengths name.now (state self.old) (state self.new) }
+        ensures ended { SparesEnded ended name.now self.old self.new }
+        ensures closed { OnOk result (ended self.new name.now base mark.now) }
         ensures cause { HasCause (faults self.old) (faults self.new) result };
+
+    /// No call at all lets all stand.
+    ghost goes_nowhere: { (stage : Self) → goes stage stage };
+
+    /// What stands over some calls and over later ones stands over all of them.
+    ghost goes_on: { (first second third : Self) → goes first second → goes second third → goes first third };
 
     /// An output without a frame has an empty text.
     ghost empty: { (stage : Self) → (state stage).tells → (output : ℕ) (name : List ℕ) (base : ℕ) → (state stage).is_text output name base no_mark [] };

@@ -1,8 +1,9 @@
 -- How much few spans have.
 use Rattle.std.proofs.Common.{◌≡◌, ℕ, suc, ◌+◌, ◌-◌, ◌*◌, ◌<◌, ◌≤◌, ◌^◌, List, [], ◌∷◌, length, Option, Some, None, arith, refl}
 use Rattle.std.proofs.lemmas.List.Sums.{sum_by-cons}
-use Rattle.lp_model.specs.Outside.{Folder, Told, GainsSome}
-use Rattle.lp_model.proofs.Gaining.{GainsSome_none}
+use Rattle.lp_model.specs.Outside.{Folder, Told}
+use Rattle.query_run.specs.Output.{StageKind, OutputAt, GainsFront}
+use Rattle.query_run.specs.Gaining.{front_none}
 use Rattle.log_reading.specs.declared.span.Span.{Span}
 use Rattle.log_reading.specs.Spans.{AllSpans, IsSpan, spans_size}
 
@@ -20,6 +21,6 @@ has_room spans all few =
     omega arith
 
 -- an output that gains nothing has gained a front of any text
-pub told_none : (told : Option Folder) (written : Option (List ℕ)) (Kept : Folder → Type 0) (text : Folder → List ℕ) → Told told (λ f. Kept f → GainsSome written written (text f))
-told_none None written Kept text = tt
-told_none (Some folder) written Kept text = λ kept. GainsSome_none written (text folder)
+pub told_none : {S : Type 0} {kind : StageKind S} (told : Option Folder) (output : OutputAt kind) (Kept : Folder → Type 0) (text : Folder → List ℕ) → Told told (λ f. Kept f → GainsFront output output.stage (text f))
+told_none None output Kept text = tt
+told_none (Some folder) output Kept text = λ kept. front_none output (text folder)

@@ -1,6 +1,7 @@
 // A plan over spans, by their format.
-ghost use Rattle.std.specs.Prelude.{◌≡◌, ◌≤◌, ◌+◌, true, false, length, option_map, OnOk, OnErr, IfOk, IfErr, IsErrOf};
-ghost use Rattle.lp_model.specs.Outside.{Rose, OnlyGrow, Told, bytes_in, Gains, GainsSome};
+ghost use Rattle.std.specs.Prelude.{◌≡◌, ◌≤◌, ◌+◌, true, false, length, option_map, OnErr, IfOk, IfErr, IsErrOf};
+ghost use Rattle.lp_model.specs.Outside.{Rose, OnlyGrow, Told, bytes_in};
+ghost use Rattle.query_run.specs.Output.{kind_of, placed_at, reached, GainsText, GainsFront};
 ghost use Rattle.log_reading.specs.Page.{IsTooMany, IsWithin};
 ghost use Rattle.log_reading.specs.Spans.{AllSpans, IsSpan, AreKept, OnBadLine, spans_found, spans_bad, spans_bad_lines, spans_size};
 ghost use Rattle.output_formats.specs.Headers.{csv_of};
@@ -16,7 +17,7 @@ use log_reading::{RunFault, Span};
 use lp_outside::{Logs, Stage};
 use ncsa_input::Ncsa;
 use output_formats::{CsvOut, Headers};
-use query_run::{Counts, Target};
+use query_run::{Target, Written};
 use query_types::Plan;
 use std::alloc::Global;
 use w3c_input::IisW3c;
@@ -32,27 +33,29 @@ pub fn run_plan<L: Logs, G: Stage>(
     target: Target,
     most_bad: Option<u64>,
     stage: &mut G,
-) -> Result<Counts, RunFault>
+) -> Result<Written, RunFault>
     requires covers { Covers plan.used plan.items (option_map filter_of plan.condition) }
     requires size { length plan.used ≡ length (columns_of format) }
     requires few { length spans.now ≤ 100000 }
     requires spans { AllSpans spans.now IsSpan }
     requires there { Told (L.folder logs.old) (λ folder. AllSpans spans.now (λ span. span.listed ≤ length (bytes_in folder span.name))) }
     ensures grows { OnlyGrow (L.folder logs.old) (L.folder logs.new) }
-    ensures text { OnOk result (Told (L.folder logs.new) (λ folder. AreKept (lines_of format) false spans.now folder
-        → Gains (G.state stage.old).written (G.state stage.new).written (csv_of headers true plan.names (plan_rows (readings_of format) (planned_in plan) (lines_of format) folder spans.now)))) }
-    ensures processed { IfOk result (λ counts. Told (L.folder logs.new) (λ folder. AreKept (lines_of format) false spans.now folder
-        → counts.processed ≡ length (spans_found (lines_of format) false folder spans.now))) }
-    ensures output { IfOk result (λ counts. Told (L.folder logs.new) (λ folder. AreKept (lines_of format) false spans.now folder
-        → counts.output ≡ length (plan_rows (readings_of format) (planned_in plan) (lines_of format) folder spans.now))) }
-    ensures bad { IfOk result (λ counts. Told (L.folder logs.new) (λ folder. AreKept (lines_of format) false spans.now folder
-        → counts.bad ≡ length (spans_bad (lines_of format) false folder spans.now))) }
-    ensures within { IfOk result (λ counts. IsWithin most_bad counts.bad) }
+    ensures goes { G.goes stage.old stage.new }
+    ensures text { IfOk result (λ written. Told (L.folder logs.new) (λ folder. AreKept (lines_of format) false spans.now folder
+        → GainsText (reached (kind_of G.state G.ended) target stage.old) (placed_at (kind_of G.state G.ended) target.output written.output stage.new) (csv_of headers true plan.names (plan_rows (readings_of format) (planned_in plan) (lines_of format) folder spans.now)))) }
+    ensures ended { IfOk result (λ written. G.ended stage.new written.output.name written.output.base written.output.mark) }
+    ensures processed { IfOk result (λ written. Told (L.folder logs.new) (λ folder. AreKept (lines_of format) false spans.now folder
+        → written.counts.processed ≡ length (spans_found (lines_of format) false folder spans.now))) }
+    ensures output { IfOk result (λ written. Told (L.folder logs.new) (λ folder. AreKept (lines_of format) false spans.now folder
+        → written.counts.output ≡ length (plan_rows (readings_of format) (planned_in plan) (lines_of format) folder spans.now))) }
+    ensures bad { IfOk result (λ written. Told (L.folder logs.new) (λ folder. AreKept (lines_of format) false spans.now folder
+        → written.counts.bad ≡ length (spans_bad (lines_of format) false folder spans.now))) }
+    ensures within { IfOk result (λ written. IsWithin most_bad written.counts.bad) }
     ensures too_many { IfErr result (λ fault. OnBadLine fault (λ line. Told (L.folder logs.new) (λ folder. AreKept (lines_of format) false spans.now folder
         → IsTooMany most_bad 0 (spans_bad_lines (lines_of format) false folder spans.now) line))) }
     ensures stopped { IsErrOf result RunFault.Stopped → ⊥ }
     ensures front { OnErr result (Told (L.folder logs.new) (λ folder. AreKept (lines_of format) false spans.now folder
-        → GainsSome (G.state stage.old).written (G.state stage.new).written (csv_of headers true plan.names (plan_rows (readings_of format) (planned_in plan) (lines_of format) folder spans.now)))) }
+        → GainsFront (reached (kind_of G.state G.ended) target stage.old) stage.new (csv_of headers true plan.names (plan_rows (readings_of format) (planned_in plan) (lines_of format) folder spans.now)))) }
     ensures given { L.given logs.new ≤ L.given logs.old + spans_size spans.now }
     ensures later_logs { L.faults logs.old ≤ L.faults logs.new }
     ensures logs { IsErrOf result RunFault.Logs → Rose (L.faults logs.old) (L.faults logs.new) }

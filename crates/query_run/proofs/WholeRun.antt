@@ -1,11 +1,11 @@
 -- A whole run, from the line of names to the last row.
 use Rattle.std.proofs.Common.{◌≡◌, ℕ, Bool, List, [], Option, Some, None, ap, ◌∙◌, refl, subst}
 use Rattle.std.proofs.lemmas.List.{append-nil}
-use Rattle.lp_model.specs.Outside.{Folder, Told, GainsSome}
-use Rattle.lp_model.proofs.Gaining.{Gains_nothing}
+use Rattle.lp_model.specs.Outside.{Folder, Told}
 use Rattle.lp_values.specs.declared.value.Value.{Value}
 use Rattle.log_reading.specs.Found.{Found}
-use Rattle.query_run.specs.Output.{IsUnderWay}
+use Rattle.query_run.specs.Output.{StageKind, OutputAt, GainsFront, IsUnderWay}
+use Rattle.query_run.specs.Gaining.{gains_nothing}
 use Rattle.query_run.specs.Rows.{picked}
 use Rattle.query_run.specs.Writer.{Writes, Halts}
 use Rattle.query_run.specs.Writing.{TextOf, HasTextOf, PicksOf}
@@ -19,24 +19,21 @@ pub told_map : (told : Option Folder) (P Q : Folder → Type 0) → ((f : Folder
 told_map None P Q h t = tt
 told_map (Some f) P Q h t = h f t
 
-pub gains_none : (w : Option (List ℕ)) (text : List ℕ) → GainsSome w w text
-gains_none w text = ([], (text, refl), Gains_nothing w)
-
 text_same : {F P : Type 0} (text : TextOf F) (picks : PicksOf P) (writer : Writer F P) (shape : F) (picker : P) (fresh : Bool) (names : List (List ℕ)) (founds : List Found) → text writer.shape ≡ text shape → writer.picker ≡ picker
     → text writer.shape fresh names (picked (picks writer.picker) founds) ≡ text shape fresh names (picked (picks picker) founds)
 text_same text picks writer shape picker fresh names founds format same = ap (λ t. t fresh names (picked (picks writer.picker) founds)) format ∙ ap (λ p. text shape fresh names (picked (picks p) founds)) same
 
 -- it stopped within the rows
-pub front_stopped : {F P : Type 0} (text : TextOf F) (has_text : HasTextOf F) (picks : PicksOf P) (writer : Writer F P) (shape : F) (picker : P) (fresh : Bool) (names : List (List ℕ)) (founds : List Found) (u w : Option (List ℕ)) → text writer.shape ≡ text shape → writer.picker ≡ picker
-    → IsUnderWay (has_text writer.shape fresh names []) u u writer.buffers.held → Halts text has_text picks writer u founds w → GainsSome u w (text shape fresh names (picked (picks picker) founds))
+pub front_stopped : {F P : Type 0} {S : Type 0} {kind : StageKind S} (text : TextOf F) (has_text : HasTextOf F) (picks : PicksOf P) (writer : Writer F P) (shape : F) (picker : P) (fresh : Bool) (names : List (List ℕ)) (founds : List Found) (u : OutputAt kind) (w : S) → text writer.shape ≡ text shape → writer.picker ≡ picker
+    → has_text writer.shape fresh names [] writer.buffers.held → Halts text has_text picks writer u founds w → GainsFront u w (text shape fresh names (picked (picks picker) founds))
 front_stopped text has_text picks writer shape picker fresh names founds u w format same under_way halts =
-    let Of : List ℕ → Type 0 = λ t. GainsSome u w t in
-    subst Of (ap (text writer.shape fresh names) (append-nil (picked (picks writer.picker) founds)) ∙ text_same text picks writer shape picker fresh names founds format same) (halts.front fresh names [] [] u under_way)
+    let Of : List ℕ → Type 0 = λ t. GainsFront u w t in
+    subst Of (ap (text writer.shape fresh names) (append-nil (picked (picks writer.picker) founds)) ∙ text_same text picks writer shape picker fresh names founds format same) (halts.front fresh names [] [] u ([], gains_nothing u, under_way))
 
 -- all rows were written, and what the end makes of it
-pub at_end : {F P : Type 0} (text : TextOf F) (has_text : HasTextOf F) (picks : PicksOf P) (Out : List ℕ → Type 0) (writer last : Writer F P) (shape : F) (picker : P) (fresh : Bool) (names : List (List ℕ)) (founds : List Found) (u v : Option (List ℕ)) → text writer.shape ≡ text shape → writer.picker ≡ picker
-    → IsUnderWay (has_text writer.shape fresh names []) u u writer.buffers.held → Writes text has_text picks writer u founds last v
+pub at_end : {F P : Type 0} {S : Type 0} {kind : StageKind S} (text : TextOf F) (has_text : HasTextOf F) (picks : PicksOf P) (Out : List ℕ → Type 0) (writer last : Writer F P) (shape : F) (picker : P) (fresh : Bool) (names : List (List ℕ)) (founds : List Found) (u v : OutputAt kind) → text writer.shape ≡ text shape → writer.picker ≡ picker
+    → has_text writer.shape fresh names [] writer.buffers.held → Writes text has_text picks writer u founds last v
     → ((rows : List (List Value)) → IsUnderWay (has_text last.shape fresh names rows) u v last.buffers.held → Out (text last.shape fresh names rows)) → Out (text shape fresh names (picked (picks picker) founds))
 at_end text has_text picks Out writer last shape picker fresh names founds u v format same under_way writes step =
-    let here = step (picked (picks writer.picker) founds) (writes.written fresh names [] u under_way) in
+    let here = step (picked (picks writer.picker) founds) (writes.written fresh names [] u ([], gains_nothing u, under_way)) in
     subst Out (ap (λ t. t fresh names (picked (picks writer.picker) founds)) writes.format ∙ text_same text picks writer shape picker fresh names founds format same) here

@@ -1,4 +1,5 @@
 pub mod Output
+pub mod Gaining
 pub mod Rows
 pub mod Writer
 pub mod Writing

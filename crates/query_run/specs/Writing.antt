@@ -4,11 +4,11 @@ use Rattle.std.specs.List.{cons_option}
 use Rattle.std.proofs.Common.{ap, sym, ◌∙◌, refl, subst, append_assoc, arith, length-append}
 use Rattle.std.proofs.lemmas.List.{append-nil}
 use Rattle.std.proofs.lemmas.List.Elements.{filter_map-append}
-use Rattle.lp_model.specs.Outside.{Begins, GainsSome}
-use Rattle.lp_model.proofs.Gaining.{Gains_trans}
+use Rattle.lp_model.specs.Outside.{Begins}
 use Rattle.lp_values.specs.declared.value.Value.{Value}
 use Rattle.log_reading.specs.Found.{Found}
-use Rattle.query_run.specs.Output.{IsUnderWay}
+use Rattle.query_run.specs.Output.{StageKind, OutputAt, GainsFront, IsUnderWay}
+use Rattle.query_run.specs.Gaining.{front_all, front_later, front_front}
 use Rattle.query_run.specs.Rows.{picked}
 use Rattle.query_run.specs.Writer.{Writes, Halts}
 use Rattle.query_run.specs.declared.writer.Writer.{Writer}
@@ -25,7 +25,7 @@ PicksOf P = P → Found → Option (List Value)
 pub picked-append : (picks : Found → Option (List Value)) (xs ys : List Found) → picked picks (xs ++ ys) ≡ picked picks xs ++ picked picks ys
 picked-append picks xs ys = filter_map-append picks xs ys
 
-pub writes_none : {F P : Type 0} (text : TextOf F) (has_text : HasTextOf F) (picks : PicksOf P) (s : Writer F P) (w : Option (List ℕ)) → Writes text has_text picks s w [] s w
+pub writes_none : {F P : Type 0} {S : Type 0} {kind : StageKind S} (text : TextOf F) (has_text : HasTextOf F) (picks : PicksOf P) (s : Writer F P) (w : OutputAt kind) → Writes text has_text picks s w [] s w
 writes_none text has_text picks s w = record {
   written = λ fresh names rows start under_way.
       let Now : List (List Value) → Type 0 = λ t. IsUnderWay (has_text s.shape fresh names t) start w s.buffers.held in
@@ -35,7 +35,7 @@ writes_none text has_text picks s w = record {
   output = Prim.omega arith;
 }
 
-pub writes_more : {F P : Type 0} (text : TextOf F) (has_text : HasTextOf F) (picks : PicksOf P) (a b c : Writer F P) (u v w : Option (List ℕ)) (xs ys : List Found)
+pub writes_more : {F P : Type 0} {S : Type 0} {kind : StageKind S} (text : TextOf F) (has_text : HasTextOf F) (picks : PicksOf P) (a b c : Writer F P) (u v w : OutputAt kind) (xs ys : List Found)
     → Writes text has_text picks a u xs b v → Writes text has_text picks b v ys c w → Writes text has_text picks a u (xs ++ ys) c w
 writes_more text has_text picks a b c u v w xs ys f s =
     let same : picked (picks b.picker) ys ≡ picked (picks a.picker) ys = ap (λ p. picked (picks p) ys) f.picker in
@@ -56,14 +56,14 @@ writes_more text has_text picks a b c u v w xs ys f s =
     }
 
 -- what is under way has written the front of what it begins
-pub front_of : {F : Type 0} (text : TextOf F) (has_text : HasTextOf F) (begins : (s : F) (fresh : Bool) (names : List (List ℕ)) (rows more : List (List Value)) (so_far : List ℕ) → has_text s fresh names rows so_far → Begins so_far (text s fresh names (rows ++ more)))
-    (shape : F) (fresh : Bool) (names : List (List ℕ)) (rows more : List (List Value)) (start now : Option (List ℕ)) (buffer : List ℕ) → IsUnderWay (has_text shape fresh names rows) start now buffer → GainsSome start now (text shape fresh names (rows ++ more))
+pub front_of : {F : Type 0} {S : Type 0} {kind : StageKind S} (text : TextOf F) (has_text : HasTextOf F) (begins : (s : F) (fresh : Bool) (names : List (List ℕ)) (rows more : List (List Value)) (so_far : List ℕ) → has_text s fresh names rows so_far → Begins so_far (text s fresh names (rows ++ more)))
+    (shape : F) (fresh : Bool) (names : List (List ℕ)) (rows more : List (List Value)) (start now : OutputAt kind) (buffer : List ℕ) → IsUnderWay (has_text shape fresh names rows) start now buffer → GainsFront start now.stage (text shape fresh names (rows ++ more))
 front_of text has_text begins shape fresh names rows more start now buffer (done, gains, so_far) =
     let whole = begins shape fresh names rows more (done ++ buffer) so_far in
-    (done, (buffer ++ whole.0, whole.1 ∙ append_assoc done buffer whole.0), gains)
+    subst (λ (t : List ℕ). GainsFront start now.stage t) (sym (whole.1 ∙ append_assoc done buffer whole.0)) (front_all start now done (buffer ++ whole.0) gains)
 
-pub halts_here : {F P : Type 0} (text : TextOf F) (has_text : HasTextOf F) (picks : PicksOf P) (begins : (s : F) (fresh : Bool) (names : List (List ℕ)) (rows more : List (List Value)) (so_far : List ℕ) → has_text s fresh names rows so_far → Begins so_far (text s fresh names (rows ++ more)))
-    (a b : Writer F P) (u v : Option (List ℕ)) (xs ys : List Found) → Writes text has_text picks a u xs b v → Halts text has_text picks a u (xs ++ ys) v
+pub halts_here : {F P : Type 0} {S : Type 0} {kind : StageKind S} (text : TextOf F) (has_text : HasTextOf F) (picks : PicksOf P) (begins : (s : F) (fresh : Bool) (names : List (List ℕ)) (rows more : List (List Value)) (so_far : List ℕ) → has_text s fresh names rows so_far → Begins so_far (text s fresh names (rows ++ more)))
+    (a b : Writer F P) (u v : OutputAt kind) (xs ys : List Found) → Writes text has_text picks a u xs b v → Halts text has_text picks a u (xs ++ ys) v.stage
 halts_here text has_text picks begins a b u v xs ys f = record {
   front = λ fresh names rows more start under_way.
       let here = front_of text has_text begins b.shape fresh names (rows ++ picked (picks a.picker) xs) (picked (picks a.picker) ys ++ more) start v b.buffers.held (f.written fresh names rows start under_way) in
@@ -71,11 +71,11 @@ halts_here text has_text picks begins a b u v xs ys f = record {
       ap (λ t. t fresh names ((rows ++ picked (picks a.picker) xs) ++ (picked (picks a.picker) ys ++ more))) f.format
       ∙ ap (text a.shape fresh names) (append_assoc rows (picked (picks a.picker) xs) (picked (picks a.picker) ys ++ more)
       ∙ ap (λ t. rows ++ t) (sym (append_assoc (picked (picks a.picker) xs) (picked (picks a.picker) ys) more) ∙ ap (λ t. t ++ more) (sym (picked-append (picks a.picker) xs ys)))) in
-      let Of : List ℕ → Type 0 = λ t. GainsSome start v t in
+      let Of : List ℕ → Type 0 = λ t. GainsFront start v.stage t in
       subst Of same here;
 }
 
-pub halts_later : {F P : Type 0} (text : TextOf F) (has_text : HasTextOf F) (picks : PicksOf P) (a b : Writer F P) (u v w : Option (List ℕ)) (xs ys : List Found)
+pub halts_later : {F P : Type 0} {S : Type 0} {kind : StageKind S} (text : TextOf F) (has_text : HasTextOf F) (picks : PicksOf P) (a b : Writer F P) (u v : OutputAt kind) (w : S) (xs ys : List Found)
     → Writes text has_text picks a u xs b v → Halts text has_text picks b v ys w → Halts text has_text picks a u (xs ++ ys) w
 halts_later text has_text picks a b u v w xs ys f s = record {
   front = λ fresh names rows more start under_way.
@@ -86,45 +86,45 @@ halts_later text has_text picks a b u v w xs ys f s = record {
       ap (λ t. t fresh names ((rows ++ picked (picks a.picker) xs) ++ (picked (picks b.picker) ys ++ more))) f.format
       ∙ ap (text a.shape fresh names) (append_assoc rows (picked (picks a.picker) xs) (picked (picks b.picker) ys ++ more)
       ∙ ap (λ t. rows ++ t) (sym (append_assoc (picked (picks a.picker) xs) (picked (picks b.picker) ys) more) ∙ ap (λ t. t ++ more) both)) in
-      let Of : List ℕ → Type 0 = λ t. GainsSome start w t in
+      let Of : List ℕ → Type 0 = λ t. GainsFront start w t in
       subst Of same here;
 }
 
-pub halts_more : {F P : Type 0} (text : TextOf F) (has_text : HasTextOf F) (picks : PicksOf P) (a : Writer F P) (u w : Option (List ℕ)) (xs ys : List Found)
+pub halts_more : {F P : Type 0} {S : Type 0} {kind : StageKind S} (text : TextOf F) (has_text : HasTextOf F) (picks : PicksOf P) (a : Writer F P) (u : OutputAt kind) (w : S) (xs ys : List Found)
     → Halts text has_text picks a u xs w → Halts text has_text picks a u (xs ++ ys) w
 halts_more text has_text picks a u w xs ys s = record {
   front = λ fresh names rows more start under_way.
       let here = s.front fresh names rows (picked (picks a.picker) ys ++ more) start under_way in
       let same : rows ++ (picked (picks a.picker) xs ++ (picked (picks a.picker) ys ++ more)) ≡ rows ++ (picked (picks a.picker) (xs ++ ys) ++ more) =
       ap (λ t. rows ++ t) (sym (append_assoc (picked (picks a.picker) xs) (picked (picks a.picker) ys) more) ∙ ap (λ t. t ++ more) (sym (picked-append (picks a.picker) xs ys))) in
-      let Of : List (List Value) → Type 0 = λ t. GainsSome start w (text a.shape fresh names t) in
+      let Of : List (List Value) → Type 0 = λ t. GainsFront start w (text a.shape fresh names t) in
       subst Of same here;
 }
 
 -- a row went to the buffer, of which some was written
-pub front_failed : {F : Type 0} (text : TextOf F) (has_text : HasTextOf F) (begins : (s : F) (fresh : Bool) (names : List (List ℕ)) (rows more : List (List Value)) (so_far : List ℕ) → has_text s fresh names rows so_far → Begins so_far (text s fresh names (rows ++ more)))
-    (old new : F) (fresh : Bool) (names : List (List ℕ)) (rows : List (List Value)) (row : List Value) (more : List (List Value)) (start a b : Option (List ℕ)) (before mid added : List ℕ)
+pub front_failed : {F : Type 0} {S : Type 0} {kind : StageKind S} (text : TextOf F) (has_text : HasTextOf F) (begins : (s : F) (fresh : Bool) (names : List (List ℕ)) (rows more : List (List Value)) (so_far : List ℕ) → has_text s fresh names rows so_far → Begins so_far (text s fresh names (rows ++ more)))
+    (old new : F) (fresh : Bool) (names : List (List ℕ)) (rows : List (List Value)) (row : List Value) (more : List (List Value)) (start a : OutputAt kind) (b : S) (before mid added : List ℕ)
     → mid ≡ before ++ added → ((so_far : List ℕ) → has_text old fresh names rows so_far → has_text new fresh names (rows ++ row ∷ []) (so_far ++ added)) → text new ≡ text old
-    → IsUnderWay (has_text old fresh names rows) start a before → GainsSome a b mid → GainsSome start b (text old fresh names (rows ++ (row ∷ more)))
-front_failed text has_text begins old new fresh names rows row more start a b before mid added appended step format (done, gains, so_far) (part, (left, parts), some) =
+    → IsUnderWay (has_text old fresh names rows) start a before → GainsFront a b mid → GainsFront start b (text old fresh names (rows ++ (row ∷ more)))
+front_failed text has_text begins old new fresh names rows row more start a b before mid added appended step format (done, gains, so_far) some =
     let whole = begins new fresh names (rows ++ row ∷ []) more ((done ++ before) ++ added) (step (done ++ before) so_far) in
-    let here : (done ++ before) ++ added ≡ (done ++ part) ++ left = append_assoc done before added ∙ (ap (λ t. done ++ t) (sym appended ∙ parts) ∙ sym (append_assoc done part left)) in
-    let same : text old fresh names (rows ++ (row ∷ more)) ≡ (done ++ part) ++ (left ++ whole.0) =
+    let here : (done ++ before) ++ added ≡ done ++ mid = append_assoc done before added ∙ ap (λ t. done ++ t) (sym appended) in
+    let same : text old fresh names (rows ++ (row ∷ more)) ≡ (done ++ mid) ++ whole.0 =
     ap (text old fresh names) (sym (append_assoc rows (row ∷ []) more)) ∙ (ap (λ t. t fresh names ((rows ++ row ∷ []) ++ more)) (sym format)
-    ∙ (whole.1 ∙ (ap (λ t. t ++ whole.0) here ∙ append_assoc (done ++ part) left whole.0))) in
-    (done ++ part, (left ++ whole.0, same), Gains_trans start a b done part gains some)
+    ∙ (whole.1 ∙ ap (λ t. t ++ whole.0) here)) in
+    subst (λ (t : List ℕ). GainsFront start b t) (sym same) (front_front start b (done ++ mid) whole.0 (front_later start a b done mid gains some))
 
 -- nothing was written
-pub halts_at_once : {F P : Type 0} (text : TextOf F) (has_text : HasTextOf F) (picks : PicksOf P) (begins : (s : F) (fresh : Bool) (names : List (List ℕ)) (rows more : List (List Value)) (so_far : List ℕ) → has_text s fresh names rows so_far → Begins so_far (text s fresh names (rows ++ more)))
-    (a : Writer F P) (w : Option (List ℕ)) (xs : List Found) → Halts text has_text picks a w xs w
+pub halts_at_once : {F P : Type 0} {S : Type 0} {kind : StageKind S} (text : TextOf F) (has_text : HasTextOf F) (picks : PicksOf P) (begins : (s : F) (fresh : Bool) (names : List (List ℕ)) (rows more : List (List Value)) (so_far : List ℕ) → has_text s fresh names rows so_far → Begins so_far (text s fresh names (rows ++ more)))
+    (a : Writer F P) (w : OutputAt kind) (xs : List Found) → Halts text has_text picks a w xs w.stage
 halts_at_once text has_text picks begins a w xs = halts_here text has_text picks begins a a w w [] xs (writes_none text has_text picks a w)
 
 picked_one : (picks : Found → Option (List Value)) (found : Found) (row : List Value) → Some row ≡ picks found → picked picks (found ∷ []) ≡ row ∷ []
 picked_one picks found row e = ap (λ o. cons_option o []) (sym e)
 
 -- one row was written
-pub writes_one : {F P : Type 0} (text : TextOf F) (has_text : HasTextOf F) (picks : PicksOf P) (old new : Writer F P) (u w : Option (List ℕ)) (found : Found) (row : List Value) → Some row ≡ picks old.picker found
-    → ((fresh : Bool) (names : List (List ℕ)) (rows : List (List Value)) (start : Option (List ℕ)) → IsUnderWay (has_text old.shape fresh names rows) start u old.buffers.held → IsUnderWay (has_text new.shape fresh names (rows ++ row ∷ [])) start w new.buffers.held)
+pub writes_one : {F P : Type 0} {S : Type 0} {kind : StageKind S} (text : TextOf F) (has_text : HasTextOf F) (picks : PicksOf P) (old new : Writer F P) (u w : OutputAt kind) (found : Found) (row : List Value) → Some row ≡ picks old.picker found
+    → ((fresh : Bool) (names : List (List ℕ)) (rows : List (List Value)) (start : OutputAt kind) → IsUnderWay (has_text old.shape fresh names rows) start u old.buffers.held → IsUnderWay (has_text new.shape fresh names (rows ++ row ∷ [])) start w new.buffers.held)
     → text new.shape ≡ text old.shape → new.picker ≡ old.picker → new.output ≡ old.output + 1 → Writes text has_text picks old u (found ∷ []) new w
 writes_one text has_text picks old new u w found row e step format picker output =
     let one = picked_one (picks old.picker) found row e in
@@ -139,11 +139,11 @@ writes_one text has_text picks old new u w found row e step format picker output
     }
 
 -- it stopped within one row
-pub halts_one : {F P : Type 0} (text : TextOf F) (has_text : HasTextOf F) (picks : PicksOf P) (old : Writer F P) (u w : Option (List ℕ)) (found : Found) (row : List Value) → Some row ≡ picks old.picker found
-    → ((fresh : Bool) (names : List (List ℕ)) (rows more : List (List Value)) (start : Option (List ℕ)) → IsUnderWay (has_text old.shape fresh names rows) start u old.buffers.held → GainsSome start w (text old.shape fresh names (rows ++ (row ∷ more))))
+pub halts_one : {F P : Type 0} {S : Type 0} {kind : StageKind S} (text : TextOf F) (has_text : HasTextOf F) (picks : PicksOf P) (old : Writer F P) (u : OutputAt kind) (w : S) (found : Found) (row : List Value) → Some row ≡ picks old.picker found
+    → ((fresh : Bool) (names : List (List ℕ)) (rows more : List (List Value)) (start : OutputAt kind) → IsUnderWay (has_text old.shape fresh names rows) start u old.buffers.held → GainsFront start w (text old.shape fresh names (rows ++ (row ∷ more))))
     → Halts text has_text picks old u (found ∷ []) w
 halts_one text has_text picks old u w found row e step = record {
   front = λ fresh names rows more start under_way.
-      let Now : List (List Value) → Type 0 = λ t. GainsSome start w (text old.shape fresh names (rows ++ (t ++ more))) in
+      let Now : List (List Value) → Type 0 = λ t. GainsFront start w (text old.shape fresh names (rows ++ (t ++ more))) in
       subst Now (sym (picked_one (picks old.picker) found row e)) (step fresh names rows more start under_way);
 }

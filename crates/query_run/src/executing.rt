@@ -1,13 +1,13 @@
 // A query over logs to a stage.
-ghost use Rattle.std.specs.Prelude.{◌≡◌, ◌≤◌, ◌<◌, ◌^◌, ◌+◌, ◌++◌, [], ℕ, List, Bool, true, length, map, Option, OnOk, OnErr, IfOk, IfErr, IsErrOf};
-ghost use Rattle.lp_model.specs.Outside.{Rose, OnlyGrow, Told, bytes_in, Gains, GainsSome};
+ghost use Rattle.std.specs.Prelude.{◌≡◌, ◌≤◌, ◌<◌, ◌^◌, ◌+◌, ◌++◌, [], ℕ, List, Bool, true, length, map, OnOk, OnErr, IfOk, IfErr, IsErrOf};
+ghost use Rattle.lp_model.specs.Outside.{Rose, OnlyGrow, Told, bytes_in};
 ghost use Rattle.lp_values.specs.declared.value.Value.{Value};
-ghost use Rattle.query_run.specs.Output.{IsUnderWay};
+ghost use Rattle.query_run.specs.Output.{kind_of, placed_at, reached, OutputAt, GainsText, GainsFront, IsUnderWay};
 ghost use Rattle.query_run.specs.Rows.{picked};
 ghost use Rattle.log_reading.specs.Page.{IsTooMany, IsWithin};
 ghost use Rattle.log_reading.specs.Spans.{AllSpans, IsSpan, AreKept, OnBadLine, spans_found, spans_bad, spans_bad_lines, spans_size, took_of};
 
-use crate::{Buffers, Picker, Target, Writer};
+use crate::{Buffers, Output, Picker, Target, Writer};
 use line_input::{Fields, LineReader, Splitter, Standing};
 use log_reading::{Page, RunFault, Span, TakeFault, TookList, take_spans};
 use lp_outside::{Logs, Stage};
@@ -22,6 +22,13 @@ pub struct Counts {
     pub processed: u64,
     pub output: u64,
     pub bad: u64,
+}
+
+/// What a run of a query to one output has done.
+#[derive(Drop)]
+pub struct Written {
+    pub counts: Counts,
+    pub output: Output,
 }
 
 // So many zero bytes.
@@ -40,7 +47,8 @@ pub fn first_writer<F: Shape + Drop, P: Picker + Drop>(
     fresh: bool,
     target: Target,
 ) -> Result<Writer<F, P>, AllocError>
-    ensures text { IfOk result (λ writer. (start : Option (List ℕ)) → IsUnderWay (F.has_text writer.shape fresh names.now []) start start writer.buffers.held) }
+    ensures text { IfOk result (λ writer. F.has_text writer.shape fresh names.now [] writer.buffers.held) }
+    ensures target { IfOk result (λ writer. writer.target ≡ target) }
     ensures format { IfOk result (λ writer. F.text writer.shape ≡ F.text shape) }
     ensures picker { IfOk result (λ writer. writer.picker ≡ picker) }
     ensures taken { IfOk result (λ writer. writer.taken ≡ 0) }
@@ -63,17 +71,19 @@ pub fn first_writer<F: Shape + Drop, P: Picker + Drop>(
     })
 }
 
-/// Writes what stands behind the rows, and all that isn't written yet.
+/// Writes what stands behind the rows, and all that isn't written yet, and ends the output.
 pub fn finish<F: Shape + Drop, P: Picker + Drop, G: Stage>(
     writer: &mut Writer<F, P>,
     stage: &mut G,
-) -> Result<(), TakeFault>
-    ensures text { OnOk result ((fresh : Bool) (names : List (List ℕ)) (rows : List (List Value)) (start : Option (List ℕ))
-        → IsUnderWay (F.has_text writer.old.shape fresh names rows) start (G.state stage.old).written writer.old.buffers.held
-        → Gains start (G.state stage.new).written (F.text writer.old.shape fresh names rows)) }
-    ensures front { OnErr result ((fresh : Bool) (names : List (List ℕ)) (rows : List (List Value)) (start : Option (List ℕ))
-        → IsUnderWay (F.has_text writer.old.shape fresh names rows) start (G.state stage.old).written writer.old.buffers.held
-        → GainsSome start (G.state stage.new).written (F.text writer.old.shape fresh names rows)) }
+) -> Result<Output, TakeFault>
+    ensures goes { G.goes stage.old stage.new }
+    ensures text { IfOk result (λ output. (fresh : Bool) (names : List (List ℕ)) (rows : List (List Value)) (start : OutputAt (kind_of G.state G.ended))
+        → IsUnderWay (F.has_text writer.old.shape fresh names rows) start (reached (kind_of G.state G.ended) writer.old.target stage.old) writer.old.buffers.held
+        → GainsText start (placed_at (kind_of G.state G.ended) writer.old.target.output output stage.new) (F.text writer.old.shape fresh names rows)) }
+    ensures ended { IfOk result (λ output. G.ended stage.new output.name output.base output.mark) }
+    ensures front { OnErr result ((fresh : Bool) (names : List (List ℕ)) (rows : List (List Value)) (start : OutputAt (kind_of G.state G.ended))
+        → IsUnderWay (F.has_text writer.old.shape fresh names rows) start (reached (kind_of G.state G.ended) writer.old.target stage.old) writer.old.buffers.held
+        → GainsFront start stage.new (F.text writer.old.shape fresh names rows)) }
     ensures output { writer.new.output ≡ writer.old.output }
     ensures later { G.faults stage.old ≤ G.faults stage.new }
     ensures failed { IsErrOf result TakeFault.Failed → Rose (G.faults stage.old) (G.faults stage.new) }
@@ -83,7 +93,11 @@ pub fn finish<F: Shape + Drop, P: Picker + Drop, G: Stage>(
         return Err(TakeFault::Memory);
     };
     match writer.target.end(stage, writer.buffers.held.as_slice()) {
-        Ok(()) => Ok(()),
+        Ok(mark) => Ok(Output {
+            name: writer.target.name.copy(),
+            base: writer.target.base,
+            mark,
+        }),
         Err(_) => Err(TakeFault::Failed),
     }
 }
@@ -125,28 +139,30 @@ pub fn write_spans<R: LineReader, L: Logs, F: Shape + Drop, P: Picker + Drop, G:
     most_bad: Option<u64>,
     took: &mut TookList,
     stage: &mut G,
-) -> Result<Counts, RunFault>
+) -> Result<Written, RunFault>
     requires there { Told (L.folder logs.old) (λ folder. AllSpans spans.now (λ span. span.listed ≤ length (bytes_in folder span.name))) }
     requires spans { AllSpans spans.now IsSpan }
     requires room { spans_size spans.now + length spans.now < 2 ^ 63 }
     ensures grows { OnlyGrow (L.folder logs.old) (L.folder logs.new) }
-    ensures text { OnOk result (Told (L.folder logs.new) (λ folder. AreKept (R.format reader.now) waits spans.now folder
-        → Gains (G.state stage.old).written (G.state stage.new).written (F.text shape fresh names.now (picked (P.picks picker) (spans_found (R.format reader.now) waits folder spans.now))))) }
-    ensures processed { IfOk result (λ counts. Told (L.folder logs.new) (λ folder. AreKept (R.format reader.now) waits spans.now folder
-        → counts.processed ≡ length (spans_found (R.format reader.now) waits folder spans.now))) }
-    ensures output { IfOk result (λ counts. Told (L.folder logs.new) (λ folder. AreKept (R.format reader.now) waits spans.now folder
-        → counts.output ≡ length (picked (P.picks picker) (spans_found (R.format reader.now) waits folder spans.now)))) }
-    ensures bad { IfOk result (λ counts. Told (L.folder logs.new) (λ folder. AreKept (R.format reader.now) waits spans.now folder
-        → counts.bad ≡ length (spans_bad (R.format reader.now) waits folder spans.now))) }
+    ensures goes { G.goes stage.old stage.new }
+    ensures text { IfOk result (λ written. Told (L.folder logs.new) (λ folder. AreKept (R.format reader.now) waits spans.now folder
+        → GainsText (reached (kind_of G.state G.ended) target stage.old) (placed_at (kind_of G.state G.ended) target.output written.output stage.new) (F.text shape fresh names.now (picked (P.picks picker) (spans_found (R.format reader.now) waits folder spans.now))))) }
+    ensures ended { IfOk result (λ written. G.ended stage.new written.output.name written.output.base written.output.mark) }
+    ensures processed { IfOk result (λ written. Told (L.folder logs.new) (λ folder. AreKept (R.format reader.now) waits spans.now folder
+        → written.counts.processed ≡ length (spans_found (R.format reader.now) waits folder spans.now))) }
+    ensures output { IfOk result (λ written. Told (L.folder logs.new) (λ folder. AreKept (R.format reader.now) waits spans.now folder
+        → written.counts.output ≡ length (picked (P.picks picker) (spans_found (R.format reader.now) waits folder spans.now)))) }
+    ensures bad { IfOk result (λ written. Told (L.folder logs.new) (λ folder. AreKept (R.format reader.now) waits spans.now folder
+        → written.counts.bad ≡ length (spans_bad (R.format reader.now) waits folder spans.now))) }
     ensures front { OnErr result (Told (L.folder logs.new) (λ folder. AreKept (R.format reader.now) waits spans.now folder
-        → GainsSome (G.state stage.old).written (G.state stage.new).written (F.text shape fresh names.now (picked (P.picks picker) (spans_found (R.format reader.now) waits folder spans.now))))) }
+        → GainsFront (reached (kind_of G.state G.ended) target stage.old) stage.new (F.text shape fresh names.now (picked (P.picks picker) (spans_found (R.format reader.now) waits folder spans.now))))) }
     ensures took { OnOk result (waits ≡ true → Told (L.folder logs.new) (λ folder. AreKept (R.format reader.now) true spans.now folder
         → took.new ≡ took.old ++ map (took_of (R.format reader.now) folder) spans.now)) }
     ensures given { L.given logs.new ≤ L.given logs.old + spans_size spans.now }
     ensures later_logs { L.faults logs.old ≤ L.faults logs.new }
     ensures logs { IsErrOf result RunFault.Logs → Rose (L.faults logs.old) (L.faults logs.new) }
     ensures later { G.faults stage.old ≤ G.faults stage.new }
-    ensures within { IfOk result (λ counts. IsWithin most_bad counts.bad) }
+    ensures within { IfOk result (λ written. IsWithin most_bad written.counts.bad) }
     ensures too_many { IfErr result (λ fault. OnBadLine fault (λ line. Told (L.folder logs.new) (λ folder. AreKept (R.format reader.now) waits spans.now folder
         → IsTooMany most_bad 0 (spans_bad_lines (R.format reader.now) waits folder spans.now) line))) }
     ensures stopped { IsErrOf result RunFault.Stopped → ⊥ }
@@ -163,10 +179,13 @@ pub fn write_spans<R: LineReader, L: Logs, F: Shape + Drop, P: Picker + Drop, G:
         alloc, reader, waits, logs, spans, &mut chunk, &mut page, took, stage,
     )?;
     match finish(&mut page.taker, stage) {
-        Ok(()) => Ok(Counts {
-            processed: page.rows,
-            output: page.taker.output,
-            bad: page.bad,
+        Ok(output) => Ok(Written {
+            counts: Counts {
+                processed: page.rows,
+                output: page.taker.output,
+                bad: page.bad,
+            },
+            output,
         }),
         Err(TakeFault::Memory) => Err(RunFault::Memory),
         Err(TakeFault::Stopped) => unreachable!(),

@@ -12,7 +12,7 @@ mod target;
 mod writer;
 mod writing;
 
-pub use executing::{Counts, finish, first_writer, write_spans};
+pub use executing::{Counts, Written, finish, first_writer, write_spans};
 pub use picker::Picker;
-pub use target::Target;
+pub use target::{Output, Target};
 pub use writer::{Buffers, Writer};

@@ -1,9 +1,8 @@
 // Rows to a stage, through a buffer.
-ghost use Rattle.std.specs.Prelude.{◌≡◌, ◌≤◌, ◌<◌, ◌++◌, ◌∷◌, [], ℕ, List, Bool, length, Option, OnOk, OnErr, IsErrOf};
-ghost use Rattle.lp_model.specs.Outside.{GainsSome, Rose};
+ghost use Rattle.std.specs.Prelude.{◌≡◌, ◌≤◌, ◌<◌, ◌++◌, ◌∷◌, [], ℕ, List, Bool, length, OnOk, OnErr, IsErrOf};
+ghost use Rattle.lp_model.specs.Outside.{Rose};
 ghost use Rattle.lp_values.specs.declared.value.Value.{Value};
-ghost use Rattle.lp_outside.specs.Moving.{Moves};
-ghost use Rattle.query_run.specs.Output.{IsUnderWay};
+ghost use Rattle.query_run.specs.Output.{kind_of, reached, OutputAt, GainsFront, MovesText, IsUnderWay};
 
 use crate::{Buffers, Target};
 use log_reading::TakeFault;
@@ -24,9 +23,10 @@ fn put_pieces<G: Stage>(
     buffers: &mut Buffers,
     stage: &mut G,
 ) -> Result<(), TakeFault>
-    ensures moves { OnOk result (Moves (G.state stage.old).written (G.state stage.new).written buffers.old.held buffers.new.held) }
+    ensures goes { G.goes stage.old stage.new }
+    ensures moves { OnOk result (MovesText (reached (kind_of G.state G.ended) target.old stage.old) (reached (kind_of G.state G.ended) target.new stage.new) buffers.old.held buffers.new.held) }
     ensures small { OnOk result (length buffers.new.held < 4096) }
-    ensures err { OnErr result (GainsSome (G.state stage.old).written (G.state stage.new).written buffers.old.held) }
+    ensures err { OnErr result (GainsFront (reached (kind_of G.state G.ended) target.old stage.old) stage.new buffers.old.held) }
     ensures later { G.faults stage.old ≤ G.faults stage.new }
     ensures failed { IsErrOf result TakeFault.Failed → Rose (G.faults stage.old) (G.faults stage.new) }
     ensures stopped { IsErrOf result TakeFault.Stopped → ⊥ }
@@ -52,9 +52,10 @@ fn put_full<G: Stage>(
     buffers: &mut Buffers,
     stage: &mut G,
 ) -> Result<(), TakeFault>
-    ensures moves { OnOk result (Moves (G.state stage.old).written (G.state stage.new).written buffers.old.held buffers.new.held) }
+    ensures goes { G.goes stage.old stage.new }
+    ensures moves { OnOk result (MovesText (reached (kind_of G.state G.ended) target.old stage.old) (reached (kind_of G.state G.ended) target.new stage.new) buffers.old.held buffers.new.held) }
     ensures small { OnOk result (length buffers.new.held < 65536) }
-    ensures err { OnErr result (GainsSome (G.state stage.old).written (G.state stage.new).written buffers.old.held) }
+    ensures err { OnErr result (GainsFront (reached (kind_of G.state G.ended) target.old stage.old) stage.new buffers.old.held) }
     ensures later { G.faults stage.old ≤ G.faults stage.new }
     ensures failed { IsErrOf result TakeFault.Failed → Rose (G.faults stage.old) (G.faults stage.new) }
     ensures stopped { IsErrOf result TakeFault.Stopped → ⊥ }
@@ -74,12 +75,13 @@ pub fn put_row<F: Shape, G: Stage>(
     buffers: &mut Buffers,
     stage: &mut G,
 ) -> Result<(), TakeFault>
-    ensures text { OnOk result ((fresh : Bool) (names : List (List ℕ)) (rows : List (List Value)) (start : Option (List ℕ))
-        → IsUnderWay (F.has_text shape.old fresh names rows) start (G.state stage.old).written buffers.old.held
-        → IsUnderWay (F.has_text shape.new fresh names (rows ++ row.now ∷ [])) start (G.state stage.new).written buffers.new.held) }
-    ensures front { OnErr result ((fresh : Bool) (names : List (List ℕ)) (rows more : List (List Value)) (start : Option (List ℕ))
-        → IsUnderWay (F.has_text shape.old fresh names rows) start (G.state stage.old).written buffers.old.held
-        → GainsSome start (G.state stage.new).written (F.text shape.old fresh names (rows ++ (row.now ∷ more)))) }
+    ensures goes { G.goes stage.old stage.new }
+    ensures text { OnOk result ((fresh : Bool) (names : List (List ℕ)) (rows : List (List Value)) (start : OutputAt (kind_of G.state G.ended))
+        → IsUnderWay (F.has_text shape.old fresh names rows) start (reached (kind_of G.state G.ended) target.old stage.old) buffers.old.held
+        → IsUnderWay (F.has_text shape.new fresh names (rows ++ row.now ∷ [])) start (reached (kind_of G.state G.ended) target.new stage.new) buffers.new.held) }
+    ensures front { OnErr result ((fresh : Bool) (names : List (List ℕ)) (rows more : List (List Value)) (start : OutputAt (kind_of G.state G.ended))
+        → IsUnderWay (F.has_text shape.old fresh names rows) start (reached (kind_of G.state G.ended) target.old stage.old) buffers.old.held
+        → GainsFront start stage.new (F.text shape.old fresh names (rows ++ (row.now ∷ more)))) }
     ensures format { F.text shape.new ≡ F.text shape.old }
     ensures small { OnOk result (length buffers.new.held < 65536) }
     ensures later { G.faults stage.old ≤ G.faults stage.new }

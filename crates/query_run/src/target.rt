@@ -1,7 +1,7 @@
 // Where an output's text goes.
-ghost use Rattle.std.specs.Prelude.{◌≡◌, ◌%◌, length, MatchResult, OnOk};
-ghost use Rattle.lp_model.specs.Outside.{HasCause, Gains, GainsSome};
-ghost use Rattle.lp_outside.specs.Stages.{no_mark, KeepsOthers, AddsText};
+ghost use Rattle.std.specs.Prelude.{◌≡◌, ◌%◌, length, OnOk, OnErr, IfOk};
+ghost use Rattle.lp_model.specs.Outside.{HasCause};
+ghost use Rattle.lp_outside.specs.Stages.{no_mark};
 
 use lp_outside::{Mark, Name, Stage, StageFailed};
 
@@ -15,7 +15,17 @@ pub struct Target {
     ghost whole: { mark.length % 4096 ≡ 0 },
 }
 
+/// An output whose text is whole: where the text begins in the file of that name, and the mark behind its last byte.
+#[derive(Drop)]
+pub struct Output {
+    pub name: Name,
+    pub base: u64,
+    pub mark: Mark,
+}
+
 impl Target {
+    ghost use Rattle.query_run.specs.Output.{kind_of, output_at, reached, GainsText, GainsFront};
+
     /// The output of an index, before its first byte.
     pub fn new(output: u32, name: Name, base: u64) -> Target
         ensures output { result.output ≡ output }
@@ -34,10 +44,10 @@ impl Target {
     /// Puts whole pieces, and moves the mark behind them.
     pub fn put<G: Stage>(&mut self, stage: &mut G, bytes: &[u8]) -> Result<(), StageFailed>
         requires { length bytes.now % 4096 ≡ 0 }
-        ensures written { MatchResult result (λ _. Gains (G.state stage.old).written (G.state stage.new).written bytes.now) (λ _. GainsSome (G.state stage.old).written (G.state stage.new).written bytes.now) }
+        ensures goes { G.goes stage.old stage.new }
+        ensures gained { OnOk result (GainsText (reached (kind_of G.state G.ended) self.old stage.old) (reached (kind_of G.state G.ended) self.new stage.new) bytes.now) }
+        ensures front { OnErr result (GainsFront (reached (kind_of G.state G.ended) self.old stage.old) stage.new bytes.now) }
         ensures cause { HasCause (G.faults stage.old) (G.faults stage.new) result }
-        ensures text { OnOk result ((G.state stage.old).tells → AddsText self.old.output self.old.name self.old.base self.old.mark self.new.mark bytes.now (G.state stage.old) (G.state stage.new)) }
-        ensures others { (G.state stage.old).tells → KeepsOthers self.old.output self.old.name (G.state stage.old) (G.state stage.new) }
         ensures output { self.new.output ≡ self.old.output }
         ensures name { self.new.name ≡ self.old.name }
         ensures base { self.new.base ≡ self.old.base }
@@ -48,14 +58,17 @@ impl Target {
         Ok(())
     }
 
-    /// Puts the last bytes, and ends the output.
-    pub fn end<G: Stage>(&self, stage: &mut G, bytes: &[u8]) -> Result<(), StageFailed>
-        ensures written { MatchResult result (λ _. Gains (G.state stage.old).written (G.state stage.new).written bytes.now) (λ _. GainsSome (G.state stage.old).written (G.state stage.new).written bytes.now) }
+    /// Puts the last bytes, ends the output, and answers the mark behind them.
+    pub fn end<G: Stage>(&self, stage: &mut G, bytes: &[u8]) -> Result<Mark, StageFailed>
+        ensures goes { G.goes stage.old stage.new }
+        ensures gained { IfOk result (λ mark. GainsText (reached (kind_of G.state G.ended) self.now stage.old) (output_at (kind_of G.state G.ended) self.now mark stage.new) bytes.now) }
+        ensures ended { IfOk result (λ mark. G.ended stage.new self.now.name self.now.base mark) }
+        ensures front { OnErr result (GainsFront (reached (kind_of G.state G.ended) self.now stage.old) stage.new bytes.now) }
         ensures cause { HasCause (G.faults stage.old) (G.faults stage.new) result }
     {
-        let mut mark = self.mark;
-        stage.put(self.output, &self.name, self.base, &mut mark, bytes)?;
-        stage.close(&self.name, self.base, &mark)?;
-        Ok(())
+        let mut last = self.mark;
+        stage.put(self.output, &self.name, self.base, &mut last, bytes)?;
+        stage.close(&self.name, self.base, &last)?;
+        Ok(last)
     }
 }

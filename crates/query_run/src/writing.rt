@@ -1,5 +1,6 @@
 // How a writer takes rows.
 ghost use Rattle.std.specs.Prelude.{◌≡◌, ◌≤◌, ◌<◌, ◌+◌, ◌^◌, ◌++◌, ◌∷◌, [], ℕ, List, Bool, length, Option, OnOk, OnErr, IfOk, IsErrOf};
+ghost use Rattle.query_run.specs.Output.{kind_of, reached};
 ghost use Rattle.query_run.specs.Writer.{Writes, Halts};
 ghost use Rattle.query_run.specs.Writing.{writes_none, writes_more, halts_here, halts_later, halts_more};
 
@@ -12,15 +13,21 @@ use output_formats::Shape;
 use std::alloc::Global;
 
 impl<F: Shape + Drop, P: Picker + Drop, G: Stage> Taker<G> for Writer<F, P> {
-    ghost takes = { λ a u xs b v. Writes F.text F.has_text P.picks a (G.state u).written xs b (G.state v).written };
+    ghost takes = { λ a u xs b v. Writes F.text F.has_text P.picks a (reached (kind_of G.state G.ended) a.target u) xs b (reached (kind_of G.state G.ended) b.target v) };
 
-    ghost stops = { λ a u xs b v. Halts F.text F.has_text P.picks a (G.state u).written xs (G.state v).written };
+    ghost stops = { λ a u xs b v. Halts F.text F.has_text P.picks a (reached (kind_of G.state G.ended) a.target u) xs v };
 
     ghost stopped = { λ w. ⊥ };
 
     ghost count = { λ w. w.taken };
 
     ghost faults = { G.faults };
+
+    ghost goes = { G.goes };
+
+    ghost goes_nowhere = { G.goes_nowhere };
+
+    ghost goes_on = { G.goes_on };
 
     fn take(
         &mut self,
@@ -63,13 +70,13 @@ impl<F: Shape + Drop, P: Picker + Drop, G: Stage> Taker<G> for Writer<F, P> {
         }
     }
 
-    ghost takes_none = { λ s w. writes_none F.text F.has_text P.picks s (G.state w).written };
+    ghost takes_none = { λ s w. writes_none F.text F.has_text P.picks s (reached (kind_of G.state G.ended) s.target w) };
 
-    ghost takes_more = { λ a b c u v w. writes_more F.text F.has_text P.picks a b c (G.state u).written (G.state v).written (G.state w).written };
+    ghost takes_more = { λ a b c u v w. writes_more F.text F.has_text P.picks a b c (reached (kind_of G.state G.ended) a.target u) (reached (kind_of G.state G.ended) b.target v) (reached (kind_of G.state G.ended) c.target w) };
 
-    ghost stops_here = { λ a b u v. halts_here F.text F.has_text P.picks F.begins a b (G.state u).written (G.state v).written };
+    ghost stops_here = { λ a b u v. halts_here F.text F.has_text P.picks F.begins a b (reached (kind_of G.state G.ended) a.target u) (reached (kind_of G.state G.ended) b.target v) };
 
-    ghost stops_later = { λ a b c u v w. halts_later F.text F.has_text P.picks a b (G.state u).written (G.state v).written (G.state w).written };
+    ghost stops_later = { λ a b c u v w. halts_later F.text F.has_text P.picks a b (reached (kind_of G.state G.ended) a.target u) (reached (kind_of G.state G.ended) b.target v) w };
 
-    ghost stops_more = { λ a c u w. halts_more F.text F.has_text P.picks a (G.state u).written (G.state w).written };
+    ghost stops_more = { λ a c u w. halts_more F.text F.has_text P.picks a (reached (kind_of G.state G.ended) a.target u) w };
 }

@@ -8,8 +8,6 @@
 mod reason;
 mod report;
 mod status;
-#[cfg(test)]
-mod tests;
 
 pub use report::{write_message, write_statistics};
 pub use status::Status;

@@ -7,8 +7,6 @@
 mod fault;
 mod file;
 mod request;
-#[cfg(test)]
-mod tests;
 mod text;
 
 pub use fault::RequestFault;

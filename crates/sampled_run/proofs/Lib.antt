@@ -6,5 +6,6 @@ mod SetsOnce
 mod Delimited
 mod Behind
 mod Ran
+mod Noted
 mod Answered
 mod Sizes

@@ -9,7 +9,8 @@ use Rattle.log_reading.specs.declared.span.RunFault.TheVariants as R
 use Rattle.log_reading.specs.declared.span.Span.{Span}
 use Rattle.log_reading.specs.Spans.{AreKept, BadLine, OnBadLine, span_found, spans_found}
 use Rattle.query_run.specs.Writing.{TextOf, HasTextOf}
-use Rattle.query_run.specs.declared.executing.Counts.{Counts}
+use Rattle.query_run.specs.Output.{StageKind, OutputAt}
+use Rattle.query_run.specs.declared.executing.Written.{Written}
 use Rattle.sampled_run.specs.declared.fault.SampleFault.{SampleFault}
 use Rattle.sampled_run.specs.declared.fault.SampleFault.TheVariants as F
 use Rattle.sampled_run.specs.declared.fault.Stop.{Stop}
@@ -38,13 +39,13 @@ behind_founds format waits folder past (span ∷ spans) =
 
 -- ---- the whole text
 
-pub ran : {F : Type 0} (text : TextOf F) (has_text : HasTextOf F) (rules : Rules) (format : Format) (told : Option Folder) (spans : List Span) (first last : Page (Sampling F)) (before mid after : Option (List ℕ)) (counts : Counts)
-    → Holds text has_text rules before nothing first.taker before → first.rows ≡ 0 → first.bad ≡ 0 → counts.processed ≡ last.rows → counts.bad ≡ last.bad
-    → Told told (λ folder. AreKept format false spans folder → SamplesSpans text has_text format false folder spans first last before mid)
-    → ((rules : Rules) (start : Option (List ℕ)) (past : Past) → Holds text has_text rules start past last.taker mid → IsWritten rules start past counts.output after)
-    → Told told (λ folder. AreKept format false spans folder → IsSampled rules before (past_behind format false folder nothing spans) format folder spans counts after)
-ran text has_text rules format None spans first last before mid after counts holds rows bad processed bads taken ends = tt
-ran text has_text rules format (Some folder) spans first last before mid after counts holds rows bad processed bads taken ends = λ kept.
+pub ran : {F : Type 0} {S : Type 0} {kind : StageKind S} (text : TextOf F) (has_text : HasTextOf F) (rules : Rules) (format : Format) (told : Option Folder) (spans : List Span) (first last : Page (Sampling F)) (before : OutputAt kind) (mid after : S) (run : Written)
+    → Holds text has_text rules before nothing first.taker before.stage → first.rows ≡ 0 → first.bad ≡ 0 → run.counts.processed ≡ last.rows → run.counts.bad ≡ last.bad
+    → Told told (λ folder. AreKept format false spans folder → SamplesSpans kind text has_text format false folder spans first last before.stage mid)
+    → ((rules : Rules) (start : OutputAt kind) (past : Past) → Holds text has_text rules start past last.taker mid → IsWritten rules start past run.counts.output run.output after)
+    → Told told (λ folder. AreKept format false spans folder → IsSampled rules before (past_behind format false folder nothing spans) format folder spans run after)
+ran text has_text rules format None spans first last before mid after run holds rows bad processed bads taken ends = tt
+ran text has_text rules format (Some folder) spans first last before mid after run holds rows bad processed bads taken ends = λ kept.
     let all = taken kept in
     let rows_now = all.rows in
     let bad_now = all.bad in
@@ -57,37 +58,37 @@ ran text has_text rules format (Some folder) spans first last before mid after c
 
 -- ---- a run that stopped
 
-read_stopped : (rules : Rules) (start : Option (List ℕ)) (past : Past) (fault : RunFault) (now : Option (List ℕ)) → IsFront rules start past now → IsStoppedBy rules start past (read_fault fault) now
+read_stopped : {S : Type 0} {kind : StageKind S} (rules : Rules) (start : OutputAt kind) (past : Past) (fault : RunFault) (now : S) → IsFront rules start past now → IsStoppedBy rules start past (read_fault fault) now
 read_stopped rules start past R.Memory now front = front
 read_stopped rules start past R.Logs now front = front
 read_stopped rules start past R.Output now front = front
 read_stopped rules start past R.Stopped now front = front
 read_stopped rules start past (R.Bad log row) now front = front
 
-phase_stopped : {F : Type 0} (rules : Rules) (start : Option (List ℕ)) (past : Past) (phase : Phase F) (fault : RunFault) (now : Option (List ℕ)) → PhaseStopped rules start past phase now → IsStoppedBy rules start past (fault_in phase fault) now
+phase_stopped : {F : Type 0} {S : Type 0} {kind : StageKind S} (rules : Rules) (start : OutputAt kind) (past : Past) (phase : Phase F) (fault : RunFault) (now : S) → PhaseStopped rules start past phase now → IsStoppedBy rules start past (fault_in phase fault) now
 phase_stopped rules start past (P.Gathering gathering) fault now stopped = read_stopped rules start past fault now stopped
 phase_stopped rules start past (P.Writing writer) fault now stopped = read_stopped rules start past fault now stopped
 phase_stopped rules start past (P.Refused plan) fault now stopped = stopped
 phase_stopped rules start past P.Lost fault now stopped = read_stopped rules start past fault now stopped
 
-pub stopped_reading : {F : Type 0} (text : TextOf F) (has_text : HasTextOf F) (rules : Rules) (format : Format) (told : Option Folder) (spans : List Span) (first last : Page (Sampling F)) (before now : Option (List ℕ)) (fault : RunFault)
-    → Holds text has_text rules before nothing first.taker before
-    → Told told (λ folder. AreKept format false spans folder → HaltsIn text has_text (spans_told format false folder spans) first.taker last.taker before now)
+pub stopped_reading : {F : Type 0} {S : Type 0} {kind : StageKind S} (text : TextOf F) (has_text : HasTextOf F) (rules : Rules) (format : Format) (told : Option Folder) (spans : List Span) (first last : Page (Sampling F)) (before : OutputAt kind) (now : S) (fault : RunFault)
+    → Holds text has_text rules before nothing first.taker before.stage
+    → Told told (λ folder. AreKept format false spans folder → HaltsIn kind text has_text (spans_told format false folder spans) first.taker last.taker before.stage now)
     → Told told (λ folder. AreKept format false spans folder → IsStoppedBy rules before (past_behind format false folder nothing spans) (fault_in last.taker.phase fault) now)
 stopped_reading text has_text rules format None spans first last before now fault holds halted = tt
 stopped_reading text has_text rules format (Some folder) spans first last before now fault holds halted = λ kept.
     let past = past_behind format false folder nothing spans in
     phase_stopped rules before past last.taker.phase fault now ((halted kept).within rules before nothing holds past (later_same past))
 
-stop_is : (rules : Rules) (start : Option (List ℕ)) (past : Past) (stop : Stop) (now : Option (List ℕ)) → IsStop rules start past stop now → IsStoppedBy rules start past (fault_of stop) now
+stop_is : {S : Type 0} {kind : StageKind S} (rules : Rules) (start : OutputAt kind) (past : Past) (stop : Stop) (now : S) → IsStop rules start past stop now → IsStoppedBy rules start past (fault_of stop) now
 stop_is rules start past (S.Plan fault) now is = is
 stop_is rules start past S.Output now is = is
 stop_is rules start past S.Memory now is = is
 
-pub stopped_ending : {F : Type 0} (text : TextOf F) (has_text : HasTextOf F) (rules : Rules) (format : Format) (told : Option Folder) (spans : List Span) (first last : Page (Sampling F)) (before mid after : Option (List ℕ)) (stop : Stop)
-    → Holds text has_text rules before nothing first.taker before
-    → Told told (λ folder. AreKept format false spans folder → SamplesSpans text has_text format false folder spans first last before mid)
-    → ((rules : Rules) (start : Option (List ℕ)) (past : Past) → Holds text has_text rules start past last.taker mid → IsStop rules start past stop after)
+pub stopped_ending : {F : Type 0} {S : Type 0} {kind : StageKind S} (text : TextOf F) (has_text : HasTextOf F) (rules : Rules) (format : Format) (told : Option Folder) (spans : List Span) (first last : Page (Sampling F)) (before : OutputAt kind) (mid after : S) (stop : Stop)
+    → Holds text has_text rules before nothing first.taker before.stage
+    → Told told (λ folder. AreKept format false spans folder → SamplesSpans kind text has_text format false folder spans first last before.stage mid)
+    → ((rules : Rules) (start : OutputAt kind) (past : Past) → Holds text has_text rules start past last.taker mid → IsStop rules start past stop after)
     → Told told (λ folder. AreKept format false spans folder → IsStoppedBy rules before (past_behind format false folder nothing spans) (fault_of stop) after)
 stopped_ending text has_text rules format None spans first last before mid after stop holds taken ends = tt
 stopped_ending text has_text rules format (Some folder) spans first last before mid after stop holds taken ends = λ kept.
@@ -95,10 +96,10 @@ stopped_ending text has_text rules format (Some folder) spans first last before 
     stop_is rules before past stop after (ends rules before past ((taken kept).along rules before nothing holds))
 
 -- nothing was read
-pub stopped_at_once : (rules : Rules) (format : Format) (told : Option Folder) (spans : List Span) (now : Option (List ℕ))
-    → Told told (λ folder. AreKept format false spans folder → IsStoppedBy rules now (past_behind format false folder nothing spans) F.Memory now)
-stopped_at_once rules format None spans now = tt
-stopped_at_once rules format (Some folder) spans now = λ kept. inl refl
+pub stopped_at_once : {S : Type 0} {kind : StageKind S} (rules : Rules) (format : Format) (told : Option Folder) (spans : List Span) (start : OutputAt kind)
+    → Told told (λ folder. AreKept format false spans folder → IsStoppedBy rules start (past_behind format false folder nothing spans) F.Memory start.stage)
+stopped_at_once rules format None spans start = tt
+stopped_at_once rules format (Some folder) spans start = λ kept. inl refl
 
 -- ---- faults
 
@@ -162,15 +163,15 @@ output_of S.Memory e = absurd cc
 
 -- ---- CSV and TSV
 
-pub ran_told : (rules : Rules) (format : Format) → SetsOnce format → (told : Option Folder) (spans : List Span) (before after : Option (List ℕ)) (counts : Counts)
-    → Told told (λ folder. AreKept format false spans folder → IsSampled rules before (past_behind format false folder nothing spans) format folder spans counts after)
-    → Told told (λ folder. AreKept format false spans folder → IsSampled rules before (past_of format false folder spans) format folder spans counts after)
-ran_told rules format sets None spans before after counts ran = tt
-ran_told rules format sets (Some folder) spans before after counts ran = λ kept.
-    let Of : Past → Type 0 = λ past. IsSampled rules before past format folder spans counts after in
+pub ran_told : {S : Type 0} {kind : StageKind S} (rules : Rules) (format : Format) → SetsOnce format → (told : Option Folder) (spans : List Span) (before : OutputAt kind) (after : S) (run : Written)
+    → Told told (λ folder. AreKept format false spans folder → IsSampled rules before (past_behind format false folder nothing spans) format folder spans run after)
+    → Told told (λ folder. AreKept format false spans folder → IsSampled rules before (past_of format false folder spans) format folder spans run after)
+ran_told rules format sets None spans before after run ran = tt
+ran_told rules format sets (Some folder) spans before after run ran = λ kept.
+    let Of : Past → Type 0 = λ past. IsSampled rules before past format folder spans run after in
     subst Of (behind_all format sets false folder spans kept) (ran kept)
 
-pub stopped_told : (rules : Rules) (format : Format) → SetsOnce format → (told : Option Folder) (spans : List Span) (before after : Option (List ℕ)) (fault : SampleFault)
+pub stopped_told : {S : Type 0} {kind : StageKind S} (rules : Rules) (format : Format) → SetsOnce format → (told : Option Folder) (spans : List Span) (before : OutputAt kind) (after : S) (fault : SampleFault)
     → Told told (λ folder. AreKept format false spans folder → IsStoppedBy rules before (past_behind format false folder nothing spans) fault after)
     → Told told (λ folder. AreKept format false spans folder → IsStoppedBy rules before (past_of format false folder spans) fault after)
 stopped_told rules format sets None spans before after fault stopped = tt

@@ -11,6 +11,7 @@ use Rattle.log_reading.specs.declared.span.Span.{Span}
 use Rattle.log_reading.specs.Spans.{BadLine, IsKept, TakesSpan, TakesSpans, AllSpans, AreKept, cut_of, span_found, span_bad, span_bad_lines, spans_found, spans_bad, spans_bad_lines}
 use Rattle.log_reading.specs.Page.{IsTooMany}
 use Rattle.log_reading.proofs.SpansTaken.{spans_exceeded}
+use Rattle.query_run.specs.Output.{StageKind, OutputAt}
 use Rattle.query_run.specs.Writing.{TextOf, HasTextOf}
 use Rattle.sampled_run.specs.Past.{Past, Later, Rules, noted, past_with}
 use Rattle.sampled_run.specs.Spans.{past_behind, past_behind_span}
@@ -23,27 +24,27 @@ use Rattle.sampled_run.specs.declared.phase.Sampling.{Sampling}
 -- ---- one log
 
 -- its records, and then its columns
-pub one_taken : {F O : Type 0} (state : O → Option (List ℕ)) (text : TextOf F) (has_text : HasTextOf F) (format : Format) (waits : Bool) (told : Option Folder) (span : Span) (a b c : Page (Sampling F)) (x y : O) (columns : Option Columns)
-    → ((rules : Rules) (start now : Option (List ℕ)) (past : Past) → Holds text has_text rules start past b.taker now → Holds text has_text rules start (noted past span.identity columns) c.taker now)
+pub one_taken : {F : Type 0} {S : Type 0} {kind : StageKind S} (text : TextOf F) (has_text : HasTextOf F) (format : Format) (waits : Bool) (told : Option Folder) (span : Span) (a b c : Page (Sampling F)) (x y : S) (columns : Option Columns)
+    → ((rules : Rules) (start : OutputAt kind) (now : S) (past : Past) → Holds text has_text rules start past b.taker now → Holds text has_text rules start (noted past span.identity columns) c.taker now)
     → c.rows ≡ b.rows → c.bad ≡ b.bad → columns ≡ b.standing.columns
-    → Told told (λ folder. IsKept format waits (cut_of folder span) span → TakesSpan (λ (old : Sampling F) (before : O) founds new now. Samples text has_text old (state before) founds new (state now)) format waits folder span a b x y)
+    → Told told (λ folder. IsKept format waits (cut_of folder span) span → TakesSpan (λ (old : Sampling F) (before : S) founds new now. Samples kind text has_text old before founds new now) format waits folder span a b x y)
     → Told told (λ folder. IsKept format waits (cut_of folder span) span → b.standing ≡ standing_at format (cut_of folder span) waits (length (cut_of folder span)))
-    → Told told (λ folder. IsKept format waits (cut_of folder span) span → SamplesSpan text has_text format waits folder span a c (state x) (state y))
-one_taken state text has_text format waits None span a b c x y columns notes rows bad same taken standing = tt
-one_taken state text has_text format waits (Some folder) span a b c x y columns notes rows bad same taken standing = λ kept.
+    → Told told (λ folder. IsKept format waits (cut_of folder span) span → SamplesSpan kind text has_text format waits folder span a c x y)
+one_taken text has_text format waits None span a b c x y columns notes rows bad same taken standing = tt
+one_taken text has_text format waits (Some folder) span a b c x y columns notes rows bad same taken standing = λ kept.
     let is : columns ≡ (standing_at format (cut_of folder span) waits (length (cut_of folder span))).columns = same ∙ ap (λ (s : Standing). s.columns) (standing kept) in
     record {
       along = λ rules start past holds.
-          let Of : Option Columns → Type 0 = λ t. Holds text has_text rules start (noted (past_with past (span_found format waits folder span)) span.identity t) c.taker (state y) in
-          subst Of is (notes rules start (state y) (past_with past (span_found format waits folder span)) ((taken kept).done.along rules start past holds));
+          let Of : Option Columns → Type 0 = λ t. Holds text has_text rules start (noted (past_with past (span_found format waits folder span)) span.identity t) c.taker y in
+          subst Of is (notes rules start y (past_with past (span_found format waits folder span)) ((taken kept).done.along rules start past holds));
       rows = rows ∙ (taken kept).rows;
       bad = bad ∙ (taken kept).bad;
     }
 
 -- it stopped within its records
-pub one_halted : {F : Type 0} (text : TextOf F) (has_text : HasTextOf F) (format : Format) (waits : Bool) (told : Option Folder) (span : Span) (a b : Sampling F) (u v : Option (List ℕ))
-    → Told told (λ folder. IsKept format waits (cut_of folder span) span → Halts text has_text a u (span_found format waits folder span) b v)
-    → Told told (λ folder. IsKept format waits (cut_of folder span) span → HaltsIn text has_text (span_told format waits folder span) a b u v)
+pub one_halted : {F : Type 0} {S : Type 0} {kind : StageKind S} (text : TextOf F) (has_text : HasTextOf F) (format : Format) (waits : Bool) (told : Option Folder) (span : Span) (a b : Sampling F) (u v : S)
+    → Told told (λ folder. IsKept format waits (cut_of folder span) span → Halts kind text has_text a u (span_found format waits folder span) b v)
+    → Told told (λ folder. IsKept format waits (cut_of folder span) span → HaltsIn kind text has_text (span_told format waits folder span) a b u v)
 one_halted text has_text format waits None span a b u v halted = tt
 one_halted text has_text format waits (Some folder) span a b u v halted = λ kept. record {
   within = λ rules start past holds later follows.
@@ -53,17 +54,17 @@ one_halted text has_text format waits (Some folder) span a b u v halted = λ kep
 }
 
 -- it stopped behind its records
-pub one_stopped : {F O : Type 0} (state : O → Option (List ℕ)) (text : TextOf F) (has_text : HasTextOf F) (begins : BeginsOf F text has_text) (format : Format) (waits : Bool) (told : Option Folder) (span : Span) (a b : Page (Sampling F)) (last : Sampling F) (x y : O)
+pub one_stopped : {F : Type 0} {S : Type 0} {kind : StageKind S} (text : TextOf F) (has_text : HasTextOf F) (begins : BeginsOf F text has_text) (format : Format) (waits : Bool) (told : Option Folder) (span : Span) (a b : Page (Sampling F)) (last : Sampling F) (x y : S)
     → last.phase ≡ b.taker.phase
-    → Told told (λ folder. IsKept format waits (cut_of folder span) span → TakesSpan (λ (old : Sampling F) (before : O) founds new now. Samples text has_text old (state before) founds new (state now)) format waits folder span a b x y)
-    → Told told (λ folder. IsKept format waits (cut_of folder span) span → HaltsIn text has_text (span_told format waits folder span) a.taker last (state x) (state y))
-one_stopped {F = F} state text has_text begins format waits None span a b last x y same taken = tt
-one_stopped {F = F} state text has_text begins format waits (Some folder) span a b last x y same taken = λ kept. record {
+    → Told told (λ folder. IsKept format waits (cut_of folder span) span → TakesSpan (λ (old : Sampling F) (before : S) founds new now. Samples kind text has_text old before founds new now) format waits folder span a b x y)
+    → Told told (λ folder. IsKept format waits (cut_of folder span) span → HaltsIn kind text has_text (span_told format waits folder span) a.taker last x y)
+one_stopped {F = F} text has_text begins format waits None span a b last x y same taken = tt
+one_stopped {F = F} text has_text begins format waits (Some folder) span a b last x y same taken = λ kept. record {
   within = λ rules start past holds later follows.
       let behind = past_with past (span_found format waits folder span) in
-      let Of : Phase F → Type 0 = λ p. PhaseStopped rules start later p (state y) in
+      let Of : Phase F → Type 0 = λ p. PhaseStopped rules start later p y in
       subst Of (sym same)
-      (stopped_between text has_text begins rules start (state y) behind later b.taker
+      (stopped_between text has_text begins rules start y behind later b.taker
       (later_trans behind (past_behind_span format waits folder past span) later (later_noted behind span.identity (standing_at format (cut_of folder span) waits (length (cut_of folder span))).columns) follows)
       ((taken kept).done.along rules start past holds));
 }
@@ -136,17 +137,17 @@ later_spans format waits folder past (span ∷ spans) =
 
 -- ---- the logs of a run
 
-pub samples_nothing : {F : Type 0} (text : TextOf F) (has_text : HasTextOf F) (format : Format) (waits : Bool) (told : Option Folder) (spans : List Span) (page : Page (Sampling F)) (w : Option (List ℕ))
-    → Told told (λ folder. AreKept format waits spans folder → SamplesSpans text has_text format waits folder [] page page w w)
+pub samples_nothing : {F : Type 0} {S : Type 0} {kind : StageKind S} (text : TextOf F) (has_text : HasTextOf F) (format : Format) (waits : Bool) (told : Option Folder) (spans : List Span) (page : Page (Sampling F)) (w : S)
+    → Told told (λ folder. AreKept format waits spans folder → SamplesSpans kind text has_text format waits folder [] page page w w)
 samples_nothing text has_text format waits None spans page w = tt
 samples_nothing text has_text format waits (Some folder) spans page w = λ kept. record { along = λ rules start past holds. holds; rows = omega arith; bad = omega arith }
 
 -- one log more was taken
-pub samples_one_more : {F : Type 0} (text : TextOf F) (has_text : HasTextOf F) (format : Format) (waits : Bool) (first second : Option Folder) (spans : List Span) (i : ℕ) (span : Span) (a b c : Page (Sampling F)) (u v w : Option (List ℕ)) → i < length spans → span ≡ get_or spans i span
+pub samples_one_more : {F : Type 0} {S : Type 0} {kind : StageKind S} (text : TextOf F) (has_text : HasTextOf F) (format : Format) (waits : Bool) (first second : Option Folder) (spans : List Span) (i : ℕ) (span : Span) (a b c : Page (Sampling F)) (u v w : S) → i < length spans → span ≡ get_or spans i span
     → OnlyGrow first second → Told first (λ folder. AllSpans spans (λ s. s.listed ≤ length (bytes_in folder s.name)))
-    → Told first (λ folder. AreKept format waits spans folder → SamplesSpans text has_text format waits folder (take i spans) a b u v)
-    → Told second (λ folder. IsKept format waits (cut_of folder span) span → SamplesSpan text has_text format waits folder span b c v w)
-    → Told second (λ folder. AreKept format waits spans folder → SamplesSpans text has_text format waits folder (take (i + 1) spans) a c u w)
+    → Told first (λ folder. AreKept format waits spans folder → SamplesSpans kind text has_text format waits folder (take i spans) a b u v)
+    → Told second (λ folder. IsKept format waits (cut_of folder span) span → SamplesSpan kind text has_text format waits folder span b c v w)
+    → Told second (λ folder. AreKept format waits spans folder → SamplesSpans kind text has_text format waits folder (take (i + 1) spans) a c u w)
 samples_one_more text has_text format waits None None spans i span a b c u v w lt is grows there f s = tt
 samples_one_more text has_text format waits None (Some y) spans i span a b c u v w lt is grows there f s = let e : Some y ≡ None = grows in cc
 samples_one_more text has_text format waits (Some x) None spans i span a b c u v w lt is grows there f s = tt
@@ -178,11 +179,11 @@ samples_one_more text has_text format waits (Some x) (Some y) spans i span a b c
     }
 
 -- it stopped within a log
-pub halted_within : {F : Type 0} (text : TextOf F) (has_text : HasTextOf F) (format : Format) (waits : Bool) (first second : Option Folder) (spans : List Span) (i : ℕ) (span : Span) (a b z : Page (Sampling F)) (u v w : Option (List ℕ)) → i < length spans → span ≡ get_or spans i span
+pub halted_within : {F : Type 0} {S : Type 0} {kind : StageKind S} (text : TextOf F) (has_text : HasTextOf F) (format : Format) (waits : Bool) (first second : Option Folder) (spans : List Span) (i : ℕ) (span : Span) (a b z : Page (Sampling F)) (u v w : S) → i < length spans → span ≡ get_or spans i span
     → OnlyGrow first second → Told first (λ folder. AllSpans spans (λ s. s.listed ≤ length (bytes_in folder s.name)))
-    → Told first (λ folder. AreKept format waits spans folder → SamplesSpans text has_text format waits folder (take i spans) a b u v)
-    → Told second (λ folder. IsKept format waits (cut_of folder span) span → HaltsIn text has_text (span_told format waits folder span) b.taker z.taker v w)
-    → Told second (λ folder. AreKept format waits spans folder → HaltsIn text has_text (spans_told format waits folder spans) a.taker z.taker u w)
+    → Told first (λ folder. AreKept format waits spans folder → SamplesSpans kind text has_text format waits folder (take i spans) a b u v)
+    → Told second (λ folder. IsKept format waits (cut_of folder span) span → HaltsIn kind text has_text (span_told format waits folder span) b.taker z.taker v w)
+    → Told second (λ folder. AreKept format waits spans folder → HaltsIn kind text has_text (spans_told format waits folder spans) a.taker z.taker u w)
 halted_within text has_text format waits None None spans i span a b z u v w lt is grows there f s = tt
 halted_within text has_text format waits None (Some y) spans i span a b z u v w lt is grows there f s = let e : Some y ≡ None = grows in cc
 halted_within text has_text format waits (Some x) None spans i span a b z u v w lt is grows there f s = tt
@@ -206,18 +207,18 @@ halted_within text has_text format waits (Some x) (Some y) spans i span a b z u 
 
 -- ---- bad lines
 
-counted : {F : Type 0} (text : TextOf F) (has_text : HasTextOf F) (format : Format) (waits : Bool) (told : Option Folder) (all spans : List Span) (a b : Page (Sampling F)) (u v : Option (List ℕ))
-    → Told told (λ folder. AreKept format waits all folder → SamplesSpans text has_text format waits folder spans a b u v)
-    → Told told (λ folder. AreKept format waits all folder → TakesSpans (λ (old : Sampling F) (before : Option (List ℕ)) founds new now. Unit {0}) format waits folder spans a b u v)
+counted : {F : Type 0} {S : Type 0} {kind : StageKind S} (text : TextOf F) (has_text : HasTextOf F) (format : Format) (waits : Bool) (told : Option Folder) (all spans : List Span) (a b : Page (Sampling F)) (u v : S)
+    → Told told (λ folder. AreKept format waits all folder → SamplesSpans kind text has_text format waits folder spans a b u v)
+    → Told told (λ folder. AreKept format waits all folder → TakesSpans (λ (old : Sampling F) (before : S) founds new now. Unit {0}) format waits folder spans a b u v)
 counted text has_text format waits None all spans a b u v f = tt
 counted text has_text format waits (Some folder) all spans a b u v f = λ kept. record { done = tt; rows = (f kept).rows; bad = (f kept).bad }
 
 -- a bad line of a log was one too many
-pub exceeded : {F : Type 0} (text : TextOf F) (has_text : HasTextOf F) (format : Format) (waits : Bool) (first second : Option Folder) (spans : List Span) (i : ℕ) (span : Span) (a b : Page (Sampling F)) (u v : Option (List ℕ)) (line : BadLine) → i < length spans → span ≡ get_or spans i span
+pub exceeded : {F : Type 0} {S : Type 0} {kind : StageKind S} (text : TextOf F) (has_text : HasTextOf F) (format : Format) (waits : Bool) (first second : Option Folder) (spans : List Span) (i : ℕ) (span : Span) (a b : Page (Sampling F)) (u v : S) (line : BadLine) → i < length spans → span ≡ get_or spans i span
     → OnlyGrow first second → Told first (λ folder. AllSpans spans (λ s. s.listed ≤ length (bytes_in folder s.name))) → b.most_bad ≡ a.most_bad
-    → Told first (λ folder. AreKept format waits spans folder → SamplesSpans text has_text format waits folder (take i spans) a b u v)
+    → Told first (λ folder. AreKept format waits spans folder → SamplesSpans kind text has_text format waits folder (take i spans) a b u v)
     → Told second (λ folder. IsKept format waits (cut_of folder span) span → IsTooMany b.most_bad b.bad (span_bad_lines format waits folder span) line)
     → Told second (λ folder. AreKept format waits spans folder → IsTooMany a.most_bad a.bad (spans_bad_lines format waits folder spans) line)
-exceeded {F = F} text has_text format waits first second spans i span a b u v line lt is grows there most f s =
-    spans_exceeded (λ (old : Sampling F) (before : Option (List ℕ)) founds new now. Unit {0}) format waits first second spans i span a b u v line lt is grows there most
+exceeded {F = F} {S = S} text has_text format waits first second spans i span a b u v line lt is grows there most f s =
+    spans_exceeded (λ (old : Sampling F) (before : S) founds new now. Unit {0}) format waits first second spans i span a b u v line lt is grows there most
     (counted text has_text format waits first spans (take i spans) a b u v f) s

@@ -2,7 +2,8 @@
 use Rattle.std.specs.Prelude.{◌≡◌, ℕ, Bool, true, List, [], ◌∷◌, ◌++◌, Option, Some, None}
 use Rattle.std.proofs.Common.{ap, ap₂, sym, ◌∙◌, refl, subst, append_assoc, inl, inr}
 use Rattle.std.proofs.lemmas.List.{append-nil}
-use Rattle.lp_model.specs.Outside.{Begins, GainsSome}
+use Rattle.lp_model.specs.Outside.{Begins}
+use Rattle.query_run.specs.Output.{StageKind, OutputAt, reached, GainsFront}
 use Rattle.lp_time.specs.declared.piece.Piece.{Piece}
 use Rattle.lp_values.specs.declared.value.Value.{Value}
 use Rattle.log_reading.specs.Found.{Found}
@@ -16,7 +17,8 @@ use Rattle.sampled_table.specs.Judged.{judged, table_of}
 use Rattle.sampled_table.specs.Picks.{sampled_picks}
 use Rattle.sampled_table.proofs.Staying.{judged_stays}
 use Rattle.sampled_run.specs.Past.{Past, Later, Rules, first_seen, past_with, or_first, log_with, noted, told_at, rows_with, rows_at, text_at}
-use Rattle.sampled_run.specs.Holds.{Begun, IsTold, PhaseHolds, Holds, IsFront, IsWithin, PhaseStopped}
+use Rattle.sampled_run.specs.Holds.{Begun, Gathers, IsTold, PhaseHolds, Holds, IsFront, IsWithin, PhaseStopped}
+use Rattle.sampled_run.specs.declared.phase.Gathering.{Gathering}
 use Rattle.sampled_run.specs.declared.phase.Phase.{Phase}
 use Rattle.sampled_run.specs.declared.phase.Phase.TheVariants as P
 use Rattle.sampled_run.specs.declared.phase.Sampling.{Sampling}
@@ -25,12 +27,12 @@ abbrev pub BeginsOf : (F : Type 0) → TextOf F → HasTextOf F → Type 0
 BeginsOf F text has_text = (s : F) (fresh : Bool) (names : List (List ℕ)) (rows more : List (List Value)) (so_far : List ℕ) → has_text s fresh names rows so_far → Begins so_far (text s fresh names (rows ++ more))
 
 -- whatever the records before, a run has taken these too
-pub record Samples {F : Type 0} (text : TextOf F) (has_text : HasTextOf F) (old : Sampling F) (before : Option (List ℕ)) (founds : List Found) (new : Sampling F) (now : Option (List ℕ)) : Type 0 where
-  pub along : (rules : Rules) (start : Option (List ℕ)) (past : Past) → Holds text has_text rules start past old before → Holds text has_text rules start (past_with past founds) new now
+pub record Samples {F S : Type 0} (kind : StageKind S) (text : TextOf F) (has_text : HasTextOf F) (old : Sampling F) (before : S) (founds : List Found) (new : Sampling F) (now : S) : Type 0 where
+  pub along : (rules : Rules) (start : OutputAt kind) (past : Past) → Holds text has_text rules start past old before → Holds text has_text rules start (past_with past founds) new now
 
 -- whatever the records before and those that follow, a run has stopped within these
-pub record Halts {F : Type 0} (text : TextOf F) (has_text : HasTextOf F) (old : Sampling F) (before : Option (List ℕ)) (founds : List Found) (new : Sampling F) (now : Option (List ℕ)) : Type 0 where
-  pub within : (rules : Rules) (start : Option (List ℕ)) (past : Past) → Holds text has_text rules start past old before → (later : Past) → Later (past_with past founds) later → PhaseStopped rules start later new.phase now
+pub record Halts {F S : Type 0} (kind : StageKind S) (text : TextOf F) (has_text : HasTextOf F) (old : Sampling F) (before : S) (founds : List Found) (new : Sampling F) (now : S) : Type 0 where
+  pub within : (rules : Rules) (start : OutputAt kind) (past : Past) → Holds text has_text rules start past old before → (later : Past) → Later (past_with past founds) later → PhaseStopped rules start later new.phase now
 
 -- ---- the records so far
 
@@ -80,52 +82,56 @@ told_stays rules past later is follows =
 pub rows_more : (pattern : List Piece) (told : Judged) (plan : Planned) (xs ys : List Found) → rows_with pattern told plan (xs ++ ys) ≡ rows_with pattern told plan xs ++ rows_with pattern told plan ys
 rows_more pattern told plan xs ys = picked-append (sampled_picks pattern told plan.items plan.condition) xs ys
 
-pub within_later : {F : Type 0} (text : TextOf F) (has_text : HasTextOf F) (begins : BeginsOf F text has_text) (rules : Rules) (start now : Option (List ℕ)) (past later : Past) (writer : Writer F SampledPicker)
+pub within_later : {F : Type 0} {S : Type 0} {kind : StageKind S} (text : TextOf F) (has_text : HasTextOf F) (begins : BeginsOf F text has_text) (rules : Rules) (start : OutputAt kind) (now : S) (past later : Past) (writer : Writer F SampledPicker)
     → told_at rules later ≡ told_at rules past → Later past later → Begun text has_text rules start past writer now → IsWithin rules start later now
-within_later text has_text begins rules start now past later writer same follows begun =
+within_later {kind = kind} text has_text begins rules start now past later writer same follows begun =
     let plan = planned_in writer.picker.ready.plan in
     let more = rows_with rules.pattern (told_at rules past) plan follows.more in
     let rows : rows_at rules later plan ≡ rows_at rules past plan ++ more =
     ap₂ (λ told founds. rows_with rules.pattern told plan founds) same follows.founds ∙ rows_more rules.pattern (told_at rules past) plan past.founds follows.more in
     let whole : text writer.shape true plan.names (rows_at rules past plan ++ more) ≡ text_at rules later plan =
     ap (λ t. t true plan.names (rows_at rules past plan ++ more)) begun.format ∙ ap (rules.text true plan.names) (sym rows) in
-    let Of : List ℕ → Type 0 = λ t. GainsSome start now t in
+    let Of : List ℕ → Type 0 = λ t. GainsFront start now t in
     record {
       plan = plan;
       planned = ap (λ told. plan_of (table_of told) rules.moment rules.query) same ∙ begun.planned;
-      front = subst Of whole (front_of text has_text begins writer.shape true plan.names (rows_at rules past plan) more start now writer.buffers.held begun.under_way);
+      front = subst Of whole (front_of text has_text begins writer.shape true plan.names (rows_at rules past plan) more start (reached kind writer.target now) writer.buffers.held begun.under_way);
     }
 
-phase_stopped : {F : Type 0} (text : TextOf F) (has_text : HasTextOf F) (begins : BeginsOf F text has_text) (rules : Rules) (start now : Option (List ℕ)) (past later : Past) (phase : Phase F)
+-- where nothing was written the stage is as it was
+pub stage_same : {F : Type 0} {S : Type 0} {kind : StageKind S} (text : TextOf F) (rules : Rules) (start : OutputAt kind) (past : Past) (gathering : Gathering F) (now : S) → Gathers text rules start past gathering now → now ≡ start.stage
+stage_same {kind = kind} text rules start past gathering now gathers = ap (λ (o : OutputAt kind). o.stage) gathers.nothing
+
+phase_stopped : {F : Type 0} {S : Type 0} {kind : StageKind S} (text : TextOf F) (has_text : HasTextOf F) (begins : BeginsOf F text has_text) (rules : Rules) (start : OutputAt kind) (now : S) (past later : Past) (phase : Phase F)
     → Later past later → PhaseHolds text has_text rules start past phase now → PhaseStopped rules start later phase now
-phase_stopped text has_text begins rules start now past later (P.Gathering gathering) follows holds = inl holds.nothing
+phase_stopped text has_text begins rules start now past later (P.Gathering gathering) follows holds = inl (stage_same text rules start past gathering now holds)
 phase_stopped text has_text begins rules start now past later (P.Writing writer) follows holds = inr (within_later text has_text begins rules start now past later writer (told_stays rules past later holds.told follows) follows holds.begun)
 phase_stopped text has_text begins rules start now past later (P.Refused fault) follows holds = absurd holds
 phase_stopped text has_text begins rules start now past later P.Lost follows holds = absurd holds
 
-pub phase_front : {F : Type 0} (text : TextOf F) (has_text : HasTextOf F) (begins : BeginsOf F text has_text) (rules : Rules) (start now : Option (List ℕ)) (past later : Past) (phase : Phase F)
+pub phase_front : {F : Type 0} {S : Type 0} {kind : StageKind S} (text : TextOf F) (has_text : HasTextOf F) (begins : BeginsOf F text has_text) (rules : Rules) (start : OutputAt kind) (now : S) (past later : Past) (phase : Phase F)
     → Later past later → PhaseHolds text has_text rules start past phase now → IsFront rules start later now
-phase_front text has_text begins rules start now past later (P.Gathering gathering) follows holds = inl holds.nothing
+phase_front text has_text begins rules start now past later (P.Gathering gathering) follows holds = inl (stage_same text rules start past gathering now holds)
 phase_front text has_text begins rules start now past later (P.Writing writer) follows holds = inr (within_later text has_text begins rules start now past later writer (told_stays rules past later holds.told follows) follows holds.begun)
 phase_front text has_text begins rules start now past later (P.Refused fault) follows holds = absurd holds
 phase_front text has_text begins rules start now past later P.Lost follows holds = absurd holds
 
 -- a run that stops between two records
-pub stopped_between : {F : Type 0} (text : TextOf F) (has_text : HasTextOf F) (begins : BeginsOf F text has_text) (rules : Rules) (start now : Option (List ℕ)) (past later : Past) (sampling : Sampling F)
+pub stopped_between : {F : Type 0} {S : Type 0} {kind : StageKind S} (text : TextOf F) (has_text : HasTextOf F) (begins : BeginsOf F text has_text) (rules : Rules) (start : OutputAt kind) (now : S) (past later : Past) (sampling : Sampling F)
     → Later past later → Holds text has_text rules start past sampling now → PhaseStopped rules start later sampling.phase now
 stopped_between text has_text begins rules start now past later sampling follows holds = phase_stopped text has_text begins rules start now past later sampling.phase follows holds.phase
 
 -- ---- the laws of a taker
 
-pub samples_none : {F : Type 0} (text : TextOf F) (has_text : HasTextOf F) (s : Sampling F) (w : Option (List ℕ)) → Samples text has_text s w [] s w
+pub samples_none : {F : Type 0} {S : Type 0} {kind : StageKind S} (text : TextOf F) (has_text : HasTextOf F) (s : Sampling F) (w : S) → Samples kind text has_text s w [] s w
 samples_none text has_text s w = record {
   along = λ rules start past holds.
       let Of : Past → Type 0 = λ p. Holds text has_text rules start p s w in
       subst Of (sym (past_with-none past)) holds;
 }
 
-pub samples_more : {F : Type 0} (text : TextOf F) (has_text : HasTextOf F) (a b c : Sampling F) (u v w : Option (List ℕ)) (xs ys : List Found)
-    → Samples text has_text a u xs b v → Samples text has_text b v ys c w → Samples text has_text a u (xs ++ ys) c w
+pub samples_more : {F : Type 0} {S : Type 0} {kind : StageKind S} (text : TextOf F) (has_text : HasTextOf F) (a b c : Sampling F) (u v w : S) (xs ys : List Found)
+    → Samples kind text has_text a u xs b v → Samples kind text has_text b v ys c w → Samples kind text has_text a u (xs ++ ys) c w
 samples_more text has_text a b c u v w xs ys f s = record {
   along = λ rules start past holds.
       let Of : Past → Type 0 = λ p. Holds text has_text rules start p c w in
@@ -137,23 +143,23 @@ front_later past xs ys later follows =
     let Of : Past → Type 0 = λ p. Later (past_with past xs) p in
     later_trans (past_with past xs) (past_with past (xs ++ ys)) later (subst Of (past_with-append past xs ys) (later_with (past_with past xs) ys)) follows
 
-pub halts_here : {F : Type 0} (text : TextOf F) (has_text : HasTextOf F) (begins : BeginsOf F text has_text) (a b : Sampling F) (u v : Option (List ℕ)) (xs ys : List Found)
-    → Samples text has_text a u xs b v → Halts text has_text a u (xs ++ ys) b v
+pub halts_here : {F : Type 0} {S : Type 0} {kind : StageKind S} (text : TextOf F) (has_text : HasTextOf F) (begins : BeginsOf F text has_text) (a b : Sampling F) (u v : S) (xs ys : List Found)
+    → Samples kind text has_text a u xs b v → Halts kind text has_text a u (xs ++ ys) b v
 halts_here text has_text begins a b u v xs ys f = record {
   within = λ rules start past holds later follows.
       stopped_between text has_text begins rules start v (past_with past xs) later b (front_later past xs ys later follows) (f.along rules start past holds);
 }
 
-pub halts_later : {F : Type 0} (text : TextOf F) (has_text : HasTextOf F) (a b c : Sampling F) (u v w : Option (List ℕ)) (xs ys : List Found)
-    → Samples text has_text a u xs b v → Halts text has_text b v ys c w → Halts text has_text a u (xs ++ ys) c w
+pub halts_later : {F : Type 0} {S : Type 0} {kind : StageKind S} (text : TextOf F) (has_text : HasTextOf F) (a b c : Sampling F) (u v w : S) (xs ys : List Found)
+    → Samples kind text has_text a u xs b v → Halts kind text has_text b v ys c w → Halts kind text has_text a u (xs ++ ys) c w
 halts_later text has_text a b c u v w xs ys f s = record {
   within = λ rules start past holds later follows.
       let Of : Past → Type 0 = λ p. Later p later in
       s.within rules start (past_with past xs) (f.along rules start past holds) later (subst Of (sym (past_with-append past xs ys)) follows);
 }
 
-pub halts_more : {F : Type 0} (text : TextOf F) (has_text : HasTextOf F) (a c : Sampling F) (u w : Option (List ℕ)) (xs ys : List Found)
-    → Halts text has_text a u xs c w → Halts text has_text a u (xs ++ ys) c w
+pub halts_more : {F : Type 0} {S : Type 0} {kind : StageKind S} (text : TextOf F) (has_text : HasTextOf F) (a c : Sampling F) (u w : S) (xs ys : List Found)
+    → Halts kind text has_text a u xs c w → Halts kind text has_text a u (xs ++ ys) c w
 halts_more text has_text a c u w xs ys s = record {
   within = λ rules start past holds later follows. s.within rules start past holds later (front_later past xs ys later follows);
 }

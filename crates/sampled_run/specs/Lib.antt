@@ -1,5 +1,6 @@
 pub mod Counts
 pub mod Past
+pub mod Fresh
 pub mod Spans
 pub mod Holds
 pub mod Laws

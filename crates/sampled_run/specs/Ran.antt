@@ -6,7 +6,8 @@ use Rattle.log_reading.specs.declared.span.RunFault.{RunFault}
 use Rattle.log_reading.specs.declared.span.RunFault.TheVariants as R
 use Rattle.log_reading.specs.declared.span.Span.{Span}
 use Rattle.log_reading.specs.Spans.{BadLine, spans_bad}
-use Rattle.query_run.specs.declared.executing.Counts.{Counts}
+use Rattle.query_run.specs.Output.{StageKind, OutputAt}
+use Rattle.query_run.specs.declared.executing.Written.{Written}
 use Rattle.sampled_run.specs.declared.fault.SampleFault.{SampleFault}
 use Rattle.sampled_run.specs.declared.fault.SampleFault.TheVariants as F
 use Rattle.sampled_run.specs.declared.fault.Stop.{Stop}
@@ -16,14 +17,14 @@ use Rattle.sampled_run.specs.declared.phase.Phase.TheVariants as P
 use Rattle.sampled_run.specs.Past.{Past, Rules}
 use Rattle.sampled_run.specs.Holds.{IsFront, IsRefused, IsWritten}
 
--- the whole text was written, and the counts are those of the spans
-pub record IsSampled (rules : Rules) (start : Option (List ℕ)) (past : Past) (format : Format) (folder : Folder) (spans : List Span) (counts : Counts) (now : Option (List ℕ)) : Type 0 where
-  pub written : IsWritten rules start past counts.output now
-  pub processed : counts.processed ≡ length past.founds
-  pub bad : counts.bad ≡ length (spans_bad format false folder spans)
+-- the whole text was written, and its counts are those of the spans
+pub record IsSampled {S : Type 0} {kind : StageKind S} (rules : Rules) (start : OutputAt kind) (past : Past) (format : Format) (folder : Folder) (spans : List Span) (run : Written) (now : S) : Type 0 where
+  pub written : IsWritten rules start past run.counts.output run.output now
+  pub processed : run.counts.processed ≡ length past.founds
+  pub bad : run.counts.bad ≡ length (spans_bad format false folder spans)
 
 -- the query has no plan, or the front of the text is written
-abbrev pub IsStoppedBy : Rules → Option (List ℕ) → Past → SampleFault → Option (List ℕ) → Type 0
+abbrev pub IsStoppedBy : {S : Type 0} → {kind : StageKind S} → Rules → OutputAt kind → Past → SampleFault → S → Type 0
 IsStoppedBy rules start past (F.Plan fault) now = IsRefused rules start past fault now
 IsStoppedBy rules start past (F.Bad log row) now = IsFront rules start past now
 IsStoppedBy rules start past F.Logs now = IsFront rules start past now

@@ -1,5 +1,5 @@
 -- Why a run over sampled columns stops.
-use Rattle.std.specs.Prelude.{◌≡◌, ℕ, List, Option, Result, Err, ⊤}
+use Rattle.std.specs.Prelude.{◌≡◌, Result, Err, ⊤}
 use Rattle.query_types.specs.declared.fault.TypeFault.{TypeFault}
 use Rattle.query_types.specs.Planned.{Planned}
 use Rattle.log_reading.specs.declared.taker.TakeFault.{TakeFault}
@@ -8,6 +8,7 @@ use Rattle.query_types.specs.declared.fault.TypeFault.TheVariants as T
 use Rattle.sampled_run.specs.declared.fault.Stop.{Stop}
 use Rattle.sampled_run.specs.declared.fault.Stop.TheVariants as S
 use Rattle.sampled_run.specs.Past.{Past, Rules}
+use Rattle.query_run.specs.Output.{StageKind, OutputAt}
 use Rattle.sampled_run.specs.Holds.{IsFront, IsRefused}
 
 -- why a plan isn't made
@@ -21,7 +22,7 @@ unplanned (T.BadPattern at) = S.Plan (T.BadPattern at)
 unplanned T.Memory = S.Memory
 
 -- how a run stopped, of which these are all records
-abbrev pub IsStop : Rules → Option (List ℕ) → Past → Stop → Option (List ℕ) → Type 0
+abbrev pub IsStop : {S : Type 0} → {kind : StageKind S} → Rules → OutputAt kind → Past → Stop → S → Type 0
 IsStop rules start past (S.Plan fault) now = IsRefused rules start past fault now
 IsStop rules start past S.Output now = IsFront rules start past now
 IsStop rules start past S.Memory now = IsFront rules start past now

@@ -5,6 +5,7 @@ use Rattle.lp_model.specs.Reading.{Format}
 use Rattle.log_reading.specs.declared.page.Page.{Page}
 use Rattle.log_reading.specs.declared.span.Span.{Span}
 use Rattle.log_reading.specs.Spans.{span_bad, span_found, spans_bad, spans_found}
+use Rattle.query_run.specs.Output.{StageKind, OutputAt}
 use Rattle.query_run.specs.Writing.{TextOf, HasTextOf}
 use Rattle.sampled_run.specs.Past.{Past, Later, Rules}
 use Rattle.sampled_run.specs.Spans.{past_behind, past_behind_span}
@@ -20,17 +21,17 @@ abbrev pub spans_told : Format → Bool → Folder → List Span → Past → Pa
 spans_told format waits folder spans past = past_behind format waits folder past spans
 
 -- the records of a span were taken
-pub record SamplesSpan {F : Type 0} (text : TextOf F) (has_text : HasTextOf F) (format : Format) (waits : Bool) (folder : Folder) (span : Span) (old new : Page (Sampling F)) (before now : Option (List ℕ)) : Type 0 where
-  pub along : (rules : Rules) (start : Option (List ℕ)) (past : Past) → Holds text has_text rules start past old.taker before → Holds text has_text rules start (span_told format waits folder span past) new.taker now
+pub record SamplesSpan {F S : Type 0} (kind : StageKind S) (text : TextOf F) (has_text : HasTextOf F) (format : Format) (waits : Bool) (folder : Folder) (span : Span) (old new : Page (Sampling F)) (before now : S) : Type 0 where
+  pub along : (rules : Rules) (start : OutputAt kind) (past : Past) → Holds text has_text rules start past old.taker before → Holds text has_text rules start (span_told format waits folder span past) new.taker now
   pub rows : new.rows ≡ old.rows + length (span_found format waits folder span)
   pub bad : new.bad ≡ old.bad + length (span_bad format waits folder span)
 
 -- the records of spans were taken
-pub record SamplesSpans {F : Type 0} (text : TextOf F) (has_text : HasTextOf F) (format : Format) (waits : Bool) (folder : Folder) (spans : List Span) (old new : Page (Sampling F)) (before now : Option (List ℕ)) : Type 0 where
-  pub along : (rules : Rules) (start : Option (List ℕ)) (past : Past) → Holds text has_text rules start past old.taker before → Holds text has_text rules start (spans_told format waits folder spans past) new.taker now
+pub record SamplesSpans {F S : Type 0} (kind : StageKind S) (text : TextOf F) (has_text : HasTextOf F) (format : Format) (waits : Bool) (folder : Folder) (spans : List Span) (old new : Page (Sampling F)) (before now : S) : Type 0 where
+  pub along : (rules : Rules) (start : OutputAt kind) (past : Past) → Holds text has_text rules start past old.taker before → Holds text has_text rules start (spans_told format waits folder spans past) new.taker now
   pub rows : new.rows ≡ old.rows + length (spans_found format waits folder spans)
   pub bad : new.bad ≡ old.bad + length (spans_bad format waits folder spans)
 
 -- a run stopped within what is told more
-pub record HaltsIn {F : Type 0} (text : TextOf F) (has_text : HasTextOf F) (told : Past → Past) (old new : Sampling F) (before now : Option (List ℕ)) : Type 0 where
-  pub within : (rules : Rules) (start : Option (List ℕ)) (past : Past) → Holds text has_text rules start past old before → (later : Past) → Later (told past) later → PhaseStopped rules start later new.phase now
+pub record HaltsIn {F S : Type 0} (kind : StageKind S) (text : TextOf F) (has_text : HasTextOf F) (told : Past → Past) (old new : Sampling F) (before now : S) : Type 0 where
+  pub within : (rules : Rules) (start : OutputAt kind) (past : Past) → Holds text has_text rules start past old before → (later : Past) → Later (told past) later → PhaseStopped rules start later new.phase now

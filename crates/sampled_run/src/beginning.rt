@@ -1,10 +1,10 @@
 // The text of a run, from its names to the rows of the records that were kept.
-ghost use Rattle.std.specs.Prelude.{◌≡◌, ◌≤◌, ◌<◌, ◌^◌, ◌++◌, true, List, ℕ, Option, map, option_map, length, OnErr, IfOk, IfErr, IsErrOf, IsTrue};
-ghost use Rattle.lp_model.specs.Outside.{GainsSome, Rose};
+ghost use Rattle.std.specs.Prelude.{◌≡◌, ◌≤◌, ◌<◌, ◌^◌, ◌++◌, true, List, map, option_map, length, OnErr, IfOk, IfErr, IsErrOf, IsTrue};
+ghost use Rattle.lp_model.specs.Outside.{Rose};
 ghost use Rattle.log_reading.specs.Found.{Found};
 ghost use Rattle.query_tree.specs.Views.{query_of};
 ghost use Rattle.query_types.specs.Built.{is_built};
-ghost use Rattle.query_run.specs.Output.{IsUnderWay};
+ghost use Rattle.query_run.specs.Output.{kind_of, reached, OutputAt, GainsFront, IsUnderWay};
 ghost use Rattle.query_run.specs.Rows.{picked};
 ghost use Rattle.query_types.specs.Conditions.{filter_of};
 ghost use Rattle.sampled_table.specs.Picks.{sampled_picks};
@@ -56,12 +56,13 @@ fn write_kept<F: Shape + Drop, P: Picker + Drop, G: Stage>(
     rows: &KeptRows,
     stage: &mut G,
 ) -> Result<Writer<F, P>, TakeFault>
-    ensures under_way { IfOk result (λ writer. IsUnderWay (F.has_text writer.shape true names.now (picked (P.picks picker) (map found_in rows.now))) (G.state stage.old).written (G.state stage.new).written writer.buffers.held) }
+    ensures under_way { IfOk result (λ writer. IsUnderWay (F.has_text writer.shape true names.now (picked (P.picks picker) (map found_in rows.now))) (reached (kind_of G.state G.ended) target stage.old) (reached (kind_of G.state G.ended) writer.target stage.new) writer.buffers.held) }
     ensures format { IfOk result (λ writer. F.text writer.shape ≡ F.text shape) }
     ensures picker { IfOk result (λ writer. writer.picker ≡ picker) }
     ensures output { IfOk result (λ writer. writer.output ≡ length (picked (P.picks picker) (map found_in rows.now))) }
     ensures taken { IfOk result (λ writer. writer.taken ≡ length rows.now) }
-    ensures front { OnErr result ((more : List Found) → GainsSome (G.state stage.old).written (G.state stage.new).written (F.text shape true names.now (picked (P.picks picker) (map found_in rows.now ++ more)))) }
+    ensures front { OnErr result ((more : List Found) → GainsFront (reached (kind_of G.state G.ended) target stage.old) stage.new (F.text shape true names.now (picked (P.picks picker) (map found_in rows.now ++ more)))) }
+    ensures goes { G.goes stage.old stage.new }
     ensures later { G.faults stage.old ≤ G.faults stage.new }
     ensures failed { IsErrOf result TakeFault.Failed → Rose (G.faults stage.old) (G.faults stage.new) }
 {
@@ -82,12 +83,13 @@ fn begin_with<'a, F: Shape + Drop, G: Stage>(
     gathering: Gathering<F>,
     stage: &mut G,
 ) -> Result<Writer<F, SampledPicker<'a>>, TakeFault>
-    ensures under_way { IfOk result (λ writer. IsUnderWay (F.has_text writer.shape true picker.entry.ready.plan.names (picked (sampled_picks picker.entry.pattern.now picker.entry.told picker.entry.ready.plan.items (option_map filter_of picker.entry.ready.plan.condition)) (map found_in gathering.rows))) (G.state stage.old).written (G.state stage.new).written writer.buffers.held) }
+    ensures under_way { IfOk result (λ writer. IsUnderWay (F.has_text writer.shape true picker.entry.ready.plan.names (picked (sampled_picks picker.entry.pattern.now picker.entry.told picker.entry.ready.plan.items (option_map filter_of picker.entry.ready.plan.condition)) (map found_in gathering.rows))) (reached (kind_of G.state G.ended) gathering.target stage.old) (reached (kind_of G.state G.ended) writer.target stage.new) writer.buffers.held) }
     ensures format { IfOk result (λ writer. F.text writer.shape ≡ F.text gathering.shape) }
     ensures picker { IfOk result (λ writer. writer.picker ≡ picker.entry) }
     ensures output { IfOk result (λ writer. writer.output ≡ length (picked (sampled_picks picker.entry.pattern.now picker.entry.told picker.entry.ready.plan.items (option_map filter_of picker.entry.ready.plan.condition)) (map found_in gathering.rows))) }
     ensures taken { IfOk result (λ writer. writer.taken ≡ length gathering.rows) }
-    ensures front { OnErr result ((more : List Found) → GainsSome (G.state stage.old).written (G.state stage.new).written (F.text gathering.shape true picker.entry.ready.plan.names (picked (sampled_picks picker.entry.pattern.now picker.entry.told picker.entry.ready.plan.items (option_map filter_of picker.entry.ready.plan.condition)) (map found_in gathering.rows ++ more)))) }
+    ensures front { OnErr result ((more : List Found) → GainsFront (reached (kind_of G.state G.ended) gathering.target stage.old) stage.new (F.text gathering.shape true picker.entry.ready.plan.names (picked (sampled_picks picker.entry.pattern.now picker.entry.told picker.entry.ready.plan.items (option_map filter_of picker.entry.ready.plan.condition)) (map found_in gathering.rows ++ more)))) }
+    ensures goes { G.goes stage.old stage.new }
     ensures later { G.faults stage.old ≤ G.faults stage.new }
     ensures failed { IsErrOf result TakeFault.Failed → Rose (G.faults stage.old) (G.faults stage.new) }
 {
@@ -116,11 +118,12 @@ pub(crate) fn begin<'a, F: Shape + Drop, G: Stage>(
     stage: &mut G,
 ) -> Result<Writer<F, SampledPicker<'a>>, Stop>
     requires { is_built (query_of query.now) ≡ true }
-    ensures begun { IfOk result (λ writer. (rules : Rules) (start : Option (List ℕ)) (past : Past) → Asks limit pattern.now moment.seconds (query_of query.now) rules → Gathers F.text rules start past gathering (G.state stage.old).written
-        → Begun F.text F.has_text rules start past writer (G.state stage.new).written) }
+    ensures begun { IfOk result (λ writer. (rules : Rules) (start : OutputAt (kind_of G.state G.ended)) (past : Past) → Asks limit pattern.now moment.seconds (query_of query.now) rules → Gathers F.text rules start past gathering stage.old
+        → Begun F.text F.has_text rules start past writer stage.new) }
     ensures taken { IfOk result (λ writer. writer.taken ≡ length gathering.rows) }
-    ensures stopped { IfErr result (λ stop. (rules : Rules) (start : Option (List ℕ)) (past later : Past) → Asks limit pattern.now moment.seconds (query_of query.now) rules → Gathers F.text rules start past gathering (G.state stage.old).written
-        → Later past later → told_at rules later ≡ told_at rules past → IsStop rules start later stop (G.state stage.new).written) }
+    ensures stopped { IfErr result (λ stop. (rules : Rules) (start : OutputAt (kind_of G.state G.ended)) (past later : Past) → Asks limit pattern.now moment.seconds (query_of query.now) rules → Gathers F.text rules start past gathering stage.old
+        → Later past later → told_at rules later ≡ told_at rules past → IsStop rules start later stop stage.new) }
+    ensures goes { G.goes stage.old stage.new }
     ensures later { G.faults stage.old ≤ G.faults stage.new }
     ensures failed { IsErrOf result Stop.Output → Rose (G.faults stage.old) (G.faults stage.new) }
 {

@@ -6,6 +6,7 @@ ghost use Rattle.log_reading.specs.Spans.{AllSpans, AreKept, IsSpan, spans_bad_l
 ghost use Rattle.delimited_input.specs.Lines.{delimited_lines};
 ghost use Rattle.delimited_input.specs.Separators.{IsRefused};
 ghost use Rattle.output_formats.specs.Headers.{csv_of};
+ghost use Rattle.query_run.specs.Output.{kind_of, reached};
 ghost use Rattle.query_tree.specs.Views.{query_of};
 ghost use Rattle.query_types.specs.Built.{is_built};
 ghost use Rattle.sampled_run.specs.Past.{rules_of};
@@ -19,7 +20,7 @@ use log_reading::Span;
 use lp_outside::{Logs, Stage};
 use lp_time::Pattern;
 use output_formats::{CsvOut, Headers};
-use query_run::{Counts, Target};
+use query_run::{Target, Written};
 use query_tree::Query;
 use std::alloc::Global;
 
@@ -37,23 +38,25 @@ pub fn run_sampled<'a, L: Logs, G: Stage>(
     spans: &[Span],
     target: Target,
     stage: &mut G,
-) -> Result<Counts, SampleFault>
+) -> Result<Written, SampleFault>
     requires separator { ¬ IsRefused options.separator }
     requires built { is_built (query_of query.now) ≡ true }
     requires few { length spans.now ≤ 100000 }
     requires spans { AllSpans spans.now IsSpan }
     requires there { Told (L.folder logs.old) (λ folder. AllSpans spans.now (λ span. span.listed ≤ length (bytes_in folder span.name))) }
     ensures grows { OnlyGrow (L.folder logs.old) (L.folder logs.new) }
-    ensures ran { IfOk result (λ counts. Told (L.folder logs.new) (λ folder. AreKept (delimited_lines options) false spans.now folder
-        → IsSampled (rules_of limit pattern.now moment.seconds (query_of query.now) (csv_of headers)) (G.state stage.old).written (past_of (delimited_lines options) false folder spans.now) (delimited_lines options) folder spans.now counts (G.state stage.new).written)) }
+    ensures ran { IfOk result (λ run. Told (L.folder logs.new) (λ folder. AreKept (delimited_lines options) false spans.now folder
+        → IsSampled (rules_of limit pattern.now moment.seconds (query_of query.now) (csv_of headers)) (reached (kind_of G.state G.ended) target stage.old) (past_of (delimited_lines options) false folder spans.now) (delimited_lines options) folder spans.now run stage.new)) }
+    ensures ended { IfOk result (λ run. G.ended stage.new run.output.name run.output.base run.output.mark) }
     ensures stopped { IfErr result (λ fault. Told (L.folder logs.new) (λ folder. AreKept (delimited_lines options) false spans.now folder
-        → IsStoppedBy (rules_of limit pattern.now moment.seconds (query_of query.now) (csv_of headers)) (G.state stage.old).written (past_of (delimited_lines options) false folder spans.now) fault (G.state stage.new).written)) }
-    ensures within { IfOk result (λ counts. IsWithin most_bad counts.bad) }
+        → IsStoppedBy (rules_of limit pattern.now moment.seconds (query_of query.now) (csv_of headers)) (reached (kind_of G.state G.ended) target stage.old) (past_of (delimited_lines options) false folder spans.now) fault stage.new)) }
+    ensures within { IfOk result (λ run. IsWithin most_bad run.counts.bad) }
     ensures too_many { IfErr result (λ fault. OnBadOne fault (λ line. Told (L.folder logs.new) (λ folder. AreKept (delimited_lines options) false spans.now folder
         → IsTooMany most_bad 0 (spans_bad_lines (delimited_lines options) false folder spans.now) line))) }
     ensures given { L.given logs.new ≤ L.given logs.old + spans_size spans.now }
     ensures later_logs { L.faults logs.old ≤ L.faults logs.new }
     ensures logs { IsErrOf result SampleFault.Logs → Rose (L.faults logs.old) (L.faults logs.new) }
+    ensures goes { G.goes stage.old stage.new }
     ensures later { G.faults stage.old ≤ G.faults stage.new }
     ensures output { IsErrOf result SampleFault.Output → Rose (G.faults stage.old) (G.faults stage.new) }
 {

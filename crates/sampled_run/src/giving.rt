@@ -18,6 +18,7 @@ pub(crate) fn give_kept<T: Taker<O>, O>(
     ensures takes { OnOk result (T.takes taker.old out.old (map found_in rows.now) taker.new out.new) }
     ensures stops { OnErr result (T.stops taker.old out.old (map found_in rows.now) taker.new out.new) }
     ensures count { OnOk result (T.count taker.new ≡ T.count taker.old + length rows.now) }
+    ensures goes { T.goes out.old out.new }
     ensures later { T.faults out.old ≤ T.faults out.new }
     ensures failed { IsErrOf result TakeFault.Failed → Rose (T.faults out.old) (T.faults out.new) }
     ensures stopped { IsErrOf result TakeFault.Stopped → T.stopped taker.new }

@@ -20,7 +20,7 @@ mod spans;
 mod taking;
 mod turning;
 
-pub use ending::finish_run;
+pub use ending::{End, finish_run};
 pub use fault::{SampleFault, Stop};
 pub use formats::run_sampled;
 pub use moment::Moment;

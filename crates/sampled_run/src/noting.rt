@@ -1,8 +1,7 @@
 // The columns of a log behind its last record.
-ghost use Rattle.std.specs.Prelude.{◌≡◌, List, ℕ, Option, OnOk, OnErr};
+ghost use Rattle.std.specs.Prelude.{◌≡◌, OnOk, OnErr};
 ghost use Rattle.sampled_run.specs.Counts.{taken_in};
-ghost use Rattle.sampled_run.specs.Past.{Past, Rules, log_with, noted, or_first};
-ghost use Rattle.sampled_run.specs.Holds.{Holds};
+ghost use Rattle.sampled_run.specs.Fresh.{Notes, NotesFirst};
 
 use crate::{Gathering, Phase, Sampling};
 use line_input::Columns;
@@ -18,9 +17,8 @@ fn note_in<F>(
     columns: &Option<Columns>,
     gathering: &mut Gathering<F>,
 ) -> Result<(), AllocError>
-    ensures first { OnOk result (gathering.new.first ≡ or_first gathering.old.first (log_with identity.now columns.now)) }
+    ensures noted { OnOk result (NotesFirst identity.now columns.now gathering.old gathering.new) }
     ensures rows { gathering.new.rows ≡ gathering.old.rows }
-    ensures shape { gathering.new.shape ≡ gathering.old.shape }
     ensures err { OnErr result (gathering.new ≡ gathering.old) }
 {
     if gathering.first.is_some() {
@@ -43,8 +41,7 @@ pub(crate) fn note_first<'a, F: Shape + Drop>(
     columns: &Option<Columns>,
     sampling: &mut Sampling<'a, F>,
 ) -> Result<(), AllocError>
-    ensures noted { OnOk result ((rules : Rules) (start now : Option (List ℕ)) (past : Past) → Holds F.text F.has_text rules start past sampling.old now
-        → Holds F.text F.has_text rules start (noted past identity.now columns.now) sampling.new now) }
+    ensures noted { OnOk result (Notes identity.now columns.now sampling.old sampling.new) }
     ensures err { OnErr result (sampling.new.phase ≡ sampling.old.phase) }
     ensures count { taken_in sampling.new.phase ≡ taken_in sampling.old.phase }
 {

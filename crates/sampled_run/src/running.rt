@@ -1,14 +1,15 @@
 // A query over logs whose columns they tell, by any reader of their format.
-ghost use Rattle.std.specs.Prelude.{◌≡◌, ◌≤◌, ◌+◌, true, false, [], ℕ, List, length, Option, None, IfOk, IfErr, IsErrOf};
+ghost use Rattle.std.specs.Prelude.{◌≡◌, ◌≤◌, ◌+◌, true, false, [], length, None, IfOk, IfErr, IsErrOf};
 ghost use Rattle.lp_model.specs.Outside.{Rose, OnlyGrow, Told, bytes_in};
 ghost use Rattle.log_reading.specs.Page.{IsTooMany, IsWithin};
 ghost use Rattle.log_reading.specs.Spans.{AllSpans, AreKept, IsSpan, spans_bad, spans_bad_lines, spans_size};
+ghost use Rattle.query_run.specs.Output.{kind_of, reached};
 ghost use Rattle.query_tree.specs.Views.{query_of};
 ghost use Rattle.query_types.specs.Built.{is_built};
 ghost use Rattle.sampled_run.specs.Counts.{taken_in};
-ghost use Rattle.sampled_run.specs.Past.{Past, Rules, rules_of};
+ghost use Rattle.sampled_run.specs.Fresh.{IsFresh};
+ghost use Rattle.sampled_run.specs.Past.{rules_of};
 ghost use Rattle.sampled_run.specs.Spans.{past_behind};
-ghost use Rattle.sampled_run.specs.Holds.{Holds};
 ghost use Rattle.sampled_run.specs.Ran.{IsSampled, IsStoppedBy, OnBadOne, fault_in, fault_of};
 
 use crate::ending::finish_run;
@@ -19,7 +20,7 @@ use log_reading::{Page, RunFault, Span, TookList};
 use lp_outside::{Logs, Stage};
 use lp_time::Pattern;
 use output_formats::Shape;
-use query_run::{Counts, Target};
+use query_run::{Counts, Target, Written};
 use query_tree::Query;
 use sampled_table::KeptRows;
 use std::alloc::{AllocError, Global};
@@ -71,7 +72,7 @@ fn first_page<'a, F: Shape + Drop>(
     target: Target,
 ) -> Page<Sampling<'a, F>>
     requires { is_built (query_of query.now) ≡ true }
-    ensures holds { (start : Option (List ℕ)) → Holds F.text F.has_text (rules_of limit pattern.now moment.seconds (query_of query.now) (F.text shape)) start (record { first = None; founds = [] }) result.taker start }
+    ensures fresh { IsFresh limit pattern.now moment.seconds (query_of query.now) shape target result.taker }
     ensures taken { taken_in result.taker.phase ≡ 0 }
     ensures rows { result.rows ≡ 0 }
     ensures bad { result.bad ≡ 0 }
@@ -113,22 +114,24 @@ pub(crate) fn sample_reader<'a, R: LineReader, L: Logs, F: Shape + Drop, G: Stag
     shape: F,
     target: Target,
     stage: &mut G,
-) -> Result<Counts, SampleFault>
+) -> Result<Written, SampleFault>
     requires built { is_built (query_of query.now) ≡ true }
     requires few { length spans.now ≤ 100000 }
     requires spans { AllSpans spans.now IsSpan }
     requires there { Told (L.folder logs.old) (λ folder. AllSpans spans.now (λ span. span.listed ≤ length (bytes_in folder span.name))) }
     ensures grows { OnlyGrow (L.folder logs.old) (L.folder logs.new) }
-    ensures ran { IfOk result (λ counts. Told (L.folder logs.new) (λ folder. AreKept (R.format reader.now) false spans.now folder
-        → IsSampled (rules_of limit pattern.now moment.seconds (query_of query.now) (F.text shape)) (G.state stage.old).written (past_behind (R.format reader.now) false folder (record { first = None; founds = [] }) spans.now) (R.format reader.now) folder spans.now counts (G.state stage.new).written)) }
+    ensures ran { IfOk result (λ run. Told (L.folder logs.new) (λ folder. AreKept (R.format reader.now) false spans.now folder
+        → IsSampled (rules_of limit pattern.now moment.seconds (query_of query.now) (F.text shape)) (reached (kind_of G.state G.ended) target stage.old) (past_behind (R.format reader.now) false folder (record { first = None; founds = [] }) spans.now) (R.format reader.now) folder spans.now run stage.new)) }
+    ensures ended { IfOk result (λ run. G.ended stage.new run.output.name run.output.base run.output.mark) }
     ensures stopped { IfErr result (λ fault. Told (L.folder logs.new) (λ folder. AreKept (R.format reader.now) false spans.now folder
-        → IsStoppedBy (rules_of limit pattern.now moment.seconds (query_of query.now) (F.text shape)) (G.state stage.old).written (past_behind (R.format reader.now) false folder (record { first = None; founds = [] }) spans.now) fault (G.state stage.new).written)) }
-    ensures within { IfOk result (λ counts. IsWithin most_bad counts.bad) }
+        → IsStoppedBy (rules_of limit pattern.now moment.seconds (query_of query.now) (F.text shape)) (reached (kind_of G.state G.ended) target stage.old) (past_behind (R.format reader.now) false folder (record { first = None; founds = [] }) spans.now) fault stage.new)) }
+    ensures within { IfOk result (λ run. IsWithin most_bad run.counts.bad) }
     ensures too_many { IfErr result (λ fault. OnBadOne fault (λ line. Told (L.folder logs.new) (λ folder. AreKept (R.format reader.now) false spans.now folder
         → IsTooMany most_bad 0 (spans_bad_lines (R.format reader.now) false folder spans.now) line))) }
     ensures given { L.given logs.new ≤ L.given logs.old + spans_size spans.now }
     ensures later_logs { L.faults logs.old ≤ L.faults logs.new }
     ensures logs { IsErrOf result SampleFault.Logs → Rose (L.faults logs.old) (L.faults logs.new) }
+    ensures goes { G.goes stage.old stage.new }
     ensures later { G.faults stage.old ≤ G.faults stage.new }
     ensures output { IsErrOf result SampleFault.Output → Rose (G.faults stage.old) (G.faults stage.new) }
 {
@@ -148,10 +151,13 @@ pub(crate) fn sample_reader<'a, R: LineReader, L: Logs, F: Shape + Drop, G: Stag
     let processed = page.rows;
     let bad = page.bad;
     match finish_run(alloc, page.taker, stage) {
-        Ok(output) => Ok(Counts {
-            processed,
-            output,
-            bad,
+        Ok(end) => Ok(Written {
+            counts: Counts {
+                processed,
+                output: end.rows,
+                bad,
+            },
+            output: end.output,
         }),
         Err(stop) => Err(fault_of(stop)),
     }

@@ -1,8 +1,9 @@
 // The logs of a run, one after the other.
-ghost use Rattle.std.specs.Prelude.{◌≡◌, ◌≤◌, ◌<◌, ◌^◌, ◌+◌, ◌-◌, ℕ, List, length, Option, OnOk, OnErr, IfErr, IsErrOf};
+ghost use Rattle.std.specs.Prelude.{◌≡◌, ◌≤◌, ◌<◌, ◌^◌, ◌+◌, ◌-◌, ℕ, List, length, OnOk, OnErr, IfErr, IsErrOf};
 ghost use Rattle.lp_model.specs.Outside.{Rose, OnlyGrow, Told, bytes_in};
 ghost use Rattle.log_reading.specs.Page.{IsTooMany, IsWithin};
 ghost use Rattle.log_reading.specs.Spans.{AllSpans, AreKept, IsKept, IsSpan, OnBadLine, cut_of, span_bad_lines, spans_bad_lines, spans_size};
+ghost use Rattle.query_run.specs.Output.{kind_of};
 ghost use Rattle.sampled_run.specs.Counts.{taken_in};
 ghost use Rattle.sampled_run.specs.Taking.{SamplesSpan, SamplesSpans, HaltsIn, span_told, spans_told};
 
@@ -37,9 +38,9 @@ fn take_one<'a, R: LineReader, L: Logs, F: Shape + Drop, G: Stage>(
     requires taken { taken_in page.old.taker.phase + (span.now.listed - span.now.from) + 1 < 2 ^ 63 }
     ensures grows { OnlyGrow (L.folder logs.old) (L.folder logs.new) }
     ensures takes { OnOk result (Told (L.folder logs.new) (λ folder. IsKept (R.format reader.now) waits (cut_of folder span.now) span.now
-        → SamplesSpan F.text F.has_text (R.format reader.now) waits folder span.now page.old page.new (G.state stage.old).written (G.state stage.new).written)) }
+        → SamplesSpan (kind_of G.state G.ended) F.text F.has_text (R.format reader.now) waits folder span.now page.old page.new stage.old stage.new)) }
     ensures stops { OnErr result (Told (L.folder logs.new) (λ folder. IsKept (R.format reader.now) waits (cut_of folder span.now) span.now
-        → HaltsIn F.text F.has_text (span_told (R.format reader.now) waits folder span.now) page.old.taker page.new.taker (G.state stage.old).written (G.state stage.new).written)) }
+        → HaltsIn (kind_of G.state G.ended) F.text F.has_text (span_told (R.format reader.now) waits folder span.now) page.old.taker page.new.taker stage.old stage.new)) }
     ensures too_many { IfErr result (λ fault. OnBadLine fault (λ line. Told (L.folder logs.new) (λ folder. IsKept (R.format reader.now) waits (cut_of folder span.now) span.now
         → IsTooMany page.old.most_bad page.old.bad (span_bad_lines (R.format reader.now) waits folder span.now) line))) }
     ensures within { OnOk result (IsWithin page.new.most_bad page.new.bad) }
@@ -50,6 +51,7 @@ fn take_one<'a, R: LineReader, L: Logs, F: Shape + Drop, G: Stage>(
     ensures given { L.given logs.new + span.now.from ≤ L.given logs.old + span.now.listed }
     ensures later_logs { L.faults logs.old ≤ L.faults logs.new }
     ensures logs { IsErrOf result RunFault.Logs → Rose (L.faults logs.old) (L.faults logs.new) }
+    ensures goes { G.goes stage.old stage.new }
     ensures later { G.faults stage.old ≤ G.faults stage.new }
     ensures output { IsErrOf result RunFault.Output → Rose (G.faults stage.old) (G.faults stage.new) }
 {
@@ -86,9 +88,9 @@ pub(crate) fn take_all<'a, R: LineReader, L: Logs, F: Shape + Drop, G: Stage>(
     requires taken { taken_in page.old.taker.phase + spans_size spans.now + length spans.now < 2 ^ 63 }
     ensures grows { OnlyGrow (L.folder logs.old) (L.folder logs.new) }
     ensures takes { OnOk result (Told (L.folder logs.new) (λ folder. AreKept (R.format reader.now) waits spans.now folder
-        → SamplesSpans F.text F.has_text (R.format reader.now) waits folder spans.now page.old page.new (G.state stage.old).written (G.state stage.new).written)) }
+        → SamplesSpans (kind_of G.state G.ended) F.text F.has_text (R.format reader.now) waits folder spans.now page.old page.new stage.old stage.new)) }
     ensures stops { OnErr result (Told (L.folder logs.new) (λ folder. AreKept (R.format reader.now) waits spans.now folder
-        → HaltsIn F.text F.has_text (spans_told (R.format reader.now) waits folder spans.now) page.old.taker page.new.taker (G.state stage.old).written (G.state stage.new).written)) }
+        → HaltsIn (kind_of G.state G.ended) F.text F.has_text (spans_told (R.format reader.now) waits folder spans.now) page.old.taker page.new.taker stage.old stage.new)) }
     ensures too_many { IfErr result (λ fault. OnBadLine fault (λ line. Told (L.folder logs.new) (λ folder. AreKept (R.format reader.now) waits spans.now folder
         → IsTooMany page.old.most_bad page.old.bad (spans_bad_lines (R.format reader.now) waits folder spans.now) line))) }
     ensures within { OnOk result (IsWithin page.new.most_bad page.new.bad) }
@@ -96,6 +98,7 @@ pub(crate) fn take_all<'a, R: LineReader, L: Logs, F: Shape + Drop, G: Stage>(
     ensures given { L.given logs.new ≤ L.given logs.old + spans_size spans.now }
     ensures later_logs { L.faults logs.old ≤ L.faults logs.new }
     ensures logs { IsErrOf result RunFault.Logs → Rose (L.faults logs.old) (L.faults logs.new) }
+    ensures goes { G.goes stage.old stage.new }
     ensures later { G.faults stage.old ≤ G.faults stage.new }
     ensures output { IsErrOf result RunFault.Output → Rose (G.faults stage.old) (G.faults stage.new) }
 {

@@ -3,6 +3,7 @@ ghost use Rattle.std.specs.Prelude.{◌≡◌, ◌≤◌, ◌<◌, ◌↔◌, �
 ghost use Rattle.lp_model.specs.Outside.{Rose};
 ghost use Rattle.line_input.specs.Taken.{slots_of};
 ghost use Rattle.log_reading.specs.Found.{Found};
+ghost use Rattle.query_run.specs.Output.{kind_of};
 ghost use Rattle.sampled_table.specs.Kept.{found_in};
 ghost use Rattle.sampled_run.specs.Counts.{IsRefusedIn, taken_in};
 ghost use Rattle.sampled_run.specs.Past.{columns_or, first_seen};
@@ -40,6 +41,7 @@ fn see_first<F>(
     ensures first { OnOk result ((found : Found) → found.identity ≡ identity.now → found.row.columns ≡ columns.now → gathering.new.first ≡ first_seen gathering.old.first (found ∷ [])) }
     ensures rows { gathering.new.rows ≡ gathering.old.rows }
     ensures shape { gathering.new.shape ≡ gathering.old.shape }
+    ensures target { gathering.new.target ≡ gathering.old.target }
 {
     if gathering.first.is_none() {
         gathering.first = Some(log_of(alloc, identity, columns)?);
@@ -63,6 +65,7 @@ fn keep<F>(
     ensures count { OnOk result (length gathering.new.rows ≡ length gathering.old.rows + 1) }
     ensures err { OnErr result (gathering.new.rows ≡ gathering.old.rows) }
     ensures shape { gathering.new.shape ≡ gathering.old.shape }
+    ensures target { gathering.new.target ≡ gathering.old.target }
 {
     see_first(alloc, identity, columns, gathering)?;
     let row = KeptRow::new(alloc, identity, number, columns, line, fields)?;
@@ -88,21 +91,28 @@ fn gather<F>(
     ensures enough { IfOk result (λ enough. IsTrue enough ↔ (limit ≤ length gathering.new.rows)) }
     ensures err { OnErr result (gathering.new.rows ≡ gathering.old.rows) }
     ensures shape { gathering.new.shape ≡ gathering.old.shape }
+    ensures target { gathering.new.target ≡ gathering.old.target }
 {
     keep(alloc, identity, number, columns, line, fields, gathering)?;
     Ok(limit as usize <= gathering.rows.len())
 }
 
 impl<'a, F: Shape + Drop, G: Stage> Taker<G> for Sampling<'a, F> {
-    ghost takes = { λ a u xs b v. Samples F.text F.has_text a (G.state u).written xs b (G.state v).written };
+    ghost takes = { λ a u xs b v. Samples (kind_of G.state G.ended) F.text F.has_text a u xs b v };
 
-    ghost stops = { λ a u xs b v. Halts F.text F.has_text a (G.state u).written xs b (G.state v).written };
+    ghost stops = { λ a u xs b v. Halts (kind_of G.state G.ended) F.text F.has_text a u xs b v };
 
     ghost stopped = { λ s. IsRefusedIn s.phase };
 
     ghost count = { λ s. taken_in s.phase };
 
     ghost faults = { G.faults };
+
+    ghost goes = { G.goes };
+
+    ghost goes_nowhere = { G.goes_nowhere };
+
+    ghost goes_on = { G.goes_on };
 
     fn take(
         &mut self,
@@ -140,13 +150,13 @@ impl<'a, F: Shape + Drop, G: Stage> Taker<G> for Sampling<'a, F> {
         }
     }
 
-    ghost takes_none = { λ s w. samples_none F.text F.has_text s (G.state w).written };
+    ghost takes_none = { λ s w. samples_none F.text F.has_text s w };
 
-    ghost takes_more = { λ a b c u v w. samples_more F.text F.has_text a b c (G.state u).written (G.state v).written (G.state w).written };
+    ghost takes_more = { λ a b c u v w. samples_more F.text F.has_text a b c u v w };
 
-    ghost stops_here = { λ a b u v. halts_here F.text F.has_text F.begins a b (G.state u).written (G.state v).written };
+    ghost stops_here = { λ a b u v. halts_here F.text F.has_text F.begins a b u v };
 
-    ghost stops_later = { λ a b c u v w. halts_later F.text F.has_text a b c (G.state u).written (G.state v).written (G.state w).written };
+    ghost stops_later = { λ a b c u v w. halts_later F.text F.has_text a b c u v w };
 
-    ghost stops_more = { λ a c u w. halts_more F.text F.has_text a c (G.state u).written (G.state w).written };
+    ghost stops_more = { λ a c u w. halts_more F.text F.has_text a c u w };
 }

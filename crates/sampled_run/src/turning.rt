@@ -1,6 +1,7 @@
 // The turn from keeping records to writing rows.
-ghost use Rattle.std.specs.Prelude.{◌≡◌, ◌≤◌, true, List, ℕ, Option, OnOk, OnErr, IfSome, IsErrOf};
+ghost use Rattle.std.specs.Prelude.{◌≡◌, ◌≤◌, true, OnOk, OnErr, IfSome, IsErrOf};
 ghost use Rattle.lp_model.specs.Outside.{Rose};
+ghost use Rattle.query_run.specs.Output.{kind_of, OutputAt};
 ghost use Rattle.query_tree.specs.Views.{query_of};
 ghost use Rattle.query_types.specs.Built.{is_built};
 ghost use Rattle.sampled_run.specs.Counts.{IsRefusedIn, kept_in, taken_in};
@@ -46,12 +47,13 @@ pub(crate) fn turn<'a, F: Shape + Drop, G: Stage>(
     stage: &mut G,
 ) -> Result<(), TakeFault>
     requires { is_built (query_of query.now) ≡ true }
-    ensures turned { OnOk result ((rules : Rules) (start : Option (List ℕ)) (past : Past) → Asks limit pattern.now moment.seconds (query_of query.now) rules → PhaseHolds F.text F.has_text rules start past phase.old (G.state stage.old).written → IsTold rules past
-        → PhaseHolds F.text F.has_text rules start past phase.new (G.state stage.new).written) }
-    ensures stopped { OnErr result ((rules : Rules) (start : Option (List ℕ)) (past later : Past) → Asks limit pattern.now moment.seconds (query_of query.now) rules → PhaseHolds F.text F.has_text rules start past phase.old (G.state stage.old).written → IsTold rules past → Later past later
-        → PhaseStopped rules start later phase.new (G.state stage.new).written) }
+    ensures turned { OnOk result ((rules : Rules) (start : OutputAt (kind_of G.state G.ended)) (past : Past) → Asks limit pattern.now moment.seconds (query_of query.now) rules → PhaseHolds F.text F.has_text rules start past phase.old stage.old → IsTold rules past
+        → PhaseHolds F.text F.has_text rules start past phase.new stage.new) }
+    ensures stopped { OnErr result ((rules : Rules) (start : OutputAt (kind_of G.state G.ended)) (past later : Past) → Asks limit pattern.now moment.seconds (query_of query.now) rules → PhaseHolds F.text F.has_text rules start past phase.old stage.old → IsTold rules past → Later past later
+        → PhaseStopped rules start later phase.new stage.new) }
     ensures count { OnOk result (taken_in phase.new ≡ taken_in phase.old) }
     ensures few { kept_in phase.new ≡ 0 }
+    ensures goes { G.goes stage.old stage.new }
     ensures later { G.faults stage.old ≤ G.faults stage.new }
     ensures failed { IsErrOf result TakeFault.Failed → Rose (G.faults stage.old) (G.faults stage.new) }
     ensures refused { IsErrOf result TakeFault.Stopped → IsRefusedIn phase.new }

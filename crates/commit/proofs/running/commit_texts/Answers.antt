@@ -1,4 +1,4 @@
-use Rattle.std.proofs.Common.{◌≡◌, List, ℕ, Err, ap, ◌∙◌, [], ◌∷◌, ◌++◌}
+use Rattle.std.proofs.Common.{Err, ap, [], ◌∷◌, ◌++◌}
 use Rattle.ledger.specs.Written.{entry_of}
 use Rattle.commit.proofs.Composing.{settles_on, only_settled, whole_on, same_on, good_on, done_on}
 use Rattle.commit.proofs.Causes.{rose_behind}

@@ -1,4 +1,4 @@
-use Rattle.std.proofs.Common.{rules, ◌≡◌, List, ℕ, [], ◌∷◌, ◌++◌}
+use Rattle.std.proofs.Common.{rules, [], ◌∷◌, ◌++◌}
 use Rattle.ledger.specs.Written.{entry_of}
 use Rattle.commit.proofs.Errors.{on_ok}
 use Rattle.commit.proofs.Handing.{may_from, each_at, again_at, kept_at, shown_at, rose_at}

@@ -1,4 +1,4 @@
-use Rattle.std.proofs.Common.{◌≡◌, List, [], ◌∷◌, ◌++◌}
+use Rattle.std.proofs.Common.{[], ◌∷◌, ◌++◌}
 use Rattle.commit.proofs.Errors.{on_ok}
 use Rattle.commit.proofs.Composing.{either_on}
 use Rattle.commit.proofs.running.conclude.Goals as goal

@@ -1,4 +1,3 @@
-use Rattle.std.proofs.Common.{◌≡◌, List, ℕ}
 use Rattle.commit.proofs.Composing.{goes_keeps, preserves_on}
 use Rattle.commit.proofs.running.prepare.Goals as goal
 

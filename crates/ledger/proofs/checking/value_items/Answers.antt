@@ -1,4 +1,4 @@
-use Rattle.std.proofs.Common.{ℕ, subst, arith}
+use Rattle.std.proofs.Common.{◌∙◌, ℕ, subst, arith}
 use Rattle.ledger.specs.Counted.{SomeItems}
 use Rattle.ledger.proofs.Composing.{handed}
 use Rattle.ledger.proofs.Counting.{items_more, items_refused, items_read}
@@ -10,6 +10,7 @@ pub loop-index-preserved : goal.loop-index-preserved
 loop-index-preserved g c = let inv = c.loop-index.invariant in record {
   rests = rests_then _ _ _ inv.rests c.value.ensures.rests;
   later = omega (arith, inv.later, c.value.ensures.reason.later);
+  same = c.in_ok-value.ensures.reason.same ∙ inv.same;
   reads = λ file to can.
       let past = inv.reads file to can in
       let here = c.in_ok-value.ensures.looks file to past.0 in

@@ -1,4 +1,4 @@
-use Rattle.std.proofs.Common.{List, [], ◌++◌, length, refl, sym, arith}
+use Rattle.std.proofs.Common.{rules, List, [], ◌++◌, length, refl, sym, arith}
 use Rattle.std.proofs.lemmas.List.{length-map}
 use Rattle.ledger_model.specs.Layouts.{field}
 use Rattle.ledger_model.specs.Numbers.{u64_bytes}
@@ -13,6 +13,7 @@ pub loop-value-init : goal.loop-value-init
 loop-value-init g c = record {
   goes = c.add_number.ensures.goes;
   later = c.add_number.ensures.cause.later;
+  same = search rules;
   spells = spells_none (λ (value : Value). kept_bytes (kept_of value)) c.args.list.now c.in_ok-add_number.ensures.spells;
 }
 
@@ -22,6 +23,7 @@ loop-value-preserved g c =
     record {
       goes = goes_then inv.goes c.add_value.ensures.goes;
       later = omega (arith, inv.later, c.add_value.ensures.cause.later);
+      same = search rules;
       spells = spells_more (u64_bytes (length c.args.list.now)) (λ (value : Value). kept_bytes (kept_of value)) c.args.list.now c.loop-value.value-index c.value-item.result inv.spells c.in_ok-add_value.ensures.spells c.loop-value-test.true c.value-item.is;
     }
 

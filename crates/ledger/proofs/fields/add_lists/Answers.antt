@@ -1,4 +1,4 @@
-use Rattle.std.proofs.Common.{List, [], ◌++◌, length, map, refl, sym, ap, arith}
+use Rattle.std.proofs.Common.{rules, List, [], ◌++◌, length, map, refl, sym, ap, arith}
 use Rattle.std.proofs.lemmas.List.{length-map}
 use Rattle.ledger_model.specs.Numbers.{u32_bytes}
 use Rattle.ledger_model.specs.Entries.{Kept}
@@ -12,6 +12,7 @@ pub loop-list-init : goal.loop-list-init
 loop-list-init g c = record {
   goes = c.add_count.ensures.goes;
   later = c.add_count.ensures.cause.later;
+  same = search rules;
   spells = spells_none (λ (list : List Value). list_layout.spell (map kept_of list)) c.args.lists.now c.in_ok-add_count.ensures.spells;
 }
 
@@ -21,6 +22,7 @@ loop-list-preserved g c =
     record {
       goes = goes_then inv.goes c.add_list.ensures.goes;
       later = omega (arith, inv.later, c.add_list.ensures.cause.later);
+      same = search rules;
       spells = spells_more (u32_bytes (length c.args.lists.now)) (λ (list : List Value). list_layout.spell (map kept_of list)) c.args.lists.now c.loop-list.list-index c.list-item.result inv.spells (spells_as c.in_ok-add_list.ensures.spells (ap (λ (t : List Value). list_layout.spell (map kept_of t)) c.as_slice.ensures)) c.loop-list-test.true c.list-item.is;
     }
 

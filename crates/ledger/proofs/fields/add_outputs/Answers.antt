@@ -1,4 +1,4 @@
-use Rattle.std.proofs.Common.{[], ◌++◌, length, refl, sym, arith}
+use Rattle.std.proofs.Common.{rules, [], ◌++◌, length, refl, sym, arith}
 use Rattle.std.proofs.lemmas.List.{length-map}
 use Rattle.ledger_model.specs.Numbers.{u32_bytes}
 use Rattle.ledger_model.specs.Grammar.{output_layout}
@@ -11,6 +11,7 @@ pub loop-output-init : goal.loop-output-init
 loop-output-init g c = record {
   goes = c.add_count.ensures.goes;
   later = c.add_count.ensures.cause.later;
+  same = search rules;
   spells = spells_none (λ (output : Output). (output_layout []).spell (output_of output)) c.args.outputs.now c.in_ok-add_count.ensures.spells;
 }
 
@@ -20,6 +21,7 @@ loop-output-preserved g c =
     record {
       goes = goes_then inv.goes c.add_output.ensures.goes;
       later = omega (arith, inv.later, c.add_output.ensures.cause.later);
+      same = search rules;
       spells = spells_more (u32_bytes (length c.args.outputs.now)) (λ (output : Output). (output_layout []).spell (output_of output)) c.args.outputs.now c.loop-output.output-index c.output-item.result inv.spells c.in_ok-add_output.ensures.spells c.loop-output-test.true c.output-item.is;
     }
 

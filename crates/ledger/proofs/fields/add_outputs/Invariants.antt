@@ -1,4 +1,4 @@
-use Rattle.std.proofs.Common.{◌≤◌, ◌++◌, [], length, take}
+use Rattle.std.proofs.Common.{◌≡◌, ◌≤◌, ◌++◌, [], length, take}
 use Rattle.std.specs.List.{flat_map}
 use Rattle.ledger.specs.Spelling.{Goes, Spells}
 use Rattle.ledger_model.specs.Numbers.{u32_bytes}
@@ -11,5 +11,6 @@ abbrev pub invariant-loop-output : goal.invariant-loop-output
 invariant-loop-output g l = record {
   goes : Goes (g.D.Disk.state l.fn.disk) (g.D.Disk.state l.disk) l.ledger l.fn.speller l.speller;
   later : g.D.Disk.faults l.fn.disk ≤ g.D.Disk.faults l.disk;
+  same : g.D.Disk.faults l.disk ≡ g.D.Disk.faults l.fn.disk;
   spells : Spells (g.D.Disk.state l.fn.disk) (g.D.Disk.state l.disk) l.ledger l.fn.speller l.speller (u32_bytes (length l.outputs) ++ flat_map (λ (output : Output). (output_layout []).spell (output_of output)) (take l.output-index l.outputs));
 }

@@ -1,4 +1,4 @@
-use Rattle.std.proofs.Common.{List, [], ◌++◌, length, refl, sym, arith}
+use Rattle.std.proofs.Common.{rules, List, [], ◌++◌, length, refl, sym, arith}
 use Rattle.std.proofs.lemmas.List.{length-map}
 use Rattle.ledger_model.specs.Numbers.{u32_bytes}
 use Rattle.ledger_model.specs.Entries.{Span}
@@ -12,6 +12,7 @@ pub loop-span-init : goal.loop-span-init
 loop-span-init g c = record {
   goes = c.add_count.ensures.goes;
   later = c.add_count.ensures.cause.later;
+  same = search rules;
   spells = spells_none (λ (span : EntrySpan). span_layout.spell (span_of span)) c.args.spans.now c.in_ok-add_count.ensures.spells;
 }
 
@@ -21,6 +22,7 @@ loop-span-preserved g c =
     record {
       goes = goes_then inv.goes c.add_span.ensures.goes;
       later = omega (arith, inv.later, c.add_span.ensures.cause.later);
+      same = search rules;
       spells = spells_more (u32_bytes (length c.args.spans.now)) (λ (span : EntrySpan). span_layout.spell (span_of span)) c.args.spans.now c.loop-span.span-index c.span-item.result inv.spells c.in_ok-add_span.ensures.spells c.loop-span-test.true c.span-item.is;
     }
 

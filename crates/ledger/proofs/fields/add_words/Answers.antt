@@ -1,4 +1,4 @@
-use Rattle.std.proofs.Common.{ℕ, List, [], ◌++◌, length, refl, arith}
+use Rattle.std.proofs.Common.{rules, ℕ, List, [], ◌++◌, length, refl, arith}
 use Rattle.ledger_model.specs.Numbers.{u32_bytes, text_bytes}
 use Rattle.ledger_model.specs.Grammar.{text_field}
 use Rattle.ledger.proofs.Spelled.{goes_then, spells_none, spells_more, spells_all, same_joined}
@@ -8,6 +8,7 @@ pub loop-word-init : goal.loop-word-init
 loop-word-init g c = record {
   goes = c.add_count.ensures.goes;
   later = c.add_count.ensures.cause.later;
+  same = search rules;
   spells = spells_none text_bytes c.args.words.now c.in_ok-add_count.ensures.spells;
 }
 
@@ -17,6 +18,7 @@ loop-word-preserved g c =
     record {
       goes = goes_then inv.goes c.add_word.ensures.goes;
       later = omega (arith, inv.later, c.add_word.ensures.cause.later);
+      same = search rules;
       spells = spells_more (u32_bytes (length c.args.words.now)) text_bytes c.args.words.now c.loop-word.word-index c.word-item.result inv.spells c.in_ok-add_word.ensures.spells c.loop-word-test.true c.word-item.is;
     }
 

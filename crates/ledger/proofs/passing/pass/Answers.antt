@@ -1,4 +1,4 @@
-use Rattle.std.proofs.Common.{ℕ, subst, arith}
+use Rattle.std.proofs.Common.{rules, ℕ, subst, arith}
 use Rattle.std.proofs.lemmas.Result.{IfOk-from_err}
 use Rattle.ledger.specs.Passing.{NoText, Passed}
 use Rattle.ledger.proofs.Resting.{rests_then}
@@ -22,6 +22,7 @@ loop-rest-preserved g c =
       within = omega (arith, inv.within);
       rests = rests_then _ _ _ inv.rests c.pass_some.ensures.rests;
       later = omega (arith, inv.later, c.pass_some.ensures.cause.later);
+      same = search rules;
       passes = λ file to can.
           let past = inv.passes file to can in
           let here = c.in_ok-count.ensures.passes file to past.0 in

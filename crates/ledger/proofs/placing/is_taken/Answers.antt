@@ -65,6 +65,7 @@ loop-index-preserved g c =
     record {
       rests = rests_then _ _ _ inv.rests (rests_then _ _ _ c.take_name.ensures.rests (rests_then _ _ _ c.number.ensures.rests (rests_then _ _ _ c.number-in-loop-index.ensures.rests c.number-in-loop-index-2.ensures.rests)));
       later = omega (arith, inv.later, c.take_name.ensures.reason.later, c.number.ensures.reason.later, c.number-in-loop-index.ensures.reason.later, c.number-in-loop-index-2.ensures.reason.later);
+      same = c.in_ok-number-3.ensures.reason.same ∙ (c.in_ok-number-2.ensures.reason.same ∙ (c.in_ok-number.ensures.reason.same ∙ (c.in_ok-other.ensures.reason.same ∙ inv.same)));
       reads = λ file holds.
           let before = inv.reads file holds in
           let k0 = c.in_ok-other.ensures.gives file c.args.to before.0 in

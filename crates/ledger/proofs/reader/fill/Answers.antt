@@ -21,6 +21,7 @@ loop-done-preserved g c =
       within = omega (arith, size, rest, count, inv.within);
       rests = rests_then _ _ _ inv.rests (rests_made _ _ c.read_at.ensures.shows c.read_at.ensures.crash);
       later = omega (arith, inv.later, c.read_at.ensures.cause.later);
+      same = search rules;
       found = λ file holds.
           let now = rests_holds _ _ c.args.name.now file inv.rests holds in
           let fits : c.args.at + c.loop-done.done + c.in_ok-count.count ≤ length file =

@@ -7,6 +7,7 @@ invariant-loop-done g l = record {
   within : l.done ≤ length l.room;
   rests : Rests (g.D.Disk.state l.fn.disk) (g.D.Disk.state l.disk);
   later : g.D.Disk.faults l.fn.disk ≤ g.D.Disk.faults l.disk;
+  same : g.D.Disk.faults l.disk ≡ g.D.Disk.faults l.fn.disk;
   found : (file : List ℕ) → Holds (g.D.Disk.state l.fn.disk) l.name file → (take l.done l.room ≡ take l.done (drop l.at file)) × (l.done ≤ length (drop l.at file));
 }
 

@@ -1,4 +1,4 @@
-use Rattle.std.proofs.Common.{◌-◌, ℕ, subst, arith}
+use Rattle.std.proofs.Common.{◌∙◌, ◌-◌, ℕ, subst, arith}
 use Rattle.ledger.specs.Texts.{Added}
 use Rattle.ledger.proofs.Resting.{rests_then}
 use Rattle.ledger.proofs.Wholes.{added_then, added_short}
@@ -21,6 +21,7 @@ loop-rest-preserved g c =
       within = omega (arith, inv.within);
       rests = rests_then _ _ _ inv.rests c.add_some.ensures.rests;
       later = omega (arith, inv.later, c.add_some.ensures.reason.later);
+      same = c.in-Ok.ensures.reason.same ∙ inv.same;
       adds = λ file end can.
           let past = inv.adds file end can in
           let here = c.in-Ok.ensures.adds file end past.0 in

@@ -1,4 +1,4 @@
-use Rattle.std.proofs.Common.{◌-◌, ◌≤◌, ℕ, List}
+use Rattle.std.proofs.Common.{◌≡◌, ◌-◌, ◌≤◌, ℕ, List}
 use Rattle.ledger.specs.Reader.{CanRead, Rests}
 use Rattle.ledger.specs.Texts.{Added}
 use Rattle.ledger.proofs.texts.add_bytes.Given as goal
@@ -8,6 +8,7 @@ invariant-loop-rest g l = record {
   within : l.rest ≤ l.size;
   rests : Rests (g.D.Disk.state l.fn.disk) (g.D.Disk.state l.disk);
   later : g.D.Disk.faults l.fn.disk ≤ g.D.Disk.faults l.disk;
+  same : g.D.Disk.faults l.disk ≡ g.D.Disk.faults l.fn.disk;
   adds : (file : List ℕ) (end : ℕ) → CanRead (g.D.Disk.state l.fn.disk) l.ledger file end l.fn.reader → CanRead (g.D.Disk.state l.disk) l.ledger file end l.reader × Added file end l.fn.reader.at l.reader.at l.fn.to l.to (l.size - l.rest);
 }
 

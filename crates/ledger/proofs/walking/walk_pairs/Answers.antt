@@ -1,4 +1,4 @@
-use Rattle.std.proofs.Common.{drop, ◌≡◌, ◌≤◌, ◌+◌, Option, subst, arith}
+use Rattle.std.proofs.Common.{refl, ◌∙◌, drop, ◌≡◌, ◌≤◌, ◌+◌, Option, subst, arith}
 use Rattle.std.specs.Option.{IfSome}
 use Rattle.ledger.specs.declared.walking.LastEntry.{LastEntry}
 use Rattle.ledger.specs.Walking.{FindsPair}
@@ -13,6 +13,7 @@ pairs-init g c = record {
   last = tt;
   rests = rests_none _;
   later = omega arith;
+  same = refl;
   walked = λ file holds is marked. pairs_none file marked;
 }
 
@@ -27,6 +28,7 @@ pairs-preserved g c =
       last = omega (arith, low.0, low.1);
       rests = rests_then _ _ _ inv.rests c.walk_pair.ensures.rests;
       later = omega (arith, inv.later, c.walk_pair.ensures.reason.later);
+      same = c.in_ok-found.ensures.reason.same ∙ inv.same;
       walked = λ file holds is marked.
           let there = rests_holds _ _ c.args.ledger.now file inv.rests holds in
           pairs_more file end (inv.walked file holds is marked) c.in-Some.found (subst (λ (o : Option LastEntry). FindsPair (drop end.pair file) end.pair o) c.in-Some.is (c.in_ok-found.ensures.walks file there is));

@@ -12,6 +12,7 @@ invariant-pairs g l = record {
   last : IfSome l.end.last (λ last. last.pair + 10 + last.length ≤ l.end.pair);
   rests : Rests (g.D.Disk.state l.fn.disk) (g.D.Disk.state l.disk);
   later : g.D.Disk.faults l.fn.disk ≤ g.D.Disk.faults l.disk;
+  same : g.D.Disk.faults l.disk ≡ g.D.Disk.faults l.fn.disk;
   walked : (file : List ℕ) → Holds (g.D.Disk.state l.fn.disk) l.ledger file → l.size ≡ length file → take 16 file ≡ mark → SomePairs file l.end;
 }
 

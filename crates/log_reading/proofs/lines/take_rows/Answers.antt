@@ -7,7 +7,7 @@ use Rattle.lp_model.proofs.Results.{on_err}
 use Rattle.log_reading.proofs.lines.take_rows.Goals as goal
 
 pub loop-fields-init : goal.loop-fields-init
-loop-fields-init g c = record { takes = g.met.T.Taker.takes_none _ _; count = omega arith; later = omega arith }
+loop-fields-init g c = record { takes = g.met.T.Taker.takes_none _ _; count = omega arith; goes = g.met.T.Taker.goes_nowhere _; later = omega arith }
 
 pub take-requires-clause-room : goal.take-requires-clause-room
 take-requires-clause-room g c =
@@ -33,6 +33,7 @@ loop-fields-preserved g c =
       takes = subst Now (founds_more (slots_of c.args.line.now) c.args.identity.now c.args.number c.args.columns.now items i c.fields-item.result c.loop-fields-test.true c.fields-item.is)
           (g.met.T.Taker.takes_more _ _ _ _ _ _ _ _ so_far.takes here.takes);
       count = omega arith;
+      goes = g.met.T.Taker.goes_on _ _ _ so_far.goes here.goes;
       later = omega arith;
     }
 

@@ -27,6 +27,7 @@ log-init g c =
       longer = omega arith;
       given = omega arith;
       later_logs = omega arith;
+      goes = g.met.T.Taker.goes_nowhere _;
       later = omega arith;
     }
 
@@ -59,6 +60,7 @@ log-preserved g c =
       longer = omega arith;
       given = omega arith;
       later_logs = omega arith;
+      goes = g.met.T.Taker.goes_on _ _ _ so_far.goes here.goes;
       later = omega arith;
     }
 

@@ -21,6 +21,7 @@ invariant-log g l = record {
   longer : l.initial.page.splitter.place ≤ l.page.splitter.place + length l.page.splitter.left;
   given : g.L.Logs.given l.logs + l.initial.page.splitter.place ≡ g.L.Logs.given l.initial.logs + (l.page.splitter.place + length l.page.splitter.left);
   later_logs : g.L.Logs.faults l.initial.logs ≤ g.L.Logs.faults l.logs;
+  goes : g.T.Taker.goes l.initial.out l.out;
   later : g.T.Taker.faults l.initial.out ≤ g.T.Taker.faults l.out;
 }
 

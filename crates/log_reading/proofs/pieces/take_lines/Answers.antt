@@ -15,6 +15,7 @@ loop-more-init g c =
       end = omega arith;
       within = c.requires.within;
       most = refl;
+      goes = g.met.T.Taker.goes_nowhere _;
       later = omega arith;
     }
 
@@ -30,6 +31,7 @@ loop-more-preserved g c =
       end = took.end ∙ so_far.end;
       within = took.within;
       most = took.most ∙ so_far.most;
+      goes = g.met.T.Taker.goes_on _ _ _ so_far.goes took.goes;
       later = omega arith;
     }
 

@@ -10,6 +10,7 @@ invariant-loop-more g l = record {
   end : l.page.splitter.place + length l.page.splitter.left ≡ l.initial.page.splitter.place + length l.initial.page.splitter.left;
   within : IsWithin l.page.most_bad l.page.bad;
   most : l.page.most_bad ≡ l.initial.page.most_bad;
+  goes : g.T.Taker.goes l.initial.out l.out;
   later : g.T.Taker.faults l.initial.out ≤ g.T.Taker.faults l.out;
 }
 

@@ -44,6 +44,7 @@ loop-span-preserved g c =
       taken = omega arith;
       given = omega arith;
       later_logs = omega arith;
+      goes = g.met.T.Taker.goes_on _ _ _ so_far.goes here.goes;
       later = omega arith;
     }
 

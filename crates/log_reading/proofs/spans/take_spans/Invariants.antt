@@ -19,5 +19,6 @@ invariant-loop-span g l = record {
   taken : g.T.Taker.count l.page.taker ≤ g.T.Taker.count l.initial.page.taker + spans_size (take l.span-index l.spans) + l.span-index;
   given : g.L.Logs.given l.logs ≤ g.L.Logs.given l.initial.logs + spans_size (take l.span-index l.spans);
   later_logs : g.L.Logs.faults l.initial.logs ≤ g.L.Logs.faults l.logs;
+  goes : g.T.Taker.goes l.initial.out l.out;
   later : g.T.Taker.faults l.initial.out ≤ g.T.Taker.faults l.out;
 }

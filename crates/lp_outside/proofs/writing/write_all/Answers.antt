@@ -13,4 +13,4 @@ loop-rest-preserved g c =
     let same : take count first ≡ take count rest = ap (take count) c.first_of.ensures.front ∙ take-take count (length first) rest few in
     let gains = subst (λ (t : List ℕ). Gains (g.S.Sink.written c.loop-rest.out) (g.S.Sink.written c.write.new.self) t) same c.in_ok-count.ensures.bytes in
     let moves = Moves_step _ _ _ _ _ count c.loop-rest.invariant.moves gains in
-    record { moves = rw c.bytes_from-rest.ensures moves; later = search rules }
+    record { moves = rw c.bytes_from-rest.ensures moves; later = search rules; same = search rules }

@@ -1,6 +1,8 @@
 use Rattle.std.proofs.Common.{[], List, ℕ, Option, ap, sym, ◌∙◌, subst}
-use Rattle.lp_model.specs.Outside.{Folder, Told, Gains, GainsSome}
-use Rattle.query_run.specs.Output.{IsUnderWay}
+use Rattle.lp_model.specs.Outside.{Folder, Told}
+use Rattle.query_run.specs.Output.{kind_of, placed_at, reached, GainsText, GainsFront}
+use Rattle.query_run.specs.Gaining.{front_none, gains_as}
+use Rattle.query_run.specs.declared.target.Target.{Target}
 use Rattle.query_run.specs.Rows.{picked}
 use Rattle.log_reading.specs.Page.{IsTooMany, IsWithin}
 use Rattle.log_reading.specs.Spans.{AreKept, BadLine, OnBadLine, spans_found, spans_bad_lines, TakesSpans}
@@ -8,25 +10,29 @@ use Rattle.log_reading.proofs.Faults.{handed_on, bad_line_so}
 use Rattle.query_run.specs.Writer.{Writes, Halts}
 use Rattle.query_run.specs.declared.writer.Writer.{Writer}
 use Rattle.lp_model.proofs.Results.{on_err}
-use Rattle.query_run.proofs.WholeRun.{told_all, told_map, gains_none, front_stopped, at_end}
+use Rattle.query_run.proofs.WholeRun.{told_all, told_map, front_stopped, at_end}
 use Rattle.query_run.proofs.executing.write_spans.Goals as goal
 
 pub returns-in_default-clause-front : goal.returns-in_default-clause-front
 returns-in_default-clause-front g c =
-    let w = (g.G.Stage.state c.args.stage.now).written in
+    let kind = kind_of g.G.Stage.state g.G.Stage.ended in
+    let u = (reached kind c.args.target c.args.stage.now) in
     let text : Folder → List ℕ = λ folder. g.F.Shape.text c.args.shape c.args.fresh c.args.names.now (picked (g.P.Picker.picks c.args.picker) (spans_found (g.R.LineReader.format c.args.reader.now) c.args.waits folder c.args.spans.now)) in
-    told_all _ (λ folder. AreKept (g.R.LineReader.format c.args.reader.now) c.args.waits c.args.spans.now folder → GainsSome w w (text folder)) (λ folder kept. gains_none w (text folder))
+    told_all _ (λ folder. AreKept (g.R.LineReader.format c.args.reader.now) c.args.waits c.args.spans.now folder → GainsFront u c.args.stage.now (text folder)) (λ folder kept. front_none u (text folder))
 
 pub returns-in_default-zeros-clause-front : goal.returns-in_default-zeros-clause-front
 returns-in_default-zeros-clause-front g c =
-    let w = (g.G.Stage.state c.args.stage.now).written in
+    let kind = kind_of g.G.Stage.state g.G.Stage.ended in
+    let u = (reached kind c.args.target c.args.stage.now) in
     let text : Folder → List ℕ = λ folder. g.F.Shape.text c.args.shape c.args.fresh c.args.names.now (picked (g.P.Picker.picks c.args.picker) (spans_found (g.R.LineReader.format c.args.reader.now) c.args.waits folder c.args.spans.now)) in
-    told_all _ (λ folder. AreKept (g.R.LineReader.format c.args.reader.now) c.args.waits c.args.spans.now folder → GainsSome w w (text folder)) (λ folder kept. gains_none w (text folder))
+    told_all _ (λ folder. AreKept (g.R.LineReader.format c.args.reader.now) c.args.waits c.args.spans.now folder → GainsFront u c.args.stage.now (text folder)) (λ folder kept. front_none u (text folder))
 
 pub returns-in_err-take_spans-clause-front : goal.returns-in_err-take_spans-clause-front
 returns-in_err-take_spans-clause-front g c =
-    let u = (g.G.Stage.state c.args.stage.now).written in
+    let kind = kind_of g.G.Stage.state g.G.Stage.ended in
     let page = c.first_page-page.result in
+    let u = reached kind page.taker.target c.args.stage.now in
+    let v = c.take_spans.new.out in
     let same = c.first_page-page.ensures.taker in
     let made = c.in-Ok.ensures in
     let format = ap (λ w. g.F.Shape.text w.shape) same ∙ made.format in
@@ -34,15 +40,19 @@ returns-in_err-take_spans-clause-front g c =
     let format_of = g.R.LineReader.format c.args.reader.now in
     let Kept : Folder → Type 0 = λ folder. AreKept format_of c.args.waits c.args.spans.now folder in
     let text : Folder → List ℕ = λ folder. g.F.Shape.text c.args.shape c.args.fresh c.args.names.now (picked (g.P.Picker.picks c.args.picker) (spans_found format_of c.args.waits folder c.args.spans.now)) in
-    let under_way = subst (λ (w : Writer g.row.F.Denot g.row.P.Denot). IsUnderWay (g.F.Shape.has_text w.shape c.args.fresh c.args.names.now []) u u w.buffers.held) (sym same) (made.text u) in
-    on_err _ c.from_residual.result (told_map _ (λ folder. Kept folder → Halts g.F.Shape.text g.F.Shape.has_text g.P.Picker.picks page.taker u (spans_found format_of c.args.waits folder c.args.spans.now) (g.G.Stage.state c.take_spans.new.out).written) (λ folder. Kept folder → GainsSome u (g.G.Stage.state c.take_spans.new.out).written (text folder)) (λ folder stopped kept.
-    front_stopped g.F.Shape.text g.F.Shape.has_text g.P.Picker.picks page.taker c.args.shape c.args.picker c.args.fresh c.args.names.now (spans_found (g.R.LineReader.format c.args.reader.now) c.args.waits folder c.args.spans.now) u (g.G.Stage.state c.take_spans.new.out).written format picker under_way (stopped kept))
-    c.in_err-take_spans.ensures.stops)
+    let under_way = subst (λ (w : Writer g.row.F.Denot g.row.P.Denot). g.F.Shape.has_text w.shape c.args.fresh c.args.names.now [] w.buffers.held) (sym same) made.text in
+    let target = ap (λ w. w.target) same ∙ made.target in
+    on_err _ c.from_residual.result (subst (λ (t : Target). Told (g.L.Logs.folder c.take_spans.new.logs) (λ folder. Kept folder → GainsFront (reached kind t c.args.stage.now) v (text folder))) target
+    (told_map _ (λ folder. Kept folder → Halts g.F.Shape.text g.F.Shape.has_text g.P.Picker.picks page.taker u (spans_found format_of c.args.waits folder c.args.spans.now) v) (λ folder. Kept folder → GainsFront u v (text folder)) (λ folder stopped kept.
+    front_stopped g.F.Shape.text g.F.Shape.has_text g.P.Picker.picks page.taker c.args.shape c.args.picker c.args.fresh c.args.names.now (spans_found (g.R.LineReader.format c.args.reader.now) c.args.waits folder c.args.spans.now) u v format picker under_way (stopped kept))
+    c.in_err-take_spans.ensures.stops))
 
 pub returns-in-Ok-finish-clause-text : goal.returns-in-Ok-finish-clause-text
 returns-in-Ok-finish-clause-text g c =
-    let u = (g.G.Stage.state c.args.stage.now).written in
+    let kind = kind_of g.G.Stage.state g.G.Stage.ended in
     let page = c.first_page-page.result in
+    let u = reached kind page.taker.target c.args.stage.now in
+    let v = reached kind c.take_spans.new.page.taker.target c.take_spans.new.out in
     let same = c.first_page-page.ensures.taker in
     let made = c.in-Ok.ensures in
     let format = ap (λ w. g.F.Shape.text w.shape) same ∙ made.format in
@@ -50,16 +60,21 @@ returns-in-Ok-finish-clause-text g c =
     let format_of = g.R.LineReader.format c.args.reader.now in
     let Kept : Folder → Type 0 = λ folder. AreKept format_of c.args.waits c.args.spans.now folder in
     let text : Folder → List ℕ = λ folder. g.F.Shape.text c.args.shape c.args.fresh c.args.names.now (picked (g.P.Picker.picks c.args.picker) (spans_found format_of c.args.waits folder c.args.spans.now)) in
-    let under_way = subst (λ (w : Writer g.row.F.Denot g.row.P.Denot). IsUnderWay (g.F.Shape.has_text w.shape c.args.fresh c.args.names.now []) u u w.buffers.held) (sym same) (made.text u) in
-    told_map _ (λ folder. Kept folder → TakesSpans (λ a u' xs b v. Writes g.F.Shape.text g.F.Shape.has_text g.P.Picker.picks a (g.G.Stage.state u').written xs b (g.G.Stage.state v).written) format_of c.args.waits folder c.args.spans.now page c.take_spans.new.page c.args.stage.now c.take_spans.new.out) (λ folder. Kept folder → Gains u (g.G.Stage.state c.finish.new.stage).written (text folder)) (λ folder took kept.
-    at_end g.F.Shape.text g.F.Shape.has_text g.P.Picker.picks (λ t. Gains u (g.G.Stage.state c.finish.new.stage).written t) page.taker c.take_spans.new.page.taker c.args.shape c.args.picker c.args.fresh c.args.names.now (spans_found (g.R.LineReader.format c.args.reader.now) c.args.waits folder c.args.spans.now) u (g.G.Stage.state c.take_spans.new.out).written format picker under_way ((took kept).done)
-    (λ rows. c.in-Ok-finish.ensures.text c.args.fresh c.args.names.now rows u))
-    c.in_ok-take_spans.ensures.takes
+    let under_way = subst (λ (w : Writer g.row.F.Denot g.row.P.Denot). g.F.Shape.has_text w.shape c.args.fresh c.args.names.now [] w.buffers.held) (sym same) made.text in
+    let last = placed_at kind c.take_spans.new.page.taker.target.output c.in-Ok-finish.output c.finish.new.stage in
+    let target = ap (λ w. w.target) same ∙ made.target in
+    subst (λ (t : Target). Told (g.L.Logs.folder c.take_spans.new.logs) (λ folder. Kept folder → GainsText (reached kind t c.args.stage.now) (placed_at kind t.output c.in-Ok-finish.output c.finish.new.stage) (text folder))) target
+    (told_map _ (λ folder. Kept folder → TakesSpans (λ a u' xs b v'. Writes g.F.Shape.text g.F.Shape.has_text g.P.Picker.picks a (reached kind a.target u') xs b (reached kind b.target v')) format_of c.args.waits folder c.args.spans.now page c.take_spans.new.page c.args.stage.now c.take_spans.new.out) (λ folder. Kept folder → GainsText u (placed_at kind page.taker.target.output c.in-Ok-finish.output c.finish.new.stage) (text folder)) (λ folder took kept.
+    gains_as u last (text folder) (at_end g.F.Shape.text g.F.Shape.has_text g.P.Picker.picks (λ t. GainsText u last t) page.taker c.take_spans.new.page.taker c.args.shape c.args.picker c.args.fresh c.args.names.now (spans_found (g.R.LineReader.format c.args.reader.now) c.args.waits folder c.args.spans.now) u v format picker under_way ((took kept).done)
+    (λ rows. c.in-Ok-finish.ensures.text c.args.fresh c.args.names.now rows u)))
+    c.in_ok-take_spans.ensures.takes)
 
 pub returns-in-Err-Memory-clause-front : goal.returns-in-Err-Memory-clause-front
 returns-in-Err-Memory-clause-front g c =
-    let u = (g.G.Stage.state c.args.stage.now).written in
+    let kind = kind_of g.G.Stage.state g.G.Stage.ended in
     let page = c.first_page-page.result in
+    let u = reached kind page.taker.target c.args.stage.now in
+    let v = reached kind c.take_spans.new.page.taker.target c.take_spans.new.out in
     let same = c.first_page-page.ensures.taker in
     let made = c.in-Ok.ensures in
     let format = ap (λ w. g.F.Shape.text w.shape) same ∙ made.format in
@@ -67,16 +82,21 @@ returns-in-Err-Memory-clause-front g c =
     let format_of = g.R.LineReader.format c.args.reader.now in
     let Kept : Folder → Type 0 = λ folder. AreKept format_of c.args.waits c.args.spans.now folder in
     let text : Folder → List ℕ = λ folder. g.F.Shape.text c.args.shape c.args.fresh c.args.names.now (picked (g.P.Picker.picks c.args.picker) (spans_found format_of c.args.waits folder c.args.spans.now)) in
-    let under_way = subst (λ (w : Writer g.row.F.Denot g.row.P.Denot). IsUnderWay (g.F.Shape.has_text w.shape c.args.fresh c.args.names.now []) u u w.buffers.held) (sym same) (made.text u) in
-    told_map _ (λ folder. Kept folder → TakesSpans (λ a u' xs b v. Writes g.F.Shape.text g.F.Shape.has_text g.P.Picker.picks a (g.G.Stage.state u').written xs b (g.G.Stage.state v).written) format_of c.args.waits folder c.args.spans.now page c.take_spans.new.page c.args.stage.now c.take_spans.new.out) (λ folder. Kept folder → GainsSome u (g.G.Stage.state c.finish.new.stage).written (text folder)) (λ folder took kept.
-    at_end g.F.Shape.text g.F.Shape.has_text g.P.Picker.picks (λ t. GainsSome u (g.G.Stage.state c.finish.new.stage).written t) page.taker c.take_spans.new.page.taker c.args.shape c.args.picker c.args.fresh c.args.names.now (spans_found (g.R.LineReader.format c.args.reader.now) c.args.waits folder c.args.spans.now) u (g.G.Stage.state c.take_spans.new.out).written format picker under_way ((took kept).done)
+    let under_way = subst (λ (w : Writer g.row.F.Denot g.row.P.Denot). g.F.Shape.has_text w.shape c.args.fresh c.args.names.now [] w.buffers.held) (sym same) made.text in
+    let last = c.finish.new.stage in
+    let target = ap (λ w. w.target) same ∙ made.target in
+    subst (λ (t : Target). Told (g.L.Logs.folder c.take_spans.new.logs) (λ folder. Kept folder → GainsFront (reached kind t c.args.stage.now) last (text folder))) target
+    (told_map _ (λ folder. Kept folder → TakesSpans (λ a u' xs b v'. Writes g.F.Shape.text g.F.Shape.has_text g.P.Picker.picks a (reached kind a.target u') xs b (reached kind b.target v')) format_of c.args.waits folder c.args.spans.now page c.take_spans.new.page c.args.stage.now c.take_spans.new.out) (λ folder. Kept folder → GainsFront u last (text folder)) (λ folder took kept.
+    at_end g.F.Shape.text g.F.Shape.has_text g.P.Picker.picks (λ t. GainsFront u last t) page.taker c.take_spans.new.page.taker c.args.shape c.args.picker c.args.fresh c.args.names.now (spans_found (g.R.LineReader.format c.args.reader.now) c.args.waits folder c.args.spans.now) u v format picker under_way ((took kept).done)
     (λ rows. c.in-Err-Memory.ensures.front c.args.fresh c.args.names.now rows u))
-    c.in_ok-take_spans.ensures.takes
+    c.in_ok-take_spans.ensures.takes)
 
 pub returns-clause-front : goal.returns-clause-front
 returns-clause-front g c =
-    let u = (g.G.Stage.state c.args.stage.now).written in
+    let kind = kind_of g.G.Stage.state g.G.Stage.ended in
     let page = c.first_page-page.result in
+    let u = reached kind page.taker.target c.args.stage.now in
+    let v = reached kind c.take_spans.new.page.taker.target c.take_spans.new.out in
     let same = c.first_page-page.ensures.taker in
     let made = c.in-Ok.ensures in
     let format = ap (λ w. g.F.Shape.text w.shape) same ∙ made.format in
@@ -84,11 +104,14 @@ returns-clause-front g c =
     let format_of = g.R.LineReader.format c.args.reader.now in
     let Kept : Folder → Type 0 = λ folder. AreKept format_of c.args.waits c.args.spans.now folder in
     let text : Folder → List ℕ = λ folder. g.F.Shape.text c.args.shape c.args.fresh c.args.names.now (picked (g.P.Picker.picks c.args.picker) (spans_found format_of c.args.waits folder c.args.spans.now)) in
-    let under_way = subst (λ (w : Writer g.row.F.Denot g.row.P.Denot). IsUnderWay (g.F.Shape.has_text w.shape c.args.fresh c.args.names.now []) u u w.buffers.held) (sym same) (made.text u) in
-    told_map _ (λ folder. Kept folder → TakesSpans (λ a u' xs b v. Writes g.F.Shape.text g.F.Shape.has_text g.P.Picker.picks a (g.G.Stage.state u').written xs b (g.G.Stage.state v).written) format_of c.args.waits folder c.args.spans.now page c.take_spans.new.page c.args.stage.now c.take_spans.new.out) (λ folder. Kept folder → GainsSome u (g.G.Stage.state c.finish.new.stage).written (text folder)) (λ folder took kept.
-    at_end g.F.Shape.text g.F.Shape.has_text g.P.Picker.picks (λ t. GainsSome u (g.G.Stage.state c.finish.new.stage).written t) page.taker c.take_spans.new.page.taker c.args.shape c.args.picker c.args.fresh c.args.names.now (spans_found (g.R.LineReader.format c.args.reader.now) c.args.waits folder c.args.spans.now) u (g.G.Stage.state c.take_spans.new.out).written format picker under_way ((took kept).done)
+    let under_way = subst (λ (w : Writer g.row.F.Denot g.row.P.Denot). g.F.Shape.has_text w.shape c.args.fresh c.args.names.now [] w.buffers.held) (sym same) made.text in
+    let last = c.finish.new.stage in
+    let target = ap (λ w. w.target) same ∙ made.target in
+    subst (λ (t : Target). Told (g.L.Logs.folder c.take_spans.new.logs) (λ folder. Kept folder → GainsFront (reached kind t c.args.stage.now) last (text folder))) target
+    (told_map _ (λ folder. Kept folder → TakesSpans (λ a u' xs b v'. Writes g.F.Shape.text g.F.Shape.has_text g.P.Picker.picks a (reached kind a.target u') xs b (reached kind b.target v')) format_of c.args.waits folder c.args.spans.now page c.take_spans.new.page c.args.stage.now c.take_spans.new.out) (λ folder. Kept folder → GainsFront u last (text folder)) (λ folder took kept.
+    at_end g.F.Shape.text g.F.Shape.has_text g.P.Picker.picks (λ t. GainsFront u last t) page.taker c.take_spans.new.page.taker c.args.shape c.args.picker c.args.fresh c.args.names.now (spans_found (g.R.LineReader.format c.args.reader.now) c.args.waits folder c.args.spans.now) u v format picker under_way ((took kept).done)
     (λ rows. c.in-Err-Failed.ensures.front c.args.fresh c.args.names.now rows u))
-    c.in_ok-take_spans.ensures.takes
+    c.in_ok-take_spans.ensures.takes)
 
 pub returns-in-Ok-finish-clause-within : goal.returns-in-Ok-finish-clause-within
 returns-in-Ok-finish-clause-within g c =

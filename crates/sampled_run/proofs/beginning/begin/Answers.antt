@@ -7,7 +7,7 @@ use Rattle.sampled_run.proofs.beginning.begin.Goals as goal
 
 pub returns-in-Err-clause-stopped : goal.returns-in-Err-clause-stopped
 returns-in-Err-clause-stopped g c = λ rules start past later asks gathers follows stays.
-    nothing_begun g.F.Shape.text c.args.limit c.args.pattern.now c.args.moment.seconds (query_of c.args.query.now) c.args.gathering c.in-Err.stop (g.G.Stage.state c.args.stage.now).written c.in-Err.ensures.fault rules start past later asks gathers stays
+    nothing_begun g.F.Shape.text c.args.limit c.args.pattern.now c.args.moment.seconds (query_of c.args.query.now) c.args.gathering c.in-Err.stop c.args.stage.now c.in-Err.ensures.fault rules start past later asks gathers stays
 
 pub returns-in-Ok-begin_with-clause-begun : goal.returns-in-Ok-begin_with-clause-begun
 returns-in-Ok-begin_with-clause-begun g c =
@@ -19,7 +19,7 @@ returns-in-Ok-begin_with-clause-begun g c =
 pub returns-in-Err-begin_with-clause-stopped : goal.returns-in-Err-begin_with-clause-stopped
 returns-in-Err-begin_with-clause-stopped g c = λ rules start past later asks gathers follows stays.
     let made = c.in-Ok.ensures in
-    let v = (g.G.Stage.state c.begin_with.new.stage).written in
+    let v = c.begin_with.new.stage in
     let Of : Stop → Type 0 = λ stop. IsStop rules start later stop v in
     subst Of (sym c.stop_of.ensures)
     (failed_begun rules start later c.in-Err-begin_with.fault v

@@ -7,7 +7,8 @@ use Rattle.delimited_input.specs.declared.options.DelimitedOptions.{DelimitedOpt
 use Rattle.delimited_input.specs.Lines.{delimited_lines}
 use Rattle.output_formats.specs.Headers.{csv_of}
 use Rattle.output_formats.specs.declared.csv.Headers.{Headers}
-use Rattle.query_run.specs.declared.executing.Counts.{Counts}
+use Rattle.query_run.specs.Output.{kind_of, reached}
+use Rattle.query_run.specs.declared.executing.Written.{Written}
 use Rattle.sampled_run.specs.declared.fault.SampleFault.{SampleFault}
 use Rattle.sampled_run.specs.Past.{Rules, rules_of}
 use Rattle.sampled_run.specs.Spans.{past_behind, past_of}
@@ -20,26 +21,26 @@ use Rattle.sampled_run.proofs.formats.run_sampled.Goals as goal
 pub returns-clause-ran : goal.returns-clause-ran
 returns-clause-ran g c =
     let told = g.L.Logs.folder c.sample_reader.new.logs in
-    let u = (g.G.Stage.state c.args.stage.now).written in
-    let v = (g.G.Stage.state c.sample_reader.new.stage).written in
+    let u = reached (kind_of g.G.Stage.state g.G.Stage.ended) c.args.target c.args.stage.now in
+    let v = c.sample_reader.new.stage in
     let spans = c.args.spans.now in
     let rules : Headers → Rules = λ headers. rules_of c.args.limit c.args.pattern.now c.args.moment.seconds (query_of c.args.query.now) (csv_of headers) in
-    let Behind : DelimitedOptions → Headers → Counts → Type 0 = λ options headers counts. Told told (λ folder. AreKept (delimited_lines options) false spans folder
-    → IsSampled (rules headers) u (past_behind (delimited_lines options) false folder nothing spans) (delimited_lines options) folder spans counts v) in
+    let Behind : DelimitedOptions → Headers → Written → Type 0 = λ options headers run. Told told (λ folder. AreKept (delimited_lines options) false spans folder
+    → IsSampled (rules headers) u (past_behind (delimited_lines options) false folder nothing spans) (delimited_lines options) folder spans run v) in
     let given = subst (λ (options : DelimitedOptions). IfOk c.sample_reader.result (Behind options c.new-shape.result)) c.in-Ok.ensures.ok c.sample_reader.ensures.ran in
     let named = subst (λ (headers : Headers). IfOk c.sample_reader.result (Behind c.args.options headers)) c.new-shape.ensures given in
     if_ok (Behind c.args.options c.args.headers)
-    (λ (counts : Counts). Told told (λ folder. AreKept (delimited_lines c.args.options) false spans folder
-    → IsSampled (rules c.args.headers) u (past_of (delimited_lines c.args.options) false folder spans) (delimited_lines c.args.options) folder spans counts v))
+    (λ (run : Written). Told told (λ folder. AreKept (delimited_lines c.args.options) false spans folder
+    → IsSampled (rules c.args.headers) u (past_of (delimited_lines c.args.options) false folder spans) (delimited_lines c.args.options) folder spans run v))
     c.sample_reader.result
-    (λ counts. ran_told (rules c.args.headers) (delimited_lines c.args.options) (delimited_sets_once c.args.options) told spans u v counts)
+    (λ run. ran_told (rules c.args.headers) (delimited_lines c.args.options) (delimited_sets_once c.args.options) told spans u v run)
     named
 
 pub returns-clause-stopped : goal.returns-clause-stopped
 returns-clause-stopped g c =
     let told = g.L.Logs.folder c.sample_reader.new.logs in
-    let u = (g.G.Stage.state c.args.stage.now).written in
-    let v = (g.G.Stage.state c.sample_reader.new.stage).written in
+    let u = reached (kind_of g.G.Stage.state g.G.Stage.ended) c.args.target c.args.stage.now in
+    let v = c.sample_reader.new.stage in
     let spans = c.args.spans.now in
     let rules : Headers → Rules = λ headers. rules_of c.args.limit c.args.pattern.now c.args.moment.seconds (query_of c.args.query.now) (csv_of headers) in
     let Behind : DelimitedOptions → Headers → SampleFault → Type 0 = λ options headers fault. Told told (λ folder. AreKept (delimited_lines options) false spans folder

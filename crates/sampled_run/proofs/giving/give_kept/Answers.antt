@@ -7,7 +7,7 @@ use Rattle.sampled_run.proofs.Kept.{found_on, kept_more, kept_split}
 use Rattle.sampled_run.proofs.giving.give_kept.Goals as goal
 
 pub loop-row-init : goal.loop-row-init
-loop-row-init g c = record { takes = g.met.T.Taker.takes_none _ _; count = omega arith; later = omega arith }
+loop-row-init g c = record { takes = g.met.T.Taker.takes_none _ _; count = omega arith; goes = g.met.T.Taker.goes_nowhere _; later = omega arith }
 
 pub take-requires-clause-room : goal.take-requires-clause-room
 take-requires-clause-room g c =
@@ -34,6 +34,7 @@ loop-row-preserved g c =
     record {
       takes = subst Now (kept_more items i c.row-item.result c.loop-row-test.true c.row-item.is) (g.met.T.Taker.takes_more _ _ _ _ _ _ _ _ so_far.takes (subst One c.as_slice-line.ensures here.takes));
       count = omega arith;
+      goes = g.met.T.Taker.goes_on _ _ _ so_far.goes here.goes;
       later = omega arith;
     }
 

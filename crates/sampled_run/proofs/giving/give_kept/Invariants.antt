@@ -7,5 +7,6 @@ abbrev pub invariant-loop-row : goal.invariant-loop-row
 invariant-loop-row g l = record {
   takes : g.T.Taker.takes l.initial.taker l.initial.out (map found_in (take l.row-index l.row-items)) l.taker l.out;
   count : g.T.Taker.count l.taker ≡ g.T.Taker.count l.initial.taker + l.row-index;
+  goes : g.T.Taker.goes l.initial.out l.out;
   later : g.T.Taker.faults l.initial.out ≤ g.T.Taker.faults l.out;
 }

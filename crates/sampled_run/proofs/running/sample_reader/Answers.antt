@@ -1,6 +1,7 @@
 use Rattle.std.proofs.Common.{[], refl, sym, ◌∙◌, ap, subst, Err, false, ℕ, Option, None, arith}
 use Rattle.lp_model.proofs.Growing.{OnlyGrow-refl}
 use Rattle.lp_model.specs.Outside.{Told}
+use Rattle.query_run.specs.Output.{kind_of, reached}
 use Rattle.query_tree.specs.Views.{query_of}
 use Rattle.log_reading.proofs.Faults.{bad_line_so}
 use Rattle.log_reading.specs.Page.{IsTooMany, IsWithin}
@@ -11,6 +12,7 @@ use Rattle.sampled_run.specs.Past.{rules_of}
 use Rattle.sampled_run.specs.Spans.{past_behind}
 use Rattle.sampled_run.specs.Ran.{IsStoppedBy, OnBadOne}
 use Rattle.sampled_run.proofs.Sizes.{has_room, within_none}
+use Rattle.sampled_run.proofs.Noted.{fresh_holds}
 use Rattle.sampled_run.proofs.Ran.{ran, stopped_reading, stopped_ending, stopped_at_once, bad_in, fault_same, logs_in, output_in}
 use Rattle.sampled_run.proofs.running.sample_reader.Goals as goal
 
@@ -42,18 +44,18 @@ returns-in_default-clause-grows g c = OnlyGrow-refl _
 
 pub returns-in_default-clause-stopped : goal.returns-in_default-clause-stopped
 returns-in_default-clause-stopped g c =
-    stopped_at_once (rules_of c.args.limit c.args.pattern.now c.args.moment.seconds (query_of c.args.query.now) (g.F.Shape.text c.args.shape)) (g.R.LineReader.format c.args.reader.now) (g.L.Logs.folder c.args.logs.now) c.args.spans.now (g.G.Stage.state c.args.stage.now).written
+    stopped_at_once (rules_of c.args.limit c.args.pattern.now c.args.moment.seconds (query_of c.args.query.now) (g.F.Shape.text c.args.shape)) (g.R.LineReader.format c.args.reader.now) (g.L.Logs.folder c.args.logs.now) c.args.spans.now (reached (kind_of g.G.Stage.state g.G.Stage.ended) c.args.target c.args.stage.now)
 
 pub returns-in-Err-clause-stopped : goal.returns-in-Err-clause-stopped
 returns-in-Err-clause-stopped g c =
     let rules = rules_of c.args.limit c.args.pattern.now c.args.moment.seconds (query_of c.args.query.now) (g.F.Shape.text c.args.shape) in
     let format = g.R.LineReader.format c.args.reader.now in
     let told = g.L.Logs.folder c.take_all.new.logs in
-    let u = (g.G.Stage.state c.args.stage.now).written in
-    let v = (g.G.Stage.state c.take_all.new.stage).written in
+    let u = (reached (kind_of g.G.Stage.state g.G.Stage.ended) c.args.target c.args.stage.now) in
+    let v = c.take_all.new.stage in
     let Of : SampleFault → Type 0 = λ fault. Told told (λ folder. AreKept format false c.args.spans.now folder → IsStoppedBy rules u (past_behind format false folder (record { first = None; founds = [] }) c.args.spans.now) fault v) in
     subst Of (sym c.fault_in.ensures)
-    (stopped_reading g.F.Shape.text g.F.Shape.has_text rules format told c.args.spans.now c.first_page-page.result c.take_all.new.page u v c.in-Err.fault (c.first_page-page.ensures.holds u) c.in-Err.ensures.stops)
+    (stopped_reading g.F.Shape.text g.F.Shape.has_text rules format told c.args.spans.now c.first_page-page.result c.take_all.new.page u v c.in-Err.fault (fresh_holds g.F.Shape.text g.F.Shape.has_text c.args.limit c.args.pattern.now c.args.moment.seconds (query_of c.args.query.now) c.args.shape c.args.target c.first_page-page.result.taker c.args.stage.now c.first_page-page.ensures.fresh) c.in-Err.ensures.stops)
 
 pub returns-in-Err-clause-too_many : goal.returns-in-Err-clause-too_many
 returns-in-Err-clause-too_many g c =
@@ -79,17 +81,17 @@ returns-in-Ok-finish_run-clause-ran g c =
     let rules = rules_of c.args.limit c.args.pattern.now c.args.moment.seconds (query_of c.args.query.now) (g.F.Shape.text c.args.shape) in
     let format = g.R.LineReader.format c.args.reader.now in
     let told = g.L.Logs.folder c.take_all.new.logs in
-    ran g.F.Shape.text g.F.Shape.has_text rules format told c.args.spans.now c.first_page-page.result c.take_all.new.page (g.G.Stage.state c.args.stage.now).written (g.G.Stage.state c.take_all.new.stage).written (g.G.Stage.state c.finish_run.new.stage).written
-    (record { processed = c.take_all.new.page.rows; output = c.in-Ok-finish_run.output; bad = c.take_all.new.page.bad })
-    (c.first_page-page.ensures.holds (g.G.Stage.state c.args.stage.now).written) c.first_page-page.ensures.rows c.first_page-page.ensures.bad refl refl c.in-Ok-take_all.ensures.takes c.in-Ok-finish_run.ensures.written
+    ran g.F.Shape.text g.F.Shape.has_text rules format told c.args.spans.now c.first_page-page.result c.take_all.new.page (reached (kind_of g.G.Stage.state g.G.Stage.ended) c.args.target c.args.stage.now) c.take_all.new.stage c.finish_run.new.stage
+    (record { counts = record { processed = c.take_all.new.page.rows; output = c.in-Ok-finish_run.end.rows; bad = c.take_all.new.page.bad }; output = c.in-Ok-finish_run.end.output })
+    (fresh_holds g.F.Shape.text g.F.Shape.has_text c.args.limit c.args.pattern.now c.args.moment.seconds (query_of c.args.query.now) c.args.shape c.args.target c.first_page-page.result.taker c.args.stage.now c.first_page-page.ensures.fresh) c.first_page-page.ensures.rows c.first_page-page.ensures.bad refl refl c.in-Ok-take_all.ensures.takes c.in-Ok-finish_run.ensures.written
 
 pub returns-clause-stopped : goal.returns-clause-stopped
 returns-clause-stopped g c =
     let rules = rules_of c.args.limit c.args.pattern.now c.args.moment.seconds (query_of c.args.query.now) (g.F.Shape.text c.args.shape) in
     let format = g.R.LineReader.format c.args.reader.now in
     let told = g.L.Logs.folder c.take_all.new.logs in
-    let u = (g.G.Stage.state c.args.stage.now).written in
-    let w = (g.G.Stage.state c.finish_run.new.stage).written in
+    let u = (reached (kind_of g.G.Stage.state g.G.Stage.ended) c.args.target c.args.stage.now) in
+    let w = c.finish_run.new.stage in
     let Of : SampleFault → Type 0 = λ fault. Told told (λ folder. AreKept format false c.args.spans.now folder → IsStoppedBy rules u (past_behind format false folder (record { first = None; founds = [] }) c.args.spans.now) fault w) in
     subst Of (sym c.fault_of.ensures)
-    (stopped_ending g.F.Shape.text g.F.Shape.has_text rules format told c.args.spans.now c.first_page-page.result c.take_all.new.page u (g.G.Stage.state c.take_all.new.stage).written w c.in-Err-finish_run.stop (c.first_page-page.ensures.holds u) c.in-Ok-take_all.ensures.takes c.in-Err-finish_run.ensures.stopped)
+    (stopped_ending g.F.Shape.text g.F.Shape.has_text rules format told c.args.spans.now c.first_page-page.result c.take_all.new.page u c.take_all.new.stage w c.in-Err-finish_run.stop (fresh_holds g.F.Shape.text g.F.Shape.has_text c.args.limit c.args.pattern.now c.args.moment.seconds (query_of c.args.query.now) c.args.shape c.args.target c.first_page-page.result.taker c.args.stage.now c.first_page-page.ensures.fresh) c.in-Ok-take_all.ensures.takes c.in-Err-finish_run.ensures.stopped)

@@ -1,5 +1,4 @@
-use Rattle.std.proofs.Common.{◌≡◌, ℕ, ◌+◌, ◌-◌, length, sym, ◌∙◌, subst, arith}
-use Rattle.ledger_model.specs.Grammar.{payload_of}
+use Rattle.std.proofs.Common.{◌≡◌, ℕ, ◌+◌, subst, arith}
 use Rattle.commit.specs.States.{IsSettled}
 use Rattle.commit.proofs.Errors.{handed_on}
 use Rattle.commit.proofs.Places.{size_between}

@@ -1,4 +1,3 @@
-use Rattle.std.proofs.Common.{◌≡◌}
 use Rattle.commit.proofs.Errors.{on_ok}
 use Rattle.commit.proofs.phases.Commit.open_gate.Goals as goal
 

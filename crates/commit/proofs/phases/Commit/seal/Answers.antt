@@ -1,4 +1,4 @@
-use Rattle.std.proofs.Common.{◌≡◌, ℕ, ◌+◌, ◌≤◌, ◌<◌, ◌^◌, min, length, arith}
+use Rattle.std.proofs.Common.{length}
 use Rattle.ledger_model.specs.Grammar.{payload_of}
 use Rattle.ledger.specs.Written.{entry_of}
 use Rattle.commit.proofs.Places.{place_behind}

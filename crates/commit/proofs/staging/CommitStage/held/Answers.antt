@@ -1,4 +1,4 @@
-use Rattle.std.proofs.Common.{◌≡◌, List, ℕ, length, refl, sym, ◌∙◌, ap}
+use Rattle.std.proofs.Common.{length, refl, sym, ◌∙◌, ap}
 use Rattle.disk_changes.proofs.Showing.{shows_none}
 use Rattle.commit.proofs.Readings.{works_read}
 use Rattle.commit.proofs.staging.CommitStage.held.Goals as goal

@@ -1,4 +1,4 @@
-use Rattle.std.proofs.Common.{◌≡◌, List, ℕ, length, sym, ◌∙◌, ap}
+use Rattle.std.proofs.Common.{length, sym, ◌∙◌, ap}
 use Rattle.commit.proofs.staging.CommitStage.put.Goals as goal
 
 pub returns-in-Ok-clause-lengths : goal.returns-in-Ok-clause-lengths

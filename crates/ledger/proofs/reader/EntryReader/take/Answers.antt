@@ -23,6 +23,7 @@ loop-done-preserved g c =
       end = c.take_piece.ensures.to ∙ inv.end;
       rests = rests_then _ _ _ inv.rests c.take_piece.ensures.rests;
       later = omega (arith, inv.later, c.take_piece.ensures.cause.later);
+      same = search rules;
       reads = λ file to can.
           let past = inv.reads file to can in
           let piece = c.in-Ok-true.ensures.reads file to past.0 in

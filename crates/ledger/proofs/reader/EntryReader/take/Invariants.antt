@@ -11,6 +11,7 @@ invariant-loop-done g l = record {
   end : l.self.to ≡ l.fn.self.to;
   rests : Rests (g.D.Disk.state l.fn.disk) (g.D.Disk.state l.disk);
   later : g.D.Disk.faults l.fn.disk ≤ g.D.Disk.faults l.disk;
+  same : g.D.Disk.faults l.disk ≡ g.D.Disk.faults l.fn.disk;
   reads : (file : List ℕ) (to : ℕ) → CanRead (g.D.Disk.state l.fn.disk) l.ledger file to l.fn.self → CanRead (g.D.Disk.state l.disk) l.ledger file to l.self × Stood file to l.fn.self.at l.self.at (take l.done l.into);
 }
 

@@ -1,0 +1,70 @@
+// Messages and statistics over an output in memory.
+use command_words::{UsageFault, UsageKind};
+use lp_outside::Name;
+use memory_outside::MemorySink;
+use query_lexer::LexFault;
+use query_text::QueryFault;
+use query_types::TypeFault;
+use reports::{Status, write_message, write_statistics};
+use std::alloc::Global;
+use std::test::Fail;
+
+fn parse_errors() -> Result<Status, Fail> {
+    let log = Name::read("logs/ex 1.log").map_err(|_| "no name")?;
+    Ok(Status::ParseErrors { log, row: 4096 })
+}
+
+fn status(word: &str) -> Result<Status, Fail> {
+    Ok(match word {
+        "memory" => Status::Memory,
+        "clock" => Status::Clock(-1),
+        "usage" => Status::Usage(UsageFault {
+            word: u32::MAX,
+            kind: UsageKind::NeedsTemplate,
+        }),
+        "open" => Status::Query(QueryFault::Lex(LexFault::OpenBracket { at: 65535 })),
+        "few" => Status::Query(QueryFault::Plan(TypeFault::TooFewColumns { at: 21 })),
+        "logs" => Status::LogsFault,
+        _ => parse_errors()?,
+    })
+}
+
+// The code of a status and its message.
+fn told(alloc: Global, status: &Status) -> Result<String, Fail> {
+    let mut err = MemorySink::new(alloc);
+    write_message(&mut err, status)?;
+    Ok(format!(in alloc; "{} {:?}", status.code(), str::from_utf8(err.bytes()).ok())?)
+}
+
+const ROWS: &str = "\
+memory => 1 Some(\"logparser: out of memory\\n\")
+clock => 2 Some(\"logparser: clock\\n\")
+usage => 2 Some(\"logparser: usage: word 4294967295: needs -tpl\\n\")
+open => 3 Some(\"logparser: query: at 65535: open bracket\\n\")
+few => 3 Some(\"logparser: query: at 21: too few columns\\n\")
+logs => 5 Some(\"logparser: read fault: logs\\n\")
+row => 8 Some(\"logparser: parse errors: logs/ex 1.log row 4096\\n\")";
+
+#[test]
+fn each_refusal_has_its_code_and_its_line(rt: HostRuntime) -> Result<(), Fail> {
+    for row in ROWS.lines() {
+        let (word, want) = row.split_once(" => ").ok_or("no message")?;
+        assert!(rt; told(rt.alloc(), &status(word)?)?.as_str() == want, "{row}");
+    }
+    Ok(())
+}
+
+// Whether statistics to an output that fails at a call leave this front.
+fn leaves(alloc: Global, call: u64, front: &[u8]) -> Result<bool, Fail> {
+    let mut err = MemorySink::new(alloc);
+    err.fail(call)?;
+    Ok(write_statistics(&mut err, u64::MAX, 1, 1).is_err() && err.bytes() == front)
+}
+
+#[test]
+fn an_output_that_fails_has_the_front(rt: HostRuntime) -> Result<(), Fail> {
+    let front = b"Statistics:\n-----------\nElements processed: 18446744073709551615".as_slice();
+    assert!(rt; leaves(rt.alloc(), 0, b"")?);
+    assert!(rt; leaves(rt.alloc(), 2, front)?);
+    Ok(())
+}

@@ -1,0 +1,95 @@
+// Runs over objects in memory, of which one fails.
+use logparser_cli::run;
+use lp_outside::Name;
+use lp_values::{Bytes, Text, TextList, read_integer};
+use memory_outside::{MemoryDisk, MemoryLogs, MemorySink, MemorySource};
+use reports::Status;
+use std::alloc::{AllocError, Global};
+use std::test::Fail;
+
+// A log of two lines, the second without an end, behind a failing call.
+fn logs(alloc: Global, name: &str, failing: &str, call: u64) -> Result<MemoryLogs, Fail> {
+    let mut logs = MemoryLogs::new(alloc);
+    let name = Name::read(name).map_err(|_| "no name")?;
+    logs.put(&name, b"a\r\nb")?;
+    if failing == "logs" {
+        logs.fail(call)?;
+    }
+    Ok(logs)
+}
+
+fn sink(alloc: Global, is_failing: bool, call: u64) -> Result<MemorySink, AllocError> {
+    let mut sink = MemorySink::new(alloc);
+    if is_failing {
+        sink.fail(call)?;
+    }
+    Ok(sink)
+}
+
+fn words(alloc: Global, name: &str) -> Result<TextList, AllocError> {
+    let mut words = TextList::new(alloc);
+    words.push(Text::from_str(alloc, "-o:CSV")?)?;
+    words.push(Text::from_string(format!(in alloc; "SELECT * FROM {name}")?))?;
+    Ok(words)
+}
+
+fn status_of(
+    alloc: Global,
+    words: &TextList,
+    moment: i64,
+    logs: &mut MemoryLogs,
+    out: &mut MemorySink,
+    err: &mut MemorySink,
+) -> Status {
+    let mut disk = MemoryDisk::new(alloc);
+    let mut input = MemorySource::new(alloc, Bytes::new(alloc));
+    run(alloc, words, moment, logs, &mut disk, &mut input, out, err)
+}
+
+// The code of a run over a log at a moment, where a call of an object fails, and what it writes, with `/` for a line's end.
+fn told(alloc: Global, name: &str, moment: i64, failing: &str, call: u64) -> Result<Bytes, Fail> {
+    let mut logs = logs(alloc, name, failing, call)?;
+    let mut out = sink(alloc, failing == "out", call)?;
+    let mut err = sink(alloc, failing == "err", call)?;
+    let words = words(alloc, name)?;
+    let status = status_of(alloc, &words, moment, &mut logs, &mut out, &mut err);
+    let mut told = Bytes::new(alloc);
+    told.add(format!(in alloc; "{} ", status.code())?.as_str().as_bytes())?;
+    for byte in out.bytes().iter().chain(err.bytes()) {
+        told.push(if *byte == b'\n' { b'/' } else { *byte })?;
+    }
+    Ok(told)
+}
+
+const ROWS: &str = "\
+a.log 0 none 0 => 0 LogFilename,Index,Text/a.log,1,a/a.log,2,b/Statistics:/-----------/Elements processed: 2/Elements output:    2/
+a.csv 253402300799 none 0 => 0 Filename,RowNumber,a/a.csv,2,b/Statistics:/-----------/Elements processed: 1/Elements output:    1/
+a.log -1 none 0 => 2 logparser: clock/
+a.log 253402300800 none 0 => 2 logparser: clock/
+a.log 0 logs 0 => 5 logparser: read fault: logs/
+a.log 0 logs 1 => 5 logparser: read fault: logs/
+a.csv 0 logs 0 => 5 logparser: read fault: logs/
+a.csv 0 logs 1 => 5 logparser: read fault: logs/
+a.log 0 out 0 => 7 logparser: write fault/
+a.csv 0 out 0 => 7 logparser: write fault/
+a.log 0 err 1 => 0 LogFilename,Index,Text/a.log,1,a/a.log,2,b/Statistics:/-----------/Elements processed: ";
+
+fn word(row: &str, place: usize) -> &str {
+    row.split(' ').nth(place).unwrap_or("")
+}
+
+#[test]
+fn runs_end_with_a_status_and_their_text(rt: HostRuntime) -> Result<(), Fail> {
+    for row in ROWS.lines() {
+        let (words, want) = row.split_once(" => ").ok_or("no text")?;
+        let moment = read_integer(word(words, 1)).ok_or("no moment")?;
+        let call = if word(words, 3) == "0" { 0 } else { 1 };
+        let told = told(rt.alloc(), word(words, 0), moment, word(words, 2), call)?;
+        assert!(rt;
+            told.as_slice() == want.as_bytes(),
+            "{row} {:?}",
+            told.as_slice()
+        );
+    }
+    Ok(())
+}
