@@ -12,23 +12,23 @@ use Rattle.lp_model.proofs.Following.{records_following-append, bad_following-ap
 use Rattle.lp_model.proofs.Ordered.{come_same}
 use Rattle.line_input.specs.Handed.{TakesFirst}
 use Rattle.line_input.specs.Splitter.{Split}
-use Rattle.log_reading.specs.Found.{Found, found_of}
+use Rattle.log_reading.specs.Found.{Met, met_of}
 use Rattle.log_reading.specs.declared.page.Page.{Page}
 use Rattle.log_reading.specs.Page.{Takes, Stops, to_come, Follows, Advances, StopsIn, StopsWithin, Spends, IsTooMany, ExceedsIn, ExceedsWithin}
-use Rattle.log_reading.proofs.Founds.{found_of-append}
+use Rattle.log_reading.proofs.Founds.{met_of-append}
 
 -- the laws of a taker
 abbrev pub TakesMore : {T O : Type 0} → Takes T O → Type 0
-TakesMore {T = T} {O = O} takes = (a b c : T) (u v w : O) (xs ys : List Found) → takes a u xs b v → takes b v ys c w → takes a u (xs ++ ys) c w
+TakesMore {T = T} {O = O} takes = (a b c : T) (u v w : O) (xs ys : List Met) → takes a u xs b v → takes b v ys c w → takes a u (xs ++ ys) c w
 
 abbrev pub StopsLater : {T O : Type 0} → Takes T O → Stops T O → Type 0
-StopsLater {T = T} {O = O} takes stops = (a b c : T) (u v w : O) (xs ys : List Found) → takes a u xs b v → stops b v ys c w → stops a u (xs ++ ys) c w
+StopsLater {T = T} {O = O} takes stops = (a b c : T) (u v w : O) (xs ys : List Met) → takes a u xs b v → stops b v ys c w → stops a u (xs ++ ys) c w
 
 abbrev pub StopsMore : {T O : Type 0} → Stops T O → Type 0
-StopsMore {T = T} {O = O} stops = (a c : T) (u w : O) (xs ys : List Found) → stops a u xs c w → stops a u (xs ++ ys) c w
+StopsMore {T = T} {O = O} stops = (a c : T) (u w : O) (xs ys : List Met) → stops a u xs c w → stops a u (xs ++ ys) c w
 
 abbrev pub StopsHere : {T O : Type 0} → Takes T O → Stops T O → Type 0
-StopsHere {T = T} {O = O} takes stops = (a b : T) (u v : O) (xs ys : List Found) → takes a u xs b v → stops a u (xs ++ ys) b v
+StopsHere {T = T} {O = O} takes stops = (a b : T) (u v : O) (xs ys : List Met) → takes a u xs b v → stops a u (xs ++ ys) b v
 
 -- the columns behind one line more, and what that line gives
 in_bounds : (line : Line) → is_overlong line.text ≡ false → is_in_bounds line ≡ true
@@ -81,7 +81,7 @@ pub follows_line : {T O : Type 0} (takes : Takes T O) (format : Format) (identit
     → line.number ≡ old.standing.lines + 1 → line.text ≡ text → is_overlong line.text ≡ false → reading ≡ format.reading text old.standing.columns
     → new.standing.lines ≡ old.standing.lines + 1
     → ((before : List (List ℕ)) → old.standing.columns ≡ format.columns_after before → new.standing.columns ≡ format.columns_after (before ++ text ∷ []))
-    → takes old.taker u (found_of identity (records_read (old.standing.lines + 1) new.standing.columns reading)) new.taker w
+    → takes old.taker u (met_of identity (records_read (old.standing.lines + 1) new.standing.columns reading)) new.taker w
     → new.rows ≡ old.rows + length (rows_in reading) → new.bad ≡ old.bad + bad_count reading
     → Follows takes format identity (line ∷ []) old new u w
 follows_line takes format identity line old new u w text reading number same short read lines columns took rows bad = record {
@@ -94,7 +94,7 @@ follows_line takes format identity line old new u w text reading number same sho
       let size : length (history ++ line ∷ []) ≡ length history + 1 = length-append history (line ∷ []) in
       let row_count : length (records_following format history (line ∷ [])) ≡ length (rows_in reading) = ap length records ∙ length-map (rows_in reading) _ in
       let bad_count' = bad_line format history line reading reading' in
-      let Done : List Record → Type 0 = λ t. takes old.taker u (found_of identity t) new.taker w in
+      let Done : List Record → Type 0 = λ t. takes old.taker u (met_of identity t) new.taker w in
       record {
         done = subst Done (sym records) took;
         standing = standing_same format (history ++ line ∷ []) new.standing (omega arith) columns_now;
@@ -106,7 +106,7 @@ follows_line takes format identity line old new u w text reading number same sho
 pub stops_line : {T O : Type 0} (stops : Stops T O) (format : Format) (identity : List ℕ) (line : Line) (old z : Page T) (u w : O) (text : List ℕ) (reading : Reading) (columns_now : Option Columns)
     → line.number ≡ old.standing.lines + 1 → line.text ≡ text → is_overlong line.text ≡ false → reading ≡ format.reading text old.standing.columns
     → ((before : List (List ℕ)) → old.standing.columns ≡ format.columns_after before → columns_now ≡ format.columns_after (before ++ text ∷ []))
-    → stops old.taker u (found_of identity (records_read (old.standing.lines + 1) columns_now reading)) z.taker w
+    → stops old.taker u (met_of identity (records_read (old.standing.lines + 1) columns_now reading)) z.taker w
     → StopsIn stops format identity (line ∷ []) old z u w
 stops_line stops format identity line old z u w text reading columns_now number same short read columns stopped = record {
   behind = λ history at.
@@ -114,7 +114,7 @@ stops_line stops format identity line old z u w text reading columns_now number 
       let now : columns_now ≡ columns_behind format (history ++ line ∷ []) = columns _ columns_then ∙ sym (columns_line format history line text same short) in
       let reading' : reading_behind format history line ≡ reading = reading_line format history line text old.standing at same short ∙ sym read in
       let records = records_line format history line reading (old.standing.lines + 1) columns_now number now reading' in
-      let Stopped : List Record → Type 0 = λ t. stops old.taker u (found_of identity t) z.taker w in
+      let Stopped : List Record → Type 0 = λ t. stops old.taker u (met_of identity t) z.taker w in
       subst Stopped (sym records) stopped;
 }
 
@@ -131,7 +131,7 @@ follows_overlong {T = T} takes format identity line old new w nothing long taker
       let one : length (bad_following format history (line ∷ [])) ≡ 1 = rw long refl in
       let size : length (history ++ line ∷ []) ≡ length history + 1 = length-append history (line ∷ []) in
       let row_count : length (records_following format history (line ∷ [])) ≡ 0 = ap length none in
-      let Done : List Record → Type 0 = λ t. takes old.taker w (found_of identity t) new.taker w in
+      let Done : List Record → Type 0 = λ t. takes old.taker w (met_of identity t) new.taker w in
       let At : T → Type 0 = λ t. takes old.taker w [] t w in
       record {
         done = subst Done (sym none) (subst At (sym taker) nothing);
@@ -163,9 +163,9 @@ follows_trans takes more format identity first second a b c u v w f s = record {
       let s_rows = s'.rows in
       let f_bad = f'.bad in
       let s_bad = s'.bad in
-      let Done : List Found → Type 0 = λ t. takes a.taker u t c.taker w in
+      let Done : List Met → Type 0 = λ t. takes a.taker u t c.taker w in
       record {
-        done = subst Done (sym (found_of-append identity (records_following format history first) (records_following format (history ++ first) second)) ∙ ap (found_of identity) (sym records))
+        done = subst Done (sym (met_of-append identity (records_following format history first) (records_following format (history ++ first) second)) ∙ ap (met_of identity) (sym records))
             (more _ _ _ _ _ _ _ _ f'.done s'.done);
         standing = s'.standing ∙ ap (standing_behind format) (append_assoc history first second);
         rows = omega arith;
@@ -179,8 +179,8 @@ stops_trans takes stops later format identity first second a b z u v w f s = rec
   behind = λ history at.
       let f' = f.behind history at in
       let records = records_following-append format history first second in
-      let Stopped : List Found → Type 0 = λ t. stops a.taker u t z.taker w in
-      subst Stopped (sym (found_of-append identity (records_following format history first) (records_following format (history ++ first) second)) ∙ ap (found_of identity) (sym records))
+      let Stopped : List Met → Type 0 = λ t. stops a.taker u t z.taker w in
+      subst Stopped (sym (met_of-append identity (records_following format history first) (records_following format (history ++ first) second)) ∙ ap (met_of identity) (sym records))
       (later _ _ _ _ _ _ _ _ f'.done (s.behind (history ++ first) f'.standing));
 }
 
@@ -189,8 +189,8 @@ pub stops_more : {T O : Type 0} (stops : Stops T O) (more : StopsMore stops) (fo
 stops_more stops more format identity first second a z u w s = record {
   behind = λ history at.
       let records = records_following-append format history first second in
-      let Stopped : List Found → Type 0 = λ t. stops a.taker u t z.taker w in
-      subst Stopped (sym (found_of-append identity (records_following format history first) (records_following format (history ++ first) second)) ∙ ap (found_of identity) (sym records))
+      let Stopped : List Met → Type 0 = λ t. stops a.taker u t z.taker w in
+      subst Stopped (sym (met_of-append identity (records_following format history first) (records_following format (history ++ first) second)) ∙ ap (met_of identity) (sym records))
       (more _ _ _ _ _ _ (s.behind history at));
 }
 

@@ -2,17 +2,17 @@
 use Rattle.std.proofs.Common.{◌≡◌, ℕ, ◌+◌, ◌<◌, List, [], ◌∷◌, ◌++◌, length, take, drop, get_or, map, Option, ap, sym, ◌∙◌}
 use Rattle.std.proofs.lemmas.List.{map-append, take_more, take-append-drop}
 use Rattle.lp_model.specs.Reading.{Columns, Slots, Record, records_read, rows}
-use Rattle.log_reading.specs.Found.{Found, found_of}
+use Rattle.log_reading.specs.Found.{Met, met_of}
 
-abbrev pub founds : List ℕ → ℕ → Option Columns → List Slots → List Found
-founds identity number columns slots = found_of identity (records_read number columns (rows slots))
+abbrev pub founds : List ℕ → ℕ → Option Columns → List Slots → List Met
+founds identity number columns slots = met_of identity (records_read number columns (rows slots))
 
-pub found_of-append : (identity : List ℕ) (xs ys : List Record) → found_of identity (xs ++ ys) ≡ found_of identity xs ++ found_of identity ys
-found_of-append identity xs ys = map-append _ xs ys
+pub met_of-append : (identity : List ℕ) (xs ys : List Record) → met_of identity (xs ++ ys) ≡ met_of identity xs ++ met_of identity ys
+met_of-append identity xs ys = map-append _ xs ys
 
 pub founds-append : (identity : List ℕ) (number : ℕ) (columns : Option Columns) (xs ys : List Slots)
     → founds identity number columns (xs ++ ys) ≡ founds identity number columns xs ++ founds identity number columns ys
-founds-append identity number columns xs ys = ap (found_of identity) (map-append _ xs ys) ∙ found_of-append identity (records_read number columns (rows xs)) (records_read number columns (rows ys))
+founds-append identity number columns xs ys = ap (met_of identity) (map-append _ xs ys) ∙ met_of-append identity (records_read number columns (rows xs)) (records_read number columns (rows ys))
 
 -- one field list more
 pub founds_more : {X : Type 0} (s : X → Slots) (identity : List ℕ) (number : ℕ) (columns : Option Columns) (items : List X) (i : ℕ) (x : X) → i < length items → x ≡ get_or items i x

@@ -5,3 +5,4 @@ pub mod SpansTaken
 pub mod Starting
 pub mod Ending
 pub mod Faults
+pub mod RowsMet

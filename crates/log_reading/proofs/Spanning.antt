@@ -5,20 +5,20 @@ use Rattle.std.specs.List.{position_or_len}
 use Rattle.lp_model.specs.Lines.{Line, is_lf, lines_to_come}
 use Rattle.lp_model.specs.Outside.{Folder, OnlyGrow, Told, bytes_in}
 use Rattle.lp_model.specs.Pieces.{IsPiece, rest_of}
-use Rattle.lp_model.specs.Reading.{Format, Record, records_of, bad_lines_of, lines_before, lines_between, standing_behind, standing_at}
+use Rattle.lp_model.specs.Reading.{Format, Standing, Record, records_of, bad_lines_of, lines_before, lines_between, standing_behind, standing_at}
 use Rattle.lp_model.specs.Following.{records_following, bad_following, end_of}
 use Rattle.lp_model.proofs.Carrying.{standing_carried}
 use Rattle.lp_model.proofs.Following.{records_of-following, bad_lines_of-following}
 use Rattle.lp_model.proofs.Growing.{OnlyGrow-refl}
 use Rattle.lp_model.proofs.Ordered.{come_same, lines_between_end}
 use Rattle.lp_model.proofs.Pieces.{IsPiece-grown, IsPiece-more, IsPiece-none, rest_begins, rest_none}
-use Rattle.log_reading.specs.Found.{Found, found_of}
+use Rattle.log_reading.specs.Found.{Met, met_of, log_ended}
 use Rattle.log_reading.specs.declared.span.Span.{Span}
 use Rattle.log_reading.specs.declared.span.Took.{Took}
 use Rattle.log_reading.specs.declared.page.Page.{Page}
 use Rattle.log_reading.specs.Page.{Takes, Stops, to_come, Follows, StopsIn, StopsWithin, IsTooMany, ExceedsIn, ExceedsWithin}
-use Rattle.log_reading.specs.Spans.{HasRead, StopsReading, ExceedsReading, BadLine, bad_line, span_bad_lines, log_to_come, IsKept, TakesSpan, cut_of, span_found, span_bad, EndsSpan, took_at, took_of, span_end}
-use Rattle.log_reading.proofs.Advancing.{TakesMore, StopsHere, StopsLater, advances_trans, advances_none, stops_trans, follows_trans, to_come-waiting, exceeds_trans}
+use Rattle.log_reading.specs.Spans.{HasRead, StopsReading, ExceedsReading, BadLine, bad_line, span_bad_lines, log_to_come, IsKept, TakesRows, TakesSpan, cut_of, span_found, span_rows, span_met, span_bad, EndsSpan, took_at, took_of, span_end}
+use Rattle.log_reading.proofs.Advancing.{TakesMore, StopsHere, StopsLater, StopsMore, advances_trans, advances_none, stops_trans, follows_trans, to_come-waiting, exceeds_trans}
 use Rattle.log_reading.proofs.Ending.{standing_at_cut}
 
 abbrev end_at : {T : Type 0} → Page T → ℕ
@@ -108,7 +108,7 @@ span_lines waits x span first format start kept =
     (ap (λ t. t ++ rest_of x span.name (end_at first) span.listed) start.left ∙ ap (λ k. drop k bytes) end)
 
 pub span_taken : {T O : Type 0} (takes : Takes T O) (format : Format) (waits : Bool) (x : Folder) (span : Span) (old first new : Page T) (u w : O) → IsStart span first → first.taker ≡ old.taker → first.rows ≡ old.rows → first.bad ≡ old.bad
-    → Follows takes format span.identity (log_to_come waits first x span.name span.listed) first new u w → IsKept format waits (cut_of x span) span → TakesSpan takes format waits x span old new u w
+    → Follows takes format span.identity (log_to_come waits first x span.name span.listed) first new u w → IsKept format waits (cut_of x span) span → TakesRows takes format waits x span old new u w
 span_taken {T = T} takes format waits x span old first new u w start taker rows bad follows kept =
     let bytes = cut_of x span in
     let history = lines_before bytes waits span.from in
@@ -118,8 +118,8 @@ span_taken {T = T} takes format waits x span old first new u w start taker rows 
     ap (records_following format history) lines ∙ sym (records_of-following format bytes waits span.from kept.at_end) in
     let bad_lines : bad_following format history (log_to_come waits first x span.name span.listed) ≡ bad_lines_of format bytes waits span.from (length bytes) =
     ap (bad_following format history) lines ∙ sym (bad_lines_of-following format bytes waits span.from kept.at_end) in
-    let Done : List Record → Type 0 = λ t. takes old.taker u (found_of span.identity t) new.taker w in
-    let At : T → Type 0 = λ t. takes t u (found_of span.identity (records_following format history (log_to_come waits first x span.name span.listed))) new.taker w in
+    let Done : List Record → Type 0 = λ t. takes old.taker u (met_of span.identity t) new.taker w in
+    let At : T → Type 0 = λ t. takes t u (met_of span.identity (records_following format history (log_to_come waits first x span.name span.listed))) new.taker w in
     let row_count : length (span_found format waits x span) ≡ length (records_following format history (log_to_come waits first x span.name span.listed)) = length-map (records_of format bytes waits span.from (length bytes)) _ ∙ ap length (sym records) in
     let bad_count : length (span_bad format waits x span) ≡ length (bad_following format history (log_to_come waits first x span.name span.listed)) = ap length (sym bad_lines) in
     let now_rows = behind.rows in
@@ -131,7 +131,7 @@ span_taken {T = T} takes format waits x span old first new u w start taker rows 
     }
 
 pub span_stopped : {T O : Type 0} (stops : Stops T O) (format : Format) (waits : Bool) (x : Folder) (span : Span) (old first z : Page T) (u w : O) → IsStart span first → first.taker ≡ old.taker
-    → StopsIn stops format span.identity (log_to_come waits first x span.name span.listed) first z u w → IsKept format waits (cut_of x span) span → stops old.taker u (span_found format waits x span) z.taker w
+    → StopsIn stops format span.identity (log_to_come waits first x span.name span.listed) first z u w → IsKept format waits (cut_of x span) span → stops old.taker u (span_rows format waits x span) z.taker w
 span_stopped {T = T} stops format waits x span old first z u w start taker stopped kept =
     let bytes = cut_of x span in
     let history = lines_before bytes waits span.from in
@@ -139,31 +139,31 @@ span_stopped {T = T} stops format waits x span old first z u w start taker stopp
     let lines = span_lines waits x span first format start kept in
     let records : records_following format history (log_to_come waits first x span.name span.listed) ≡ records_of format bytes waits span.from (length bytes) =
     ap (records_following format history) lines ∙ sym (records_of-following format bytes waits span.from kept.at_end) in
-    let Done : List Record → Type 0 = λ t. stops old.taker u (found_of span.identity t) z.taker w in
-    let At : T → Type 0 = λ t. stops t u (found_of span.identity (records_following format history (log_to_come waits first x span.name span.listed))) z.taker w in
+    let Done : List Record → Type 0 = λ t. stops old.taker u (met_of span.identity t) z.taker w in
+    let At : T → Type 0 = λ t. stops t u (met_of span.identity (records_following format history (log_to_come waits first x span.name span.listed))) z.taker w in
     subst Done records (subst At taker behind)
 
 -- the same, as the object tells
 pub told_taken : {T O : Type 0} (takes : Takes T O) (more : TakesMore takes) (format : Format) (waits : Bool) (told : Option Folder) (span : Span) (old first read new : Page T) (u v w : O) → IsStart span first → first.taker ≡ old.taker → first.rows ≡ old.rows → first.bad ≡ old.bad
     → HasRead takes format span.identity waits told span.name span.listed first read u v → read.splitter.place + length read.splitter.left ≡ span.listed → Follows takes format span.identity (to_come waits read []) read new v w
-    → Told told (λ folder. IsKept format waits (cut_of folder span) span → TakesSpan takes format waits folder span old new u w)
+    → Told told (λ folder. IsKept format waits (cut_of folder span) span → TakesRows takes format waits folder span old new u w)
 told_taken takes more format waits None span old first read new u v w start taker rows bad f whole s = tt
 told_taken takes more format waits (Some x) span old first read new u v w start taker rows bad f whole s =
     span_taken takes format waits x span old first new u w start taker rows bad (follows_whole takes more format span.identity waits (Some x) x span.name span.listed first read new u v w refl f whole s)
 
 pub told_stopped : {T O : Type 0} (stops : Stops T O) (format : Format) (waits : Bool) (told : Option Folder) (span : Span) (old first z : Page T) (u w : O) → IsStart span first → first.taker ≡ old.taker
     → StopsReading stops format span.identity waits told span.name span.listed first z u w
-    → Told told (λ folder. IsKept format waits (cut_of folder span) span → stops old.taker u (span_found format waits folder span) z.taker w)
+    → Told told (λ folder. IsKept format waits (cut_of folder span) span → stops old.taker u (span_rows format waits folder span) z.taker w)
 told_stopped stops format waits None span old first z u w start taker s = tt
 told_stopped stops format waits (Some x) span old first z u w start taker s = span_stopped stops format waits x span old first z u w start taker s.within
 
 -- nothing was taken of a span
 pub told_at_once : {T O : Type 0} (takes : Takes T O) (stops : Stops T O) (here : StopsHere takes stops) (format : Format) (waits : Bool) (told : Option Folder) (span : Span) (old new : Page T) (w : O) → new.taker ≡ old.taker
-    → takes old.taker w [] old.taker w → Told told (λ folder. IsKept format waits (cut_of folder span) span → stops old.taker w (span_found format waits folder span) new.taker w)
+    → takes old.taker w [] old.taker w → Told told (λ folder. IsKept format waits (cut_of folder span) span → stops old.taker w (span_rows format waits folder span) new.taker w)
 told_at_once takes stops here format waits None span old new w same nothing = tt
 told_at_once {T = T} takes stops here format waits (Some x) span old new w same nothing = λ kept.
     let At : T → Type 0 = λ t. takes old.taker w [] t w in
-    here old.taker new.taker w w [] (span_found format waits x span) (subst At (sym same) nothing)
+    here old.taker new.taker w w [] (span_rows format waits x span) (subst At (sym same) nothing)
 
 -- how the page stands at a span's end, where lines wait
 ends_span : {T O : Type 0} (takes : Takes T O) (format : Format) (x : Folder) (span : Span) (first read new : Page T) (u v w : O) → IsStart span first
@@ -194,11 +194,41 @@ told_ends takes more format (Some x) span first read new u v w start f whole las
 -- a span was taken, and nothing more came of it
 pub told_here : {T O : Type 0} (takes : Takes T O) (stops : Stops T O) (here : StopsHere takes stops) (format : Format) (waits : Bool) (told : Option Folder) (span : Span) (old new : Page T) (u w : O)
     → Told told (λ folder. IsKept format waits (cut_of folder span) span → TakesSpan takes format waits folder span old new u w)
-    → Told told (λ folder. IsKept format waits (cut_of folder span) span → stops old.taker u (span_found format waits folder span) new.taker w)
+    → Told told (λ folder. IsKept format waits (cut_of folder span) span → stops old.taker u (span_met format waits folder span) new.taker w)
 told_here takes stops here format waits None span old new u w t = tt
 told_here {T = T} takes stops here format waits (Some x) span old new u w t = λ kept.
-    let Stopped : List Found → Type 0 = λ l. stops old.taker u l new.taker w in
-    subst Stopped (append-nil (span_found format waits x span)) (here old.taker new.taker u w (span_found format waits x span) [] (t kept).done)
+    let Stopped : List Met → Type 0 = λ l. stops old.taker u l new.taker w in
+    subst Stopped (append-nil (span_met format waits x span)) (here old.taker new.taker u w (span_met format waits x span) [] (t kept).done)
+
+-- behind its rows the end of a span's log was taken
+pub told_ended : {T O : Type 0} (takes : Takes T O) (more : TakesMore takes) (format : Format) (waits : Bool) (told : Option Folder) (span : Span) (old mid new : Page T) (u v w : O)
+    → Told told (λ folder. IsKept format waits (cut_of folder span) span → TakesRows takes format waits folder span old mid u v)
+    → Told told (λ folder. IsKept format waits (cut_of folder span) span → mid.standing ≡ standing_at format (cut_of folder span) waits (length (cut_of folder span)))
+    → takes mid.taker v (log_ended span.identity mid.standing.columns ∷ []) new.taker w → new.rows ≡ mid.rows → new.bad ≡ mid.bad
+    → Told told (λ folder. IsKept format waits (cut_of folder span) span → TakesSpan takes format waits folder span old new u w)
+told_ended takes more format waits None span old mid new u v w rows stands ended same_rows same_bad = tt
+told_ended takes more format waits (Some x) span old mid new u v w rows stands ended same_rows same_bad = λ kept.
+    let so_far = rows kept in
+    let Ended : Standing → Type 0 = λ s. takes mid.taker v (log_ended span.identity s.columns ∷ []) new.taker w in
+    record { done = more _ _ _ _ _ _ _ _ so_far.done (subst Ended (stands kept) ended); rows = same_rows ∙ so_far.rows; bad = same_bad ∙ so_far.bad }
+
+-- it stopped at the end of the log
+pub told_unended : {T O : Type 0} (takes : Takes T O) (stops : Stops T O) (later : StopsLater takes stops) (format : Format) (waits : Bool) (told : Option Folder) (span : Span) (old mid new : Page T) (u v w : O)
+    → Told told (λ folder. IsKept format waits (cut_of folder span) span → TakesRows takes format waits folder span old mid u v)
+    → Told told (λ folder. IsKept format waits (cut_of folder span) span → mid.standing ≡ standing_at format (cut_of folder span) waits (length (cut_of folder span)))
+    → stops mid.taker v (log_ended span.identity mid.standing.columns ∷ []) new.taker w
+    → Told told (λ folder. IsKept format waits (cut_of folder span) span → stops old.taker u (span_met format waits folder span) new.taker w)
+told_unended takes stops later format waits None span old mid new u v w rows stands ended = tt
+told_unended takes stops later format waits (Some x) span old mid new u v w rows stands ended = λ kept.
+    let Ended : Standing → Type 0 = λ s. stops mid.taker v (log_ended span.identity s.columns ∷ []) new.taker w in
+    later _ _ _ _ _ _ _ _ (rows kept).done (subst Ended (stands kept) ended)
+
+-- it stopped within the rows
+pub told_in_rows : {T O : Type 0} (stops : Stops T O) (more : StopsMore stops) (format : Format) (waits : Bool) (told : Option Folder) (span : Span) (old z : Page T) (u w : O)
+    → Told told (λ folder. IsKept format waits (cut_of folder span) span → stops old.taker u (span_rows format waits folder span) z.taker w)
+    → Told told (λ folder. IsKept format waits (cut_of folder span) span → stops old.taker u (span_met format waits folder span) z.taker w)
+told_in_rows stops more format waits None span old z u w s = tt
+told_in_rows stops more format waits (Some x) span old z u w s = λ kept. more _ _ _ _ _ _ (s kept)
 
 pub told_took : {T : Type 0} (format : Format) (told : Option Folder) (span : Span) (page : Page T) (a b : List Took) → b ≡ a ++ took_at span.identity span.from page.splitter.place page.standing ∷ []
     → Told told (λ folder. IsKept format true (cut_of folder span) span → EndsSpan format folder span page) → Told told (λ folder. IsKept format true (cut_of folder span) span → b ≡ a ++ took_of format folder span ∷ [])

@@ -7,12 +7,12 @@ use Rattle.lp_model.specs.Outside.{Folder, OnlyGrow, Told, bytes_in}
 use Rattle.lp_model.specs.Reading.{Format, records_of, bad_lines_of, standing_at, lines_between}
 use Rattle.lp_model.specs.Following.{end_of}
 use Rattle.lp_model.proofs.Pieces.{take_grown, there_grown}
-use Rattle.log_reading.specs.Found.{Found, found_of}
+use Rattle.log_reading.specs.Found.{Met, found_of, met_of, log_ended}
 use Rattle.log_reading.specs.declared.page.Page.{Page}
 use Rattle.log_reading.specs.declared.span.Span.{Span}
 use Rattle.log_reading.specs.declared.span.Took.{Took}
 use Rattle.log_reading.specs.Page.{Takes, Stops, IsTooMany}
-use Rattle.log_reading.specs.Spans.{BadLine, bad_line, span_bad_lines, spans_bad_lines, IsKept, TakesSpan, TakesSpans, AllSpans, AreKept, cut_of, span_found, span_bad, spans_found, spans_bad, spans_size, took_of, took_at}
+use Rattle.log_reading.specs.Spans.{BadLine, bad_line, span_bad_lines, spans_bad_lines, IsKept, TakesSpan, TakesSpans, AllSpans, AreKept, cut_of, span_found, span_met, span_bad, spans_found, spans_met, spans_bad, spans_size, took_of, took_at}
 use Rattle.log_reading.proofs.Advancing.{TakesMore, StopsLater, StopsMore, too_many_more, too_many_later}
 
 -- what a span's bytes say, where they are the same in two folders
@@ -21,6 +21,9 @@ kept_along format waits a b span same kept = subst (λ (t : List ℕ). IsKept fo
 
 found_along : (format : Format) (waits : Bool) (a b : Folder) (span : Span) → cut_of b span ≡ cut_of a span → span_found format waits b span ≡ span_found format waits a span
 found_along format waits a b span same = ap (λ t. found_of span.identity (records_of format t waits span.from (length t))) same
+
+met_along : (format : Format) (waits : Bool) (a b : Folder) (span : Span) → cut_of b span ≡ cut_of a span → span_met format waits b span ≡ span_met format waits a span
+met_along format waits a b span same = ap (λ (t : List ℕ). met_of span.identity (records_of format t waits span.from (length t)) ++ log_ended span.identity (standing_at format t waits (length t)).columns ∷ []) same
 
 bad_along : (format : Format) (waits : Bool) (a b : Folder) (span : Span) → cut_of b span ≡ cut_of a span → span_bad format waits b span ≡ span_bad format waits a span
 bad_along format waits a b span same = ap (λ t. bad_lines_of format t waits span.from (length t)) same
@@ -103,15 +106,19 @@ spans_more takes more format waits (Some x) (Some y) spans i span a b c u v w lt
     let rows_now = here.rows in
     let bad_before = so_far.bad in
     let bad_now = here.bad in
-    let Done : List Found → Type 0 = λ t. takes a.taker u t c.taker w in
-    record { done = subst Done all (more _ _ _ _ _ _ _ _ so_far.done here.done); rows = omega arith; bad = omega arith }
+    let mets : spans_met format waits y (take i spans) ≡ spans_met format waits x (take i spans) =
+    flat_map-same (span_met format waits y) (span_met format waits x) (take i spans) (λ k s lt' is'. met_along format waits x y s (front k s lt' is')) in
+    let met_one : spans_met format waits y (take (i + 1) spans) ≡ spans_met format waits y (take i spans) ++ span_met format waits y span = flat_one (span_met format waits y) spans i span lt is in
+    let met_all : spans_met format waits x (take i spans) ++ span_met format waits y span ≡ spans_met format waits y (take (i + 1) spans) = ap (λ t. t ++ span_met format waits y span) (sym mets) ∙ sym met_one in
+    let Done : List Met → Type 0 = λ t. takes a.taker u t c.taker w in
+    record { done = subst Done met_all (more _ _ _ _ _ _ _ _ so_far.done here.done); rows = omega arith; bad = omega arith }
 
 -- it stopped within a span
 pub spans_stopped : {T O : Type 0} (takes : Takes T O) (stops : Stops T O) (later : StopsLater takes stops) (more : StopsMore stops) (format : Format) (waits : Bool) (first second : Option Folder) (spans : List Span) (i : ℕ) (span : Span) (a b z : Page T) (u v w : O) → i < length spans → span ≡ get_or spans i span
     → OnlyGrow first second → Told first (λ folder. AllSpans spans (λ s. s.listed ≤ length (bytes_in folder s.name)))
     → Told first (λ folder. AreKept format waits spans folder → TakesSpans takes format waits folder (take i spans) a b u v)
-    → Told second (λ folder. IsKept format waits (cut_of folder span) span → stops b.taker v (span_found format waits folder span) z.taker w)
-    → Told second (λ folder. AreKept format waits spans folder → stops a.taker u (spans_found format waits folder spans) z.taker w)
+    → Told second (λ folder. IsKept format waits (cut_of folder span) span → stops b.taker v (span_met format waits folder span) z.taker w)
+    → Told second (λ folder. AreKept format waits spans folder → stops a.taker u (spans_met format waits folder spans) z.taker w)
 spans_stopped takes stops later more format waits None None spans i span a b z u v w lt is grows there f s = tt
 spans_stopped takes stops later more format waits None (Some y) spans i span a b z u v w lt is grows there f s = let e : Some y ≡ None = grows in cc
 spans_stopped takes stops later more format waits (Some x) None spans i span a b z u v w lt is grows there f s = tt
@@ -120,14 +127,14 @@ spans_stopped takes stops later more format waits (Some x) (Some y) spans i span
     let so_far = f (λ k s lt' is'. kept_along format waits x y s (same k s lt' is') (kept k s lt' is')) in
     let here = s (kept i span lt is) in
     let front = front_all spans (λ s. cut_of y s ≡ cut_of x s) i (omega arith) same in
-    let founds : spans_found format waits y (take i spans) ≡ spans_found format waits x (take i spans) =
-    flat_map-same (span_found format waits y) (span_found format waits x) (take i spans) (λ k s lt' is'. found_along format waits x y s (front k s lt' is')) in
-    let found_one : spans_found format waits y (take (i + 1) spans) ≡ spans_found format waits y (take i spans) ++ span_found format waits y span = flat_one (span_found format waits y) spans i span lt is in
-    let all : spans_found format waits x (take i spans) ++ span_found format waits y span ≡ spans_found format waits y (take (i + 1) spans) = ap (λ t. t ++ span_found format waits y span) (sym founds) ∙ sym found_one in
-    let rest = spans_found format waits y (drop (i + 1) spans) in
-    let whole : (spans_found format waits x (take i spans) ++ span_found format waits y span) ++ rest ≡ spans_found format waits y spans =
-    ap (λ t. t ++ rest) all ∙ (sym (flat_map-append (span_found format waits y) (take (i + 1) spans) (drop (i + 1) spans)) ∙ ap (spans_found format waits y) (take-append-drop (i + 1) spans)) in
-    let Stopped : List Found → Type 0 = λ t. stops a.taker u t z.taker w in
+    let founds : spans_met format waits y (take i spans) ≡ spans_met format waits x (take i spans) =
+    flat_map-same (span_met format waits y) (span_met format waits x) (take i spans) (λ k s lt' is'. met_along format waits x y s (front k s lt' is')) in
+    let found_one : spans_met format waits y (take (i + 1) spans) ≡ spans_met format waits y (take i spans) ++ span_met format waits y span = flat_one (span_met format waits y) spans i span lt is in
+    let all : spans_met format waits x (take i spans) ++ span_met format waits y span ≡ spans_met format waits y (take (i + 1) spans) = ap (λ t. t ++ span_met format waits y span) (sym founds) ∙ sym found_one in
+    let rest = spans_met format waits y (drop (i + 1) spans) in
+    let whole : (spans_met format waits x (take i spans) ++ span_met format waits y span) ++ rest ≡ spans_met format waits y spans =
+    ap (λ t. t ++ rest) all ∙ (sym (flat_map-append (span_met format waits y) (take (i + 1) spans) (drop (i + 1) spans)) ∙ ap (spans_met format waits y) (take-append-drop (i + 1) spans)) in
+    let Stopped : List Met → Type 0 = λ t. stops a.taker u t z.taker w in
     subst Stopped whole (more _ _ _ _ _ _ (later _ _ _ _ _ _ _ _ so_far.done here))
 
 -- as many bad lines as numbers of bad lines

@@ -3,18 +3,18 @@ use Rattle.std.specs.Prelude.{◌≡◌, ◌+◌, ◌<◌, ◌≤◌, ◌^◌, �
 use Rattle.lp_model.specs.Lines.{Line, lines_to_come}
 use Rattle.lp_model.specs.Reading.{Format, standing_behind}
 use Rattle.lp_model.specs.Following.{records_following, bad_following, end_of}
-use Rattle.log_reading.specs.Found.{Found, found_of}
+use Rattle.log_reading.specs.Found.{Met, met_of}
 use Rattle.log_reading.specs.declared.page.Page.{Page}
 use Rattle.log_reading.specs.declared.taker.LineFault.{LineFault}
 use Rattle.log_reading.specs.declared.taker.LineFault.TheVariants as fault
 
--- what a taker makes of rows
+-- what a taker makes of what it meets
 abbrev pub Takes : Type 0 → Type 0 → Type 1
-Takes T O = T → O → List Found → T → O → Type 0
+Takes T O = T → O → List Met → T → O → Type 0
 
--- what stands in an output where a taker stopped within rows
+-- what stands in an output where a taker stopped within what it met
 abbrev pub Stops : Type 0 → Type 0 → Type 1
-Stops T O = T → O → List Found → T → O → Type 0
+Stops T O = T → O → List Met → T → O → Type 0
 
 -- the lines that are still to come, where these bytes follow those that were fed
 abbrev pub to_come : {T : Type 0} → Bool → Page T → List ℕ → List Line
@@ -22,7 +22,7 @@ to_come waits page more = lines_to_come waits (page.standing.lines + 1) page.spl
 
 -- lines behind others were taken
 pub record TakesBehind {T O : Type 0} (takes : Takes T O) (format : Format) (identity : List ℕ) (history lines : List Line) (old new : Page T) (before now : O) : Type 0 where
-  pub done : takes old.taker before (found_of identity (records_following format history lines)) new.taker now
+  pub done : takes old.taker before (met_of identity (records_following format history lines)) new.taker now
   pub standing : new.standing ≡ standing_behind format (history ++ lines)
   pub rows : new.rows ≡ old.rows + length (records_following format history lines)
   pub bad : new.bad ≡ old.bad + length (bad_following format history lines)
@@ -40,7 +40,7 @@ pub record Advances {T O : Type 0} (takes : Takes T O) (format : Format) (identi
 
 -- the output holds what a taker left that stopped within the rows of these lines
 pub record StopsIn {T O : Type 0} (stops : Stops T O) (format : Format) (identity : List ℕ) (lines : List Line) (old new : Page T) (before now : O) : Type 0 where
-  pub behind : (history : List Line) → old.standing ≡ standing_behind format history → stops old.taker before (found_of identity (records_following format history lines)) new.taker now
+  pub behind : (history : List Line) → old.standing ≡ standing_behind format history → stops old.taker before (met_of identity (records_following format history lines)) new.taker now
 
 -- the same for a piece, whatever bytes follow it
 pub record StopsWithin {T O : Type 0} (stops : Stops T O) (format : Format) (identity : List ℕ) (waits : Bool) (piece : List ℕ) (old new : Page T) (before now : O) : Type 0 where

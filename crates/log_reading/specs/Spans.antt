@@ -1,11 +1,11 @@
 -- Spans of logs, and what a run makes of them.
-use Rattle.std.specs.Prelude.{◌≡◌, ◌+◌, ◌-◌, ◌≤◌, ◌<◌, ◌^◌, ℕ, Bool, true, List, length, map, take, flat_map, sum_by, get_or, Option, ⊤}
+use Rattle.std.specs.Prelude.{◌≡◌, ◌+◌, ◌-◌, ◌≤◌, ◌<◌, ◌^◌, ℕ, Bool, true, List, [], ◌∷◌, ◌++◌, length, map, take, flat_map, sum_by, get_or, Option, ⊤}
 use Rattle.lp_model.specs.Lines.{Line}
 use Rattle.lp_model.specs.Outside.{Folder, Told, bytes_in}
 use Rattle.lp_model.specs.Pieces.{IsPiece, rest_of}
 use Rattle.lp_model.specs.Reading.{Format, Standing, standing_at, records_of, bad_lines_of, lines_between}
 use Rattle.lp_model.specs.Following.{IsLineEnd, end_of}
-use Rattle.log_reading.specs.Found.{Found, found_of}
+use Rattle.log_reading.specs.Found.{Found, Met, found_of, met_of, log_ended}
 use Rattle.log_reading.specs.declared.page.Page.{Page}
 use Rattle.log_reading.specs.declared.span.Span.{Span}
 use Rattle.log_reading.specs.declared.span.Took.{Took}
@@ -45,6 +45,13 @@ pub record IsKept (format : Format) (waits : Bool) (bytes : List ℕ) (span : Sp
 abbrev pub span_found : Format → Bool → Folder → Span → List Found
 span_found format waits folder span = let bytes = cut_of folder span in found_of span.identity (records_of format bytes waits span.from (length bytes))
 
+-- what a run meets in a span: its rows, and the end of its log
+abbrev pub span_rows : Format → Bool → Folder → Span → List Met
+span_rows format waits folder span = let bytes = cut_of folder span in met_of span.identity (records_of format bytes waits span.from (length bytes))
+
+abbrev pub span_met : Format → Bool → Folder → Span → List Met
+span_met format waits folder span = let bytes = cut_of folder span in span_rows format waits folder span ++ log_ended span.identity (standing_at format bytes waits (length bytes)).columns ∷ []
+
 abbrev pub span_bad : Format → Bool → Folder → Span → List ℕ
 span_bad format waits folder span = let bytes = cut_of folder span in bad_lines_of format bytes waits span.from (length bytes)
 
@@ -60,8 +67,14 @@ abbrev pub span_bad_lines : Format → Bool → Folder → Span → List BadLine
 span_bad_lines format waits folder span = map (bad_line span.identity) (span_bad format waits folder span)
 
 -- a span's log was read and its rows were taken
+pub record TakesRows {T O : Type 0} (takes : Takes T O) (format : Format) (waits : Bool) (folder : Folder) (span : Span) (old new : Page T) (before now : O) : Type 0 where
+  pub done : takes old.taker before (span_rows format waits folder span) new.taker now
+  pub rows : new.rows ≡ old.rows + length (span_found format waits folder span)
+  pub bad : new.bad ≡ old.bad + length (span_bad format waits folder span)
+
+-- a span was taken: its rows and the end of its log
 pub record TakesSpan {T O : Type 0} (takes : Takes T O) (format : Format) (waits : Bool) (folder : Folder) (span : Span) (old new : Page T) (before now : O) : Type 0 where
-  pub done : takes old.taker before (span_found format waits folder span) new.taker now
+  pub done : takes old.taker before (span_met format waits folder span) new.taker now
   pub rows : new.rows ≡ old.rows + length (span_found format waits folder span)
   pub bad : new.bad ≡ old.bad + length (span_bad format waits folder span)
 
@@ -82,6 +95,10 @@ spans_found format waits folder spans = flat_map (span_found format waits folder
 abbrev pub spans_bad : Format → Bool → Folder → List Span → List ℕ
 spans_bad format waits folder spans = flat_map (span_bad format waits folder) spans
 
+-- what a run meets in spans, joined
+abbrev pub spans_met : Format → Bool → Folder → List Span → List Met
+spans_met format waits folder spans = flat_map (span_met format waits folder) spans
+
 -- the bad lines of spans, joined
 abbrev pub spans_bad_lines : Format → Bool → Folder → List Span → List BadLine
 spans_bad_lines format waits folder spans = flat_map (span_bad_lines format waits folder) spans
@@ -98,9 +115,9 @@ OnBadLine (fault.Bad log row) P = P (bad_line log row)
 abbrev pub spans_size : List Span → ℕ
 spans_size spans = sum_by (λ (span : Span). span.listed - span.from) spans
 
--- the rows of spans were taken
+-- spans were taken
 pub record TakesSpans {T O : Type 0} (takes : Takes T O) (format : Format) (waits : Bool) (folder : Folder) (spans : List Span) (old new : Page T) (before now : O) : Type 0 where
-  pub done : takes old.taker before (spans_found format waits folder spans) new.taker now
+  pub done : takes old.taker before (spans_met format waits folder spans) new.taker now
   pub rows : new.rows ≡ old.rows + length (spans_found format waits folder spans)
   pub bad : new.bad ≡ old.bad + length (spans_bad format waits folder spans)
 

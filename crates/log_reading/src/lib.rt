@@ -12,7 +12,6 @@ mod spans;
 mod taker;
 
 pub use lines::{take_next, take_rest};
-pub use logs::take_noted;
 pub use page::Page;
 pub use pieces::{read_some, take_lines, take_piece};
 pub use span::{RunFault, Span, Took, TookList};

@@ -5,7 +5,7 @@ ghost use Rattle.lp_model.specs.Outside.{Rose};
 ghost use Rattle.lp_model.specs.Lines.{Line, is_lf, is_overlong};
 ghost use Rattle.lp_model.specs.Reading.{records_read, rows};
 ghost use Rattle.line_input.specs.Taken.{slots_of};
-ghost use Rattle.log_reading.specs.Found.{Found, found_of};
+ghost use Rattle.log_reading.specs.Found.{met_of};
 ghost use Rattle.log_reading.specs.Page.{HasRoom, Spends, Follows, Advances, StopsIn, StopsWithin, ExceedsIn, ExceedsWithin, IsWithin, OnBad, to_come};
 
 use crate::{LineFault, Page, TakeFault, Taker};
@@ -26,8 +26,8 @@ fn take_rows<T: Taker<O>, O>(
 ) -> Result<(), TakeFault>
     requires number { number < 2 ^ 63 }
     requires room { T.count taker.old + length list.now < 2 ^ 63 }
-    ensures takes { OnOk result (T.takes taker.old out.old (found_of identity.now (records_read number columns.now (rows (map (slots_of line.now) list.now)))) taker.new out.new) }
-    ensures stops { OnErr result (T.stops taker.old out.old (found_of identity.now (records_read number columns.now (rows (map (slots_of line.now) list.now)))) taker.new out.new) }
+    ensures takes { OnOk result (T.takes taker.old out.old (met_of identity.now (records_read number columns.now (rows (map (slots_of line.now) list.now)))) taker.new out.new) }
+    ensures stops { OnErr result (T.stops taker.old out.old (met_of identity.now (records_read number columns.now (rows (map (slots_of line.now) list.now)))) taker.new out.new) }
     ensures count { OnOk result (T.count taker.new ≡ T.count taker.old + length list.now) }
     ensures goes { T.goes out.old out.new }
     ensures later { T.faults out.old ≤ T.faults out.new }

@@ -5,11 +5,12 @@ ghost use Rattle.lp_model.specs.Outside.{Rose, OnlyGrow, Told, bytes_in};
 ghost use Rattle.lp_model.specs.Lines.{is_lf};
 ghost use Rattle.lp_model.specs.Reading.{standing_at};
 ghost use Rattle.log_reading.specs.Page.{HasRoom, Spends, Follows, StopsIn, ExceedsIn, IsTooMany, IsWithin, OnBad, to_come};
-ghost use Rattle.log_reading.specs.Spans.{HasRead, StopsReading, ExceedsReading, IsKept, TakesSpan, EndsSpan, OnBadLine, span_found, span_bad_lines, cut_of, took_at, took_of};
+ghost use Rattle.log_reading.specs.Found.{log_ended};
+ghost use Rattle.log_reading.specs.Spans.{HasRead, StopsReading, ExceedsReading, IsKept, TakesRows, TakesSpan, EndsSpan, OnBadLine, span_rows, span_met, span_bad_lines, cut_of, took_at, took_of};
 
 use crate::lines::take_rest;
 use crate::pieces::{read_some, take_piece};
-use crate::{LineFault, Page, RunFault, Span, Taker, Took, TookList};
+use crate::{LineFault, Page, RunFault, Span, TakeFault, Taker, Took, TookList};
 use line_input::{LineReader, Splitter};
 use lp_outside::Logs;
 use std::alloc::{AllocError, Global};
@@ -165,8 +166,8 @@ fn finish_log<R: LineReader, T: Taker<O>, O>(
     }
 }
 
-/// Takes the rows of a span.
-fn take_span<R: LineReader, L: Logs, T: Taker<O>, O>(
+// Takes the rows of a span.
+fn read_span<R: LineReader, L: Logs, T: Taker<O>, O>(
     alloc: Global,
     reader: &R,
     waits: bool,
@@ -187,9 +188,9 @@ fn take_span<R: LineReader, L: Logs, T: Taker<O>, O>(
     requires taken { T.count page.old.taker + (span.now.listed - span.now.from) + 1 < 2 ^ 63 }
     ensures grows { OnlyGrow (L.folder logs.old) (L.folder logs.new) }
     ensures takes { OnOk result (Told (L.folder logs.new) (λ folder. IsKept (R.format reader.now) waits (cut_of folder span.now) span.now
-        → TakesSpan T.takes (R.format reader.now) waits folder span.now page.old page.new out.old out.new)) }
+        → TakesRows T.takes (R.format reader.now) waits folder span.now page.old page.new out.old out.new)) }
     ensures stops { OnErr result (Told (L.folder logs.new) (λ folder. IsKept (R.format reader.now) waits (cut_of folder span.now) span.now
-        → T.stops page.old.taker out.old (span_found (R.format reader.now) waits folder span.now) page.new.taker out.new)) }
+        → T.stops page.old.taker out.old (span_rows (R.format reader.now) waits folder span.now) page.new.taker out.new)) }
     ensures too_many { IfErr result (λ fault. OnBadLine fault (λ line. Told (L.folder logs.new) (λ folder. IsKept (R.format reader.now) waits (cut_of folder span.now) span.now
         → IsTooMany page.old.most_bad page.old.bad (span_bad_lines (R.format reader.now) waits folder span.now) line))) }
     ensures within { OnOk result (IsWithin page.new.most_bad page.new.bad) }
@@ -222,6 +223,86 @@ fn take_span<R: LineReader, L: Logs, T: Taker<O>, O>(
     }
 }
 
+// Takes the end of a span's log.
+fn end_span<T: Taker<O>, O>(
+    alloc: Global,
+    span: &Span,
+    page: &mut Page<T>,
+    out: &mut O,
+) -> Result<(), RunFault>
+    ensures takes { OnOk result (T.takes page.old.taker out.old (log_ended span.now.identity page.old.standing.columns ∷ []) page.new.taker out.new) }
+    ensures stops { OnErr result (T.stops page.old.taker out.old (log_ended span.now.identity page.old.standing.columns ∷ []) page.new.taker out.new) }
+    ensures count { OnOk result (T.count page.new.taker ≡ T.count page.old.taker) }
+    ensures splitter { page.new.splitter ≡ page.old.splitter }
+    ensures standing { page.new.standing ≡ page.old.standing }
+    ensures rows { page.new.rows ≡ page.old.rows }
+    ensures bad { page.new.bad ≡ page.old.bad }
+    ensures most { page.new.most_bad ≡ page.old.most_bad }
+    ensures no_line { IfErr result (λ fault. OnBadLine fault (λ line. ⊥)) }
+    ensures no_logs { IsErrOf result RunFault.Logs → ⊥ }
+    ensures goes { T.goes out.old out.new }
+    ensures later { T.faults out.old ≤ T.faults out.new }
+    ensures output { IsErrOf result RunFault.Output → Rose (T.faults out.old) (T.faults out.new) }
+    ensures stopped { IsErrOf result RunFault.Stopped → T.stopped page.new.taker }
+{
+    let columns = page.standing.columns();
+    match page.taker.end_log(alloc, &span.identity, columns, out) {
+        Ok(()) => Ok(()),
+        Err(TakeFault::Memory) => Err(RunFault::Memory),
+        Err(TakeFault::Failed) => Err(RunFault::Output),
+        Err(TakeFault::Stopped) => Err(RunFault::Stopped),
+    }
+}
+
+// Takes a span: its rows, and then the end of its log.
+fn take_span<R: LineReader, L: Logs, T: Taker<O>, O>(
+    alloc: Global,
+    reader: &R,
+    waits: bool,
+    logs: &mut L,
+    span: &Span,
+    chunk: &mut [u8],
+    page: &mut Page<T>,
+    out: &mut O,
+) -> Result<(), RunFault>
+    requires there { Told (L.folder logs.old) (λ folder. span.now.listed ≤ length (bytes_in folder span.now.name)) }
+    requires cut { span.now.listed ≤ 2 ^ 46 }
+    requires start { span.now.from ≤ span.now.listed }
+    requires lines { span.now.standing.lines ≤ span.now.from }
+    requires chunk { 0 < length chunk.old }
+    requires rows { page.old.rows + (span.now.listed - span.now.from) + 1 < 2 ^ 63 }
+    requires bad { page.old.bad + (span.now.listed - span.now.from) + 1 < 2 ^ 63 }
+    requires within { IsWithin page.old.most_bad page.old.bad }
+    requires taken { T.count page.old.taker + (span.now.listed - span.now.from) + 1 < 2 ^ 63 }
+    ensures grows { OnlyGrow (L.folder logs.old) (L.folder logs.new) }
+    ensures takes { OnOk result (Told (L.folder logs.new) (λ folder. IsKept (R.format reader.now) waits (cut_of folder span.now) span.now
+        → TakesSpan T.takes (R.format reader.now) waits folder span.now page.old page.new out.old out.new)) }
+    ensures stops { OnErr result (Told (L.folder logs.new) (λ folder. IsKept (R.format reader.now) waits (cut_of folder span.now) span.now
+        → T.stops page.old.taker out.old (span_met (R.format reader.now) waits folder span.now) page.new.taker out.new)) }
+    ensures too_many { IfErr result (λ fault. OnBadLine fault (λ line. Told (L.folder logs.new) (λ folder. IsKept (R.format reader.now) waits (cut_of folder span.now) span.now
+        → IsTooMany page.old.most_bad page.old.bad (span_bad_lines (R.format reader.now) waits folder span.now) line))) }
+    ensures within { OnOk result (IsWithin page.new.most_bad page.new.bad) }
+    ensures most { page.new.most_bad ≡ page.old.most_bad }
+    ensures standing { OnOk result (Told (L.folder logs.new) (λ folder. IsKept (R.format reader.now) waits (cut_of folder span.now) span.now
+        → page.new.standing ≡ standing_at (R.format reader.now) (cut_of folder span.now) waits (length (cut_of folder span.now)))) }
+    ensures ends { OnOk result (waits ≡ true → Told (L.folder logs.new) (λ folder. IsKept (R.format reader.now) true (cut_of folder span.now) span.now
+        → EndsSpan (R.format reader.now) folder span.now page.new)) }
+    ensures rows { OnOk result (page.new.rows ≤ page.old.rows + (span.now.listed - span.now.from) + 1) }
+    ensures bad { OnOk result (page.new.bad ≤ page.old.bad + (span.now.listed - span.now.from) + 1) }
+    ensures taken { OnOk result (T.count page.new.taker ≤ T.count page.old.taker + (span.now.listed - span.now.from) + 1) }
+    ensures given { L.given logs.new + span.now.from ≤ L.given logs.old + span.now.listed }
+    ensures later_logs { L.faults logs.old ≤ L.faults logs.new }
+    ensures logs { IsErrOf result RunFault.Logs → Rose (L.faults logs.old) (L.faults logs.new) }
+    ensures goes { T.goes out.old out.new }
+    ensures later { T.faults out.old ≤ T.faults out.new }
+    ensures output { IsErrOf result RunFault.Output → Rose (T.faults out.old) (T.faults out.new) }
+    ensures stopped { IsErrOf result RunFault.Stopped → T.stopped page.new.taker }
+{
+    read_span(alloc, reader, waits, logs, span, chunk, page, out)?;
+    end_span(alloc, span, page, out)?;
+    Ok(())
+}
+
 // Notes what was taken of a log.
 fn note_span<T>(
     alloc: Global,
@@ -241,8 +322,8 @@ fn note_span<T>(
     Ok(())
 }
 
-/// Takes the rows of a span, and notes it.
-pub fn take_noted<R: LineReader, L: Logs, T: Taker<O>, O>(
+// Takes a span, and notes it.
+pub(crate) fn take_noted<R: LineReader, L: Logs, T: Taker<O>, O>(
     alloc: Global,
     reader: &R,
     waits: bool,
@@ -266,7 +347,7 @@ pub fn take_noted<R: LineReader, L: Logs, T: Taker<O>, O>(
     ensures takes { OnOk result (Told (L.folder logs.new) (λ folder. IsKept (R.format reader.now) waits (cut_of folder span.now) span.now
         → TakesSpan T.takes (R.format reader.now) waits folder span.now page.old page.new out.old out.new)) }
     ensures stops { OnErr result (Told (L.folder logs.new) (λ folder. IsKept (R.format reader.now) waits (cut_of folder span.now) span.now
-        → T.stops page.old.taker out.old (span_found (R.format reader.now) waits folder span.now) page.new.taker out.new)) }
+        → T.stops page.old.taker out.old (span_met (R.format reader.now) waits folder span.now) page.new.taker out.new)) }
     ensures too_many { IfErr result (λ fault. OnBadLine fault (λ line. Told (L.folder logs.new) (λ folder. IsKept (R.format reader.now) waits (cut_of folder span.now) span.now
         → IsTooMany page.old.most_bad page.old.bad (span_bad_lines (R.format reader.now) waits folder span.now) line))) }
     ensures within { OnOk result (IsWithin page.new.most_bad page.new.bad) }

@@ -2,7 +2,7 @@
 ghost use Rattle.std.specs.Prelude.{◌≡◌, ◌≤◌, ◌<◌, ◌^◌, ◌+◌, ◌-◌, ◌++◌, ℕ, List, Bool, true, length, map, Option, OnOk, OnErr, IfOk, IfErr, IsErrOf};
 ghost use Rattle.lp_model.specs.Outside.{Rose, OnlyGrow, Told, bytes_in};
 ghost use Rattle.log_reading.specs.Page.{IsTooMany, IsWithin};
-ghost use Rattle.log_reading.specs.Spans.{AllSpans, IsSpan, AreKept, TakesSpans, OnBadLine, spans_found, spans_bad_lines, spans_size, took_of};
+ghost use Rattle.log_reading.specs.Spans.{AllSpans, IsSpan, AreKept, TakesSpans, OnBadLine, spans_met, spans_bad_lines, spans_size, took_of};
 
 use crate::logs::take_noted;
 use crate::{Page, RunFault, Span, Taker, TookList};
@@ -10,7 +10,7 @@ use line_input::LineReader;
 use lp_outside::Logs;
 use std::alloc::Global;
 
-/// Takes the rows of spans, in order.
+/// Takes spans, in order: of each its rows, and then the end of its log.
 pub fn take_spans<R: LineReader, L: Logs, T: Taker<O>, O>(
     alloc: Global,
     reader: &R,
@@ -33,7 +33,7 @@ pub fn take_spans<R: LineReader, L: Logs, T: Taker<O>, O>(
     ensures takes { OnOk result (Told (L.folder logs.new) (λ folder. AreKept (R.format reader.now) waits spans.now folder
         → TakesSpans T.takes (R.format reader.now) waits folder spans.now page.old page.new out.old out.new)) }
     ensures stops { OnErr result (Told (L.folder logs.new) (λ folder. AreKept (R.format reader.now) waits spans.now folder
-        → T.stops page.old.taker out.old (spans_found (R.format reader.now) waits folder spans.now) page.new.taker out.new)) }
+        → T.stops page.old.taker out.old (spans_met (R.format reader.now) waits folder spans.now) page.new.taker out.new)) }
     ensures too_many { IfErr result (λ fault. OnBadLine fault (λ line. Told (L.folder logs.new) (λ folder. AreKept (R.format reader.now) waits spans.now folder
         → IsTooMany page.old.most_bad page.old.bad (spans_bad_lines (R.format reader.now) waits folder spans.now) line))) }
     ensures within { OnOk result (IsWithin page.new.most_bad page.new.bad) }

@@ -3,3 +3,4 @@ pub mod Gaining
 pub mod Rows
 pub mod Writer
 pub mod Writing
+pub mod Meeting

@@ -2,7 +2,7 @@
 use Rattle.std.proofs.Common.{◌≡◌, ℕ, ◌+◌, ◌≤◌, true, List, [], ◌∷◌, ◌++◌, length, map, Option, Some, None, Ok, ap, ap₂, sym, ◌∙◌, refl, subst, inl, inr, arith, append_assoc, option_map, length-append}
 use Rattle.std.proofs.lemmas.List.{length-map}
 use Rattle.lp_values.specs.declared.value.Value.{Value}
-use Rattle.log_reading.specs.Found.{Found}
+use Rattle.log_reading.specs.Found.{Found, Met}
 use Rattle.query_run.specs.Output.{StageKind, OutputAt, reached, GainsFront, IsUnderWay}
 use Rattle.query_run.specs.Rows.{picked}
 use Rattle.query_run.specs.Writer.{Writes}
@@ -187,12 +187,12 @@ halts_turning text has_text old new first last u v found is log rows shape targe
     stopped rules start (past_with past (found ∷ [])) later holds.asks gathers (told_now text rules start u past last found (omega arith) gathers) follows
 
 -- nothing is taken behind a refusal
-pub halts_refused : {F : Type 0} {S : Type 0} {kind : StageKind S} (text : TextOf F) (has_text : HasTextOf F) (old new : Sampling F) (u v : S) (founds : List Found) (plan : TypeFault) → old.phase ≡ P.Refused plan → Halts kind text has_text old u founds new v
+pub halts_refused : {F : Type 0} {S : Type 0} {kind : StageKind S} (text : TextOf F) (has_text : HasTextOf F) (old new : Sampling F) (u v : S) (founds : List Met) (plan : TypeFault) → old.phase ≡ P.Refused plan → Halts kind text has_text old u founds new v
 halts_refused text has_text old new u v founds plan is = record {
   within = λ rules start past holds later follows. absurd (phase_is text has_text rules start u past old (P.Refused plan) is holds);
 }
 
-pub halts_lost : {F : Type 0} {S : Type 0} {kind : StageKind S} (text : TextOf F) (has_text : HasTextOf F) (old new : Sampling F) (u v : S) (founds : List Found) → old.phase ≡ P.Lost → Halts kind text has_text old u founds new v
+pub halts_lost : {F : Type 0} {S : Type 0} {kind : StageKind S} (text : TextOf F) (has_text : HasTextOf F) (old new : Sampling F) (u v : S) (founds : List Met) → old.phase ≡ P.Lost → Halts kind text has_text old u founds new v
 halts_lost text has_text old new u v founds is = record {
   within = λ rules start past holds later follows. absurd (phase_is text has_text rules start u past old P.Lost is holds);
 }

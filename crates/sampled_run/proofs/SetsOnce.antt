@@ -4,12 +4,14 @@ use Rattle.std.proofs.lemmas.Bool.{cases_Bool}
 use Rattle.std.proofs.lemmas.List.{append-nil, map-append}
 use Rattle.std.proofs.lemmas.List.Elements.{filter-append}
 use Rattle.lp_model.specs.Lines.{Line, is_overlong}
-use Rattle.lp_model.specs.Reading.{Columns, Format, Slots, columns_behind, is_in_bounds, reading_behind, rows_in}
+use Rattle.lp_model.specs.Reading.{Columns, Format, Record, Slots, columns_behind, is_in_bounds, reading_behind, rows_in}
 use Rattle.lp_model.specs.Following.{records_behind, records_following}
 use Rattle.log_reading.specs.Found.{Found, found_of}
-use Rattle.log_reading.proofs.Founds.{found_of-append}
 use Rattle.sampled_table.specs.declared.kept.FirstLog.{FirstLog}
 use Rattle.sampled_run.specs.Past.{columns_or, first_seen, log_with, or_first}
+
+found_of-append : (identity : List ℕ) (xs ys : List Record) → found_of identity (xs ++ ys) ≡ found_of identity xs ++ found_of identity ys
+found_of-append identity xs ys = map-append _ xs ys
 
 pub record SetsOnce (format : Format) : Type 0 where
   -- columns that are set stay

@@ -6,7 +6,7 @@ use Rattle.lp_model.specs.Outside.{Begins}
 use Rattle.query_run.specs.Output.{StageKind, OutputAt, reached, GainsFront}
 use Rattle.lp_time.specs.declared.piece.Piece.{Piece}
 use Rattle.lp_values.specs.declared.value.Value.{Value}
-use Rattle.log_reading.specs.Found.{Found}
+use Rattle.log_reading.specs.Found.{Found, Met, row_met, log_ended}
 use Rattle.query_run.specs.Writing.{TextOf, HasTextOf, front_of, picked-append}
 use Rattle.query_run.specs.declared.writer.Writer.{Writer}
 use Rattle.query_types.specs.Planned.{Planned, planned_in, plan_of}
@@ -16,7 +16,7 @@ use Rattle.sampled_table.specs.declared.picking.SampledPicker.{SampledPicker}
 use Rattle.sampled_table.specs.Judged.{judged, table_of}
 use Rattle.sampled_table.specs.Picks.{sampled_picks}
 use Rattle.sampled_table.proofs.Staying.{judged_stays}
-use Rattle.sampled_run.specs.Past.{Past, Later, Rules, first_seen, past_with, or_first, log_with, noted, told_at, rows_with, rows_at, text_at}
+use Rattle.sampled_run.specs.Past.{Past, Later, Rules, first_seen, past_with, or_first, log_with, noted, past_met, told_at, rows_with, rows_at, text_at}
 use Rattle.sampled_run.specs.Holds.{Begun, Gathers, IsTold, PhaseHolds, Holds, IsFront, IsWithin, PhaseStopped}
 use Rattle.sampled_run.specs.declared.phase.Gathering.{Gathering}
 use Rattle.sampled_run.specs.declared.phase.Phase.{Phase}
@@ -26,13 +26,13 @@ use Rattle.sampled_run.specs.declared.phase.Sampling.{Sampling}
 abbrev pub BeginsOf : (F : Type 0) → TextOf F → HasTextOf F → Type 0
 BeginsOf F text has_text = (s : F) (fresh : Bool) (names : List (List ℕ)) (rows more : List (List Value)) (so_far : List ℕ) → has_text s fresh names rows so_far → Begins so_far (text s fresh names (rows ++ more))
 
--- whatever the records before, a run has taken these too
-pub record Samples {F S : Type 0} (kind : StageKind S) (text : TextOf F) (has_text : HasTextOf F) (old : Sampling F) (before : S) (founds : List Found) (new : Sampling F) (now : S) : Type 0 where
-  pub along : (rules : Rules) (start : OutputAt kind) (past : Past) → Holds text has_text rules start past old before → Holds text has_text rules start (past_with past founds) new now
+-- whatever is known before, a run has taken all that is met here too
+pub record Samples {F S : Type 0} (kind : StageKind S) (text : TextOf F) (has_text : HasTextOf F) (old : Sampling F) (before : S) (mets : List Met) (new : Sampling F) (now : S) : Type 0 where
+  pub along : (rules : Rules) (start : OutputAt kind) (past : Past) → Holds text has_text rules start past old before → Holds text has_text rules start (past_met past mets) new now
 
--- whatever the records before and those that follow, a run has stopped within these
-pub record Halts {F S : Type 0} (kind : StageKind S) (text : TextOf F) (has_text : HasTextOf F) (old : Sampling F) (before : S) (founds : List Found) (new : Sampling F) (now : S) : Type 0 where
-  pub within : (rules : Rules) (start : OutputAt kind) (past : Past) → Holds text has_text rules start past old before → (later : Past) → Later (past_with past founds) later → PhaseStopped rules start later new.phase now
+-- whatever is known before and whatever follows, a run has stopped within what is met here
+pub record Halts {F S : Type 0} (kind : StageKind S) (text : TextOf F) (has_text : HasTextOf F) (old : Sampling F) (before : S) (mets : List Met) (new : Sampling F) (now : S) : Type 0 where
+  pub within : (rules : Rules) (start : OutputAt kind) (past : Past) → Holds text has_text rules start past old before → (later : Past) → Later (past_met past mets) later → PhaseStopped rules start later new.phase now
 
 -- ---- the records so far
 
@@ -70,6 +70,20 @@ later_trans a b c f s = record {
   founds = s.founds ∙ (ap (λ t. t ++ s.more) f.founds ∙ append_assoc a.founds f.more s.more);
   first = λ log known. s.first log (f.first log known);
 }
+
+pub past_met-append : (past : Past) (xs ys : List Met) → past_met (past_met past xs) ys ≡ past_met past (xs ++ ys)
+past_met-append past [] ys = refl
+past_met-append past (row_met found ∷ xs) ys = past_met-append (past_with past (found ∷ [])) xs ys
+past_met-append past (log_ended identity columns ∷ xs) ys = past_met-append (noted past identity columns) xs ys
+
+pub later_met : (past : Past) (mets : List Met) → Later past (past_met past mets)
+later_met past [] = later_same past
+later_met past (row_met found ∷ mets) =
+    let next = past_with past (found ∷ []) in
+    later_trans past next (past_met next mets) (later_with past (found ∷ [])) (later_met next mets)
+later_met past (log_ended identity columns ∷ mets) =
+    let next = noted past identity columns in
+    later_trans past next (past_met next mets) (later_noted past identity columns) (later_met next mets)
 
 -- ---- what is judged stays
 
@@ -124,41 +138,37 @@ stopped_between text has_text begins rules start now past later sampling follows
 -- ---- the laws of a taker
 
 pub samples_none : {F : Type 0} {S : Type 0} {kind : StageKind S} (text : TextOf F) (has_text : HasTextOf F) (s : Sampling F) (w : S) → Samples kind text has_text s w [] s w
-samples_none text has_text s w = record {
-  along = λ rules start past holds.
-      let Of : Past → Type 0 = λ p. Holds text has_text rules start p s w in
-      subst Of (sym (past_with-none past)) holds;
-}
+samples_none text has_text s w = record { along = λ rules start past holds. holds }
 
-pub samples_more : {F : Type 0} {S : Type 0} {kind : StageKind S} (text : TextOf F) (has_text : HasTextOf F) (a b c : Sampling F) (u v w : S) (xs ys : List Found)
+pub samples_more : {F : Type 0} {S : Type 0} {kind : StageKind S} (text : TextOf F) (has_text : HasTextOf F) (a b c : Sampling F) (u v w : S) (xs ys : List Met)
     → Samples kind text has_text a u xs b v → Samples kind text has_text b v ys c w → Samples kind text has_text a u (xs ++ ys) c w
 samples_more text has_text a b c u v w xs ys f s = record {
   along = λ rules start past holds.
       let Of : Past → Type 0 = λ p. Holds text has_text rules start p c w in
-      subst Of (past_with-append past xs ys) (s.along rules start (past_with past xs) (f.along rules start past holds));
+      subst Of (past_met-append past xs ys) (s.along rules start (past_met past xs) (f.along rules start past holds));
 }
 
-front_later : (past : Past) (xs ys : List Found) (later : Past) → Later (past_with past (xs ++ ys)) later → Later (past_with past xs) later
+front_later : (past : Past) (xs ys : List Met) (later : Past) → Later (past_met past (xs ++ ys)) later → Later (past_met past xs) later
 front_later past xs ys later follows =
-    let Of : Past → Type 0 = λ p. Later (past_with past xs) p in
-    later_trans (past_with past xs) (past_with past (xs ++ ys)) later (subst Of (past_with-append past xs ys) (later_with (past_with past xs) ys)) follows
+    let Of : Past → Type 0 = λ p. Later (past_met past xs) p in
+    later_trans (past_met past xs) (past_met past (xs ++ ys)) later (subst Of (past_met-append past xs ys) (later_met (past_met past xs) ys)) follows
 
-pub halts_here : {F : Type 0} {S : Type 0} {kind : StageKind S} (text : TextOf F) (has_text : HasTextOf F) (begins : BeginsOf F text has_text) (a b : Sampling F) (u v : S) (xs ys : List Found)
+pub halts_here : {F : Type 0} {S : Type 0} {kind : StageKind S} (text : TextOf F) (has_text : HasTextOf F) (begins : BeginsOf F text has_text) (a b : Sampling F) (u v : S) (xs ys : List Met)
     → Samples kind text has_text a u xs b v → Halts kind text has_text a u (xs ++ ys) b v
 halts_here text has_text begins a b u v xs ys f = record {
   within = λ rules start past holds later follows.
-      stopped_between text has_text begins rules start v (past_with past xs) later b (front_later past xs ys later follows) (f.along rules start past holds);
+      stopped_between text has_text begins rules start v (past_met past xs) later b (front_later past xs ys later follows) (f.along rules start past holds);
 }
 
-pub halts_later : {F : Type 0} {S : Type 0} {kind : StageKind S} (text : TextOf F) (has_text : HasTextOf F) (a b c : Sampling F) (u v w : S) (xs ys : List Found)
+pub halts_later : {F : Type 0} {S : Type 0} {kind : StageKind S} (text : TextOf F) (has_text : HasTextOf F) (a b c : Sampling F) (u v w : S) (xs ys : List Met)
     → Samples kind text has_text a u xs b v → Halts kind text has_text b v ys c w → Halts kind text has_text a u (xs ++ ys) c w
 halts_later text has_text a b c u v w xs ys f s = record {
   within = λ rules start past holds later follows.
       let Of : Past → Type 0 = λ p. Later p later in
-      s.within rules start (past_with past xs) (f.along rules start past holds) later (subst Of (sym (past_with-append past xs ys)) follows);
+      s.within rules start (past_met past xs) (f.along rules start past holds) later (subst Of (sym (past_met-append past xs ys)) follows);
 }
 
-pub halts_more : {F : Type 0} {S : Type 0} {kind : StageKind S} (text : TextOf F) (has_text : HasTextOf F) (a c : Sampling F) (u w : S) (xs ys : List Found)
+pub halts_more : {F : Type 0} {S : Type 0} {kind : StageKind S} (text : TextOf F) (has_text : HasTextOf F) (a c : Sampling F) (u w : S) (xs ys : List Met)
     → Halts kind text has_text a u xs c w → Halts kind text has_text a u (xs ++ ys) c w
 halts_more text has_text a c u w xs ys s = record {
   within = λ rules start past holds later follows. s.within rules start past holds later (front_later past xs ys later follows);

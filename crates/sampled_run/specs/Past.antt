@@ -4,7 +4,7 @@ use Rattle.grammar.specs.Trees.{Query}
 use Rattle.lp_model.specs.Reading.{Columns}
 use Rattle.lp_time.specs.declared.piece.Piece.{Piece}
 use Rattle.lp_values.specs.declared.value.Value.{Value}
-use Rattle.log_reading.specs.Found.{Found}
+use Rattle.log_reading.specs.Found.{Found, Met, row_met, log_ended}
 use Rattle.query_run.specs.Rows.{picked}
 use Rattle.query_types.specs.declared.fault.TypeFault.{TypeFault}
 use Rattle.query_types.specs.Planned.{Planned, plan_of}
@@ -47,6 +47,12 @@ or_first None other = other
 -- a log is the first, if it has columns and none is known yet
 abbrev pub noted : Past → List ℕ → Option Columns → Past
 noted past identity columns = record { first = or_first past.first (log_with identity columns); founds = past.founds }
+
+-- what is known behind all that is met: records, and the ends of logs with their columns
+abbrev pub past_met : Past → List Met → Past
+past_met past [] = past
+past_met past (row_met found ∷ mets) = past_met (past_with past (found ∷ [])) mets
+past_met past (log_ended identity columns ∷ mets) = past_met (noted past identity columns) mets
 
 -- what may become of it: more records; a log that is known stays
 pub record Later (before after : Past) : Type 0 where

@@ -1,7 +1,7 @@
 // Records that were kept, to a taker.
 ghost use Rattle.std.specs.Prelude.{◌≡◌, ◌≤◌, ◌<◌, ◌+◌, ◌^◌, map, length, OnOk, OnErr, IsErrOf};
 ghost use Rattle.lp_model.specs.Outside.{Rose};
-ghost use Rattle.sampled_table.specs.Kept.{found_in};
+ghost use Rattle.sampled_run.specs.Taking.{met_in};
 
 use log_reading::{TakeFault, Taker};
 use sampled_table::KeptRows;
@@ -15,8 +15,8 @@ pub(crate) fn give_kept<T: Taker<O>, O>(
     out: &mut O,
 ) -> Result<(), TakeFault>
     requires { T.count taker.old + length rows.now < 2 ^ 63 }
-    ensures takes { OnOk result (T.takes taker.old out.old (map found_in rows.now) taker.new out.new) }
-    ensures stops { OnErr result (T.stops taker.old out.old (map found_in rows.now) taker.new out.new) }
+    ensures takes { OnOk result (T.takes taker.old out.old (map met_in rows.now) taker.new out.new) }
+    ensures stops { OnErr result (T.stops taker.old out.old (map met_in rows.now) taker.new out.new) }
     ensures count { OnOk result (T.count taker.new ≡ T.count taker.old + length rows.now) }
     ensures goes { T.goes out.old out.new }
     ensures later { T.faults out.old ≤ T.faults out.new }

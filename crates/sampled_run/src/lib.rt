@@ -16,7 +16,6 @@ mod noting;
 mod phase;
 mod planning;
 mod running;
-mod spans;
 mod taking;
 mod turning;
 

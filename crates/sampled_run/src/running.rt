@@ -13,10 +13,9 @@ ghost use Rattle.sampled_run.specs.Spans.{past_behind};
 ghost use Rattle.sampled_run.specs.Ran.{IsSampled, IsStoppedBy, OnBadOne, fault_in, fault_of};
 
 use crate::ending::finish_run;
-use crate::spans::take_all;
 use crate::{Gathering, Moment, Phase, SampleFault, Sampling, Stop};
 use line_input::{Fields, LineReader, Splitter, Standing};
-use log_reading::{Page, RunFault, Span, TookList};
+use log_reading::{Page, RunFault, Span, TookList, take_spans};
 use lp_outside::{Logs, Stage};
 use lp_time::Pattern;
 use output_formats::Shape;
@@ -142,7 +141,7 @@ pub(crate) fn sample_reader<'a, R: LineReader, L: Logs, F: Shape + Drop, G: Stag
         alloc, limit, pattern, moment, query, most_bad, shape, target,
     );
     let mut took = TookList::new(alloc);
-    match take_all(
+    match take_spans(
         alloc, reader, false, logs, spans, &mut chunk, &mut page, &mut took, stage,
     ) {
         Ok(()) => {}

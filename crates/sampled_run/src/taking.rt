@@ -9,6 +9,7 @@ ghost use Rattle.sampled_run.specs.Counts.{IsRefusedIn, taken_in};
 ghost use Rattle.sampled_run.specs.Past.{columns_or, first_seen};
 ghost use Rattle.sampled_run.specs.Laws.{Samples, Halts, samples_none, samples_more, halts_here, halts_later, halts_more};
 
+use crate::noting::note_first;
 use crate::turning::turn;
 use crate::{Gathering, Phase, Sampling};
 use line_input::{Columns, Fields};
@@ -147,6 +148,19 @@ impl<'a, F: Shape + Drop, G: Stage> Taker<G> for Sampling<'a, F> {
             }
             Phase::Refused(_) => Err(TakeFault::Memory),
             Phase::Lost => Err(TakeFault::Memory),
+        }
+    }
+
+    fn end_log(
+        &mut self,
+        alloc: Global,
+        identity: &Name,
+        columns: &Option<Columns>,
+        stage: &mut G,
+    ) -> Result<(), TakeFault> {
+        match note_first(alloc, identity, columns, self) {
+            Ok(()) => Ok(()),
+            Err(_) => Err(TakeFault::Memory),
         }
     }
 

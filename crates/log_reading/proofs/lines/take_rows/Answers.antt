@@ -1,7 +1,7 @@
 use Rattle.std.proofs.Common.{◌≡◌, ◌+◌, List, drop, map, length, subst, ap, ◌∙◌, arith}
 use Rattle.std.proofs.lemmas.List.{take_all}
 use Rattle.line_input.specs.Taken.{slots_of}
-use Rattle.log_reading.specs.Found.{Found}
+use Rattle.log_reading.specs.Found.{Met}
 use Rattle.log_reading.proofs.Founds.{founds, founds_more, founds_split}
 use Rattle.lp_model.proofs.Results.{on_err}
 use Rattle.log_reading.proofs.lines.take_rows.Goals as goal
@@ -28,7 +28,7 @@ loop-fields-preserved g c =
     let before = so_far.later in
     let count = here.count in
     let count_before = so_far.count in
-    let Now : List Found → Type 0 = λ t. g.T.Taker.takes c.args.taker.now c.args.out.now t now.self now.out in
+    let Now : List Met → Type 0 = λ t. g.T.Taker.takes c.args.taker.now c.args.out.now t now.self now.out in
     record {
       takes = subst Now (founds_more (slots_of c.args.line.now) c.args.identity.now c.args.number c.args.columns.now items i c.fields-item.result c.loop-fields-test.true c.fields-item.is)
           (g.met.T.Taker.takes_more _ _ _ _ _ _ _ _ so_far.takes here.takes);
@@ -41,7 +41,7 @@ pub returns-in_err-take-clause-stops : goal.returns-in_err-take-clause-stops
 returns-in_err-take-clause-stops g c =
     let items = c.as_slice-fields-items.result.now in
     let i = c.loop-fields.fields-index in
-    let Now : List Found → Type 0 = λ t. g.T.Taker.stops c.args.taker.now c.args.out.now t c.take.new.self c.take.new.out in
+    let Now : List Met → Type 0 = λ t. g.T.Taker.stops c.args.taker.now c.args.out.now t c.take.new.self c.take.new.out in
     let rest = founds c.args.identity.now c.args.number c.args.columns.now (map (slots_of c.args.line.now) (drop (i + 1) items)) in
     on_err _ c.from_residual.result
     (subst Now (founds_split (slots_of c.args.line.now) c.args.identity.now c.args.number c.args.columns.now items i c.fields-item.result c.loop-fields-test.true c.fields-item.is ∙ ap (λ t. founds c.args.identity.now c.args.number c.args.columns.now (map (slots_of c.args.line.now) t)) c.as_slice-fields-items.ensures)
@@ -51,5 +51,5 @@ pub returns-clause-takes : goal.returns-clause-takes
 returns-clause-takes g c =
     let items = c.as_slice-fields-items.result.now in
     let i = c.loop-fields.fields-index in
-    let Now : List Found → Type 0 = λ t. g.T.Taker.takes c.args.taker.now c.args.out.now t c.loop-fields.taker c.loop-fields.out in
+    let Now : List Met → Type 0 = λ t. g.T.Taker.takes c.args.taker.now c.args.out.now t c.loop-fields.taker c.loop-fields.out in
     subst Now (ap (λ t. founds c.args.identity.now c.args.number c.args.columns.now (map (slots_of c.args.line.now) t)) (take_all i items (omega arith) ∙ c.as_slice-fields-items.ensures)) c.loop-fields.invariant.takes

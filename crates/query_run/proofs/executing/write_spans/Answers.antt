@@ -1,12 +1,14 @@
-use Rattle.std.proofs.Common.{[], List, ℕ, Option, ap, sym, ◌∙◌, subst}
+use Rattle.std.proofs.Common.{◌≡◌, ◌+◌, [], List, ℕ, length, Option, ap, ap₂, sym, ◌∙◌, subst, arith}
 use Rattle.lp_model.specs.Outside.{Folder, Told}
 use Rattle.query_run.specs.Output.{kind_of, placed_at, reached, GainsText, GainsFront}
 use Rattle.query_run.specs.Gaining.{front_none, gains_as}
 use Rattle.query_run.specs.declared.target.Target.{Target}
 use Rattle.query_run.specs.Rows.{picked}
 use Rattle.log_reading.specs.Page.{IsTooMany, IsWithin}
-use Rattle.log_reading.specs.Spans.{AreKept, BadLine, OnBadLine, spans_found, spans_bad_lines, TakesSpans}
+use Rattle.log_reading.specs.Spans.{AreKept, BadLine, OnBadLine, spans_found, spans_met, spans_bad_lines, TakesSpans}
 use Rattle.log_reading.proofs.Faults.{handed_on, bad_line_so}
+use Rattle.log_reading.specs.Found.{Found, rows_met}
+use Rattle.log_reading.proofs.RowsMet.{rows_met_spans}
 use Rattle.query_run.specs.Writer.{Writes, Halts}
 use Rattle.query_run.specs.declared.writer.Writer.{Writer}
 use Rattle.lp_model.proofs.Results.{on_err}
@@ -43,8 +45,9 @@ returns-in_err-take_spans-clause-front g c =
     let under_way = subst (λ (w : Writer g.row.F.Denot g.row.P.Denot). g.F.Shape.has_text w.shape c.args.fresh c.args.names.now [] w.buffers.held) (sym same) made.text in
     let target = ap (λ w. w.target) same ∙ made.target in
     on_err _ c.from_residual.result (subst (λ (t : Target). Told (g.L.Logs.folder c.take_spans.new.logs) (λ folder. Kept folder → GainsFront (reached kind t c.args.stage.now) v (text folder))) target
-    (told_map _ (λ folder. Kept folder → Halts g.F.Shape.text g.F.Shape.has_text g.P.Picker.picks page.taker u (spans_found format_of c.args.waits folder c.args.spans.now) v) (λ folder. Kept folder → GainsFront u v (text folder)) (λ folder stopped kept.
-    front_stopped g.F.Shape.text g.F.Shape.has_text g.P.Picker.picks page.taker c.args.shape c.args.picker c.args.fresh c.args.names.now (spans_found (g.R.LineReader.format c.args.reader.now) c.args.waits folder c.args.spans.now) u v format picker under_way (stopped kept))
+    (told_map _ (λ folder. Kept folder → Halts g.F.Shape.text g.F.Shape.has_text g.P.Picker.picks page.taker u (rows_met (spans_met format_of c.args.waits folder c.args.spans.now)) v) (λ folder. Kept folder → GainsFront u v (text folder)) (λ folder stopped kept.
+    front_stopped g.F.Shape.text g.F.Shape.has_text g.P.Picker.picks page.taker c.args.shape c.args.picker c.args.fresh c.args.names.now (spans_found (g.R.LineReader.format c.args.reader.now) c.args.waits folder c.args.spans.now) u v format picker under_way
+    (subst (λ (rows : List Found). Halts g.F.Shape.text g.F.Shape.has_text g.P.Picker.picks page.taker u rows v) (rows_met_spans format_of c.args.waits folder c.args.spans.now) (stopped kept)))
     c.in_err-take_spans.ensures.stops))
 
 pub returns-in-Ok-finish-clause-text : goal.returns-in-Ok-finish-clause-text
@@ -64,10 +67,30 @@ returns-in-Ok-finish-clause-text g c =
     let last = placed_at kind c.take_spans.new.page.taker.target.output c.in-Ok-finish.output c.finish.new.stage in
     let target = ap (λ w. w.target) same ∙ made.target in
     subst (λ (t : Target). Told (g.L.Logs.folder c.take_spans.new.logs) (λ folder. Kept folder → GainsText (reached kind t c.args.stage.now) (placed_at kind t.output c.in-Ok-finish.output c.finish.new.stage) (text folder))) target
-    (told_map _ (λ folder. Kept folder → TakesSpans (λ a u' xs b v'. Writes g.F.Shape.text g.F.Shape.has_text g.P.Picker.picks a (reached kind a.target u') xs b (reached kind b.target v')) format_of c.args.waits folder c.args.spans.now page c.take_spans.new.page c.args.stage.now c.take_spans.new.out) (λ folder. Kept folder → GainsText u (placed_at kind page.taker.target.output c.in-Ok-finish.output c.finish.new.stage) (text folder)) (λ folder took kept.
-    gains_as u last (text folder) (at_end g.F.Shape.text g.F.Shape.has_text g.P.Picker.picks (λ t. GainsText u last t) page.taker c.take_spans.new.page.taker c.args.shape c.args.picker c.args.fresh c.args.names.now (spans_found (g.R.LineReader.format c.args.reader.now) c.args.waits folder c.args.spans.now) u v format picker under_way ((took kept).done)
+    (told_map _ (λ folder. Kept folder → TakesSpans (λ a u' xs b v'. Writes g.F.Shape.text g.F.Shape.has_text g.P.Picker.picks a (reached kind a.target u') (rows_met xs) b (reached kind b.target v')) format_of c.args.waits folder c.args.spans.now page c.take_spans.new.page c.args.stage.now c.take_spans.new.out) (λ folder. Kept folder → GainsText u (placed_at kind page.taker.target.output c.in-Ok-finish.output c.finish.new.stage) (text folder)) (λ folder took kept.
+    gains_as u last (text folder) (at_end g.F.Shape.text g.F.Shape.has_text g.P.Picker.picks (λ t. GainsText u last t) page.taker c.take_spans.new.page.taker c.args.shape c.args.picker c.args.fresh c.args.names.now (spans_found (g.R.LineReader.format c.args.reader.now) c.args.waits folder c.args.spans.now) u v format picker under_way
+    (subst (λ (rows : List Found). Writes g.F.Shape.text g.F.Shape.has_text g.P.Picker.picks page.taker u rows c.take_spans.new.page.taker v) (rows_met_spans format_of c.args.waits folder c.args.spans.now) ((took kept).done))
     (λ rows. c.in-Ok-finish.ensures.text c.args.fresh c.args.names.now rows u)))
     c.in_ok-take_spans.ensures.takes)
+
+pub returns-in-Ok-finish-clause-output : goal.returns-in-Ok-finish-clause-output
+returns-in-Ok-finish-clause-output g c =
+    let kind = kind_of g.G.Stage.state g.G.Stage.ended in
+    let page = c.first_page-page.result in
+    let same = c.first_page-page.ensures.taker in
+    let made = c.in-Ok.ensures in
+    let picker = ap (λ w. w.picker) same ∙ made.picker in
+    let none : page.taker.output ≡ 0 = ap (λ w. w.output) same ∙ made.output in
+    let stays : c.finish.new.writer.output ≡ c.take_spans.new.page.taker.output = c.in-Ok-finish.ensures.output in
+    let format_of = g.R.LineReader.format c.args.reader.now in
+    let Kept : Folder → Type 0 = λ folder. AreKept format_of c.args.waits c.args.spans.now folder in
+    let rows : g.row.P.Denot → List Found → ℕ = λ p founds. length (picked (g.P.Picker.picks p) founds) in
+    told_map _ (λ folder. Kept folder → TakesSpans (λ a u' xs b v'. Writes g.F.Shape.text g.F.Shape.has_text g.P.Picker.picks a (reached kind a.target u') (rows_met xs) b (reached kind b.target v')) format_of c.args.waits folder c.args.spans.now page c.take_spans.new.page c.args.stage.now c.take_spans.new.out)
+    (λ folder. Kept folder → c.finish.new.writer.output ≡ rows c.args.picker (spans_found format_of c.args.waits folder c.args.spans.now)) (λ folder took kept.
+    let written : c.take_spans.new.page.taker.output ≡ page.taker.output + rows page.taker.picker (rows_met (spans_met format_of c.args.waits folder c.args.spans.now)) = (took kept).done.output in
+    let size : rows page.taker.picker (rows_met (spans_met format_of c.args.waits folder c.args.spans.now)) ≡ rows c.args.picker (spans_found format_of c.args.waits folder c.args.spans.now) = ap₂ rows picker (rows_met_spans format_of c.args.waits folder c.args.spans.now) in
+    omega arith)
+    c.in_ok-take_spans.ensures.takes
 
 pub returns-in-Err-Memory-clause-front : goal.returns-in-Err-Memory-clause-front
 returns-in-Err-Memory-clause-front g c =
@@ -86,8 +109,9 @@ returns-in-Err-Memory-clause-front g c =
     let last = c.finish.new.stage in
     let target = ap (λ w. w.target) same ∙ made.target in
     subst (λ (t : Target). Told (g.L.Logs.folder c.take_spans.new.logs) (λ folder. Kept folder → GainsFront (reached kind t c.args.stage.now) last (text folder))) target
-    (told_map _ (λ folder. Kept folder → TakesSpans (λ a u' xs b v'. Writes g.F.Shape.text g.F.Shape.has_text g.P.Picker.picks a (reached kind a.target u') xs b (reached kind b.target v')) format_of c.args.waits folder c.args.spans.now page c.take_spans.new.page c.args.stage.now c.take_spans.new.out) (λ folder. Kept folder → GainsFront u last (text folder)) (λ folder took kept.
-    at_end g.F.Shape.text g.F.Shape.has_text g.P.Picker.picks (λ t. GainsFront u last t) page.taker c.take_spans.new.page.taker c.args.shape c.args.picker c.args.fresh c.args.names.now (spans_found (g.R.LineReader.format c.args.reader.now) c.args.waits folder c.args.spans.now) u v format picker under_way ((took kept).done)
+    (told_map _ (λ folder. Kept folder → TakesSpans (λ a u' xs b v'. Writes g.F.Shape.text g.F.Shape.has_text g.P.Picker.picks a (reached kind a.target u') (rows_met xs) b (reached kind b.target v')) format_of c.args.waits folder c.args.spans.now page c.take_spans.new.page c.args.stage.now c.take_spans.new.out) (λ folder. Kept folder → GainsFront u last (text folder)) (λ folder took kept.
+    at_end g.F.Shape.text g.F.Shape.has_text g.P.Picker.picks (λ t. GainsFront u last t) page.taker c.take_spans.new.page.taker c.args.shape c.args.picker c.args.fresh c.args.names.now (spans_found (g.R.LineReader.format c.args.reader.now) c.args.waits folder c.args.spans.now) u v format picker under_way
+    (subst (λ (rows : List Found). Writes g.F.Shape.text g.F.Shape.has_text g.P.Picker.picks page.taker u rows c.take_spans.new.page.taker v) (rows_met_spans format_of c.args.waits folder c.args.spans.now) ((took kept).done))
     (λ rows. c.in-Err-Memory.ensures.front c.args.fresh c.args.names.now rows u))
     c.in_ok-take_spans.ensures.takes)
 
@@ -108,8 +132,9 @@ returns-clause-front g c =
     let last = c.finish.new.stage in
     let target = ap (λ w. w.target) same ∙ made.target in
     subst (λ (t : Target). Told (g.L.Logs.folder c.take_spans.new.logs) (λ folder. Kept folder → GainsFront (reached kind t c.args.stage.now) last (text folder))) target
-    (told_map _ (λ folder. Kept folder → TakesSpans (λ a u' xs b v'. Writes g.F.Shape.text g.F.Shape.has_text g.P.Picker.picks a (reached kind a.target u') xs b (reached kind b.target v')) format_of c.args.waits folder c.args.spans.now page c.take_spans.new.page c.args.stage.now c.take_spans.new.out) (λ folder. Kept folder → GainsFront u last (text folder)) (λ folder took kept.
-    at_end g.F.Shape.text g.F.Shape.has_text g.P.Picker.picks (λ t. GainsFront u last t) page.taker c.take_spans.new.page.taker c.args.shape c.args.picker c.args.fresh c.args.names.now (spans_found (g.R.LineReader.format c.args.reader.now) c.args.waits folder c.args.spans.now) u v format picker under_way ((took kept).done)
+    (told_map _ (λ folder. Kept folder → TakesSpans (λ a u' xs b v'. Writes g.F.Shape.text g.F.Shape.has_text g.P.Picker.picks a (reached kind a.target u') (rows_met xs) b (reached kind b.target v')) format_of c.args.waits folder c.args.spans.now page c.take_spans.new.page c.args.stage.now c.take_spans.new.out) (λ folder. Kept folder → GainsFront u last (text folder)) (λ folder took kept.
+    at_end g.F.Shape.text g.F.Shape.has_text g.P.Picker.picks (λ t. GainsFront u last t) page.taker c.take_spans.new.page.taker c.args.shape c.args.picker c.args.fresh c.args.names.now (spans_found (g.R.LineReader.format c.args.reader.now) c.args.waits folder c.args.spans.now) u v format picker under_way
+    (subst (λ (rows : List Found). Writes g.F.Shape.text g.F.Shape.has_text g.P.Picker.picks page.taker u rows c.take_spans.new.page.taker v) (rows_met_spans format_of c.args.waits folder c.args.spans.now) ((took kept).done))
     (λ rows. c.in-Err-Failed.ensures.front c.args.fresh c.args.names.now rows u))
     c.in_ok-take_spans.ensures.takes)
 

@@ -1,4 +1,8 @@
-use Rattle.std.proofs.Common.{map, arith}
+use Rattle.std.proofs.Common.{◌≡◌, ℕ, List, map, ap₂, arith}
+use Rattle.log_reading.specs.Found.{Found, rows_met}
+use Rattle.query_run.specs.Writer.{Writes, Halts}
+use Rattle.sampled_run.specs.Taking.{met_in}
+use Rattle.sampled_run.proofs.Kept.{rows_kept}
 use Rattle.lp_model.proofs.Results.{on_err}
 use Rattle.query_run.specs.Rows.{picked}
 use Rattle.query_run.specs.Output.{OutputAt, kind_of, reached, GainsFront, IsUnderWay}
@@ -19,7 +23,8 @@ returns-in_err-give_kept-clause-front g c = on_err _ c.from_residual.result (λ 
     let text = g.F.Shape.text c.args.shape true c.args.names.now (picked (g.P.Picker.picks c.args.picker) (map found_in c.args.rows.now ++ more)) in
     subst (λ (t : Target). GainsFront (reached kind t c.args.stage.now) c.give_kept.new.out text) made.target
     (front_written g.F.Shape.text g.F.Shape.has_text g.P.Picker.picks c.in-Ok.writer c.args.shape c.args.picker c.args.names.now (map found_in c.args.rows.now) more (reached kind c.in-Ok.writer.target c.args.stage.now) c.give_kept.new.out
-    made.picker made.format made.text c.in_err-give_kept.ensures.stops))
+    made.picker made.format made.text
+    (subst (λ (founds : List Found). Halts g.F.Shape.text g.F.Shape.has_text g.P.Picker.picks c.in-Ok.writer (reached kind c.in-Ok.writer.target c.args.stage.now) founds c.give_kept.new.out) (rows_kept c.args.rows.now) c.in_err-give_kept.ensures.stops)))
 
 pub returns-clause-under_way : goal.returns-clause-under_way
 returns-clause-under_way g c =
@@ -29,7 +34,8 @@ returns-clause-under_way g c =
     let rows = picked (g.P.Picker.picks c.args.picker) (map found_in c.args.rows.now) in
     subst (λ (t : Target). IsUnderWay (g.F.Shape.has_text last.shape true c.args.names.now rows) (reached kind t c.args.stage.now) (reached kind last.target c.give_kept.new.out) last.buffers.held) made.target
     (written_under_way g.F.Shape.text g.F.Shape.has_text g.P.Picker.picks c.in-Ok.writer last c.args.picker c.args.names.now (map found_in c.args.rows.now) (reached kind c.in-Ok.writer.target c.args.stage.now) (reached kind last.target c.give_kept.new.out)
-    made.picker made.text c.in_ok-give_kept.ensures.takes)
+    made.picker made.text
+    (subst (λ (founds : List Found). Writes g.F.Shape.text g.F.Shape.has_text g.P.Picker.picks c.in-Ok.writer (reached kind c.in-Ok.writer.target c.args.stage.now) founds last (reached kind last.target c.give_kept.new.out)) (rows_kept c.args.rows.now) c.in_ok-give_kept.ensures.takes))
 
 pub returns-clause-format : goal.returns-clause-format
 returns-clause-format g c = (c.in_ok-give_kept.ensures.takes).format ∙ c.in-Ok.ensures.format
@@ -41,7 +47,8 @@ pub returns-clause-output : goal.returns-clause-output
 returns-clause-output g c =
     let added = (c.in_ok-give_kept.ensures.takes).output in
     let before = c.in-Ok.ensures.output in
-    let same = ap (λ p. length (picked (g.P.Picker.picks p) (map found_in c.args.rows.now))) c.in-Ok.ensures.picker in
+    let rows : g.row.P.Denot → List Found → ℕ = λ p founds. length (picked (g.P.Picker.picks p) founds) in
+    let same : rows c.in-Ok.writer.picker (rows_met (map met_in c.args.rows.now)) ≡ rows c.args.picker (map found_in c.args.rows.now) = ap₂ rows c.in-Ok.ensures.picker (rows_kept c.args.rows.now) in
     omega arith
 
 pub returns-then-not-is_countable-clause-front : goal.returns-then-not-is_countable-clause-front

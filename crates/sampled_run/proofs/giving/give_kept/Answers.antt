@@ -1,8 +1,8 @@
 use Rattle.std.proofs.Common.{◌≡◌, ◌+◌, ◌∷◌, [], ℕ, List, drop, map, length, subst, ap, ◌∙◌, arith}
 use Rattle.std.proofs.lemmas.List.{take_all}
-use Rattle.log_reading.specs.Found.{Found}
+use Rattle.log_reading.specs.Found.{Met, row_met}
 use Rattle.lp_model.proofs.Results.{on_err}
-use Rattle.sampled_table.specs.Kept.{found_in}
+use Rattle.sampled_run.specs.Taking.{met_in}
 use Rattle.sampled_run.proofs.Kept.{found_on, kept_more, kept_split}
 use Rattle.sampled_run.proofs.giving.give_kept.Goals as goal
 
@@ -29,8 +29,8 @@ loop-row-preserved g c =
     let count = here.count in
     let count_before = so_far.count in
     let row = c.row-item.result in
-    let One : List ℕ → Type 0 = λ line. g.T.Taker.takes c.loop-row.taker c.loop-row.out (found_on row line ∷ []) now.self now.out in
-    let Now : List Found → Type 0 = λ t. g.T.Taker.takes c.args.taker.now c.args.out.now t now.self now.out in
+    let One : List ℕ → Type 0 = λ line. g.T.Taker.takes c.loop-row.taker c.loop-row.out (row_met (found_on row line) ∷ []) now.self now.out in
+    let Now : List Met → Type 0 = λ t. g.T.Taker.takes c.args.taker.now c.args.out.now t now.self now.out in
     record {
       takes = subst Now (kept_more items i c.row-item.result c.loop-row-test.true c.row-item.is) (g.met.T.Taker.takes_more _ _ _ _ _ _ _ _ so_far.takes (subst One c.as_slice-line.ensures here.takes));
       count = omega arith;
@@ -42,16 +42,16 @@ pub returns-in_err-take-clause-stops : goal.returns-in_err-take-clause-stops
 returns-in_err-take-clause-stops g c =
     let items = c.as_slice-row-items.result.now in
     let i = c.loop-row.row-index in
-    let One : List ℕ → Type 0 = λ line. g.T.Taker.stops c.loop-row.taker c.loop-row.out (found_on c.row-item.result line ∷ []) c.take.new.self c.take.new.out in
-    let Now : List Found → Type 0 = λ t. g.T.Taker.stops c.args.taker.now c.args.out.now t c.take.new.self c.take.new.out in
-    let rest = map found_in (drop (i + 1) items) in
+    let One : List ℕ → Type 0 = λ line. g.T.Taker.stops c.loop-row.taker c.loop-row.out (row_met (found_on c.row-item.result line) ∷ []) c.take.new.self c.take.new.out in
+    let Now : List Met → Type 0 = λ t. g.T.Taker.stops c.args.taker.now c.args.out.now t c.take.new.self c.take.new.out in
+    let rest = map met_in (drop (i + 1) items) in
     on_err _ c.from_residual.result
-    (subst Now (kept_split items i c.row-item.result c.loop-row-test.true c.row-item.is ∙ ap (map found_in) c.as_slice-row-items.ensures)
+    (subst Now (kept_split items i c.row-item.result c.loop-row-test.true c.row-item.is ∙ ap (map met_in) c.as_slice-row-items.ensures)
     (g.met.T.Taker.stops_more _ _ _ _ _ rest (g.met.T.Taker.stops_later _ _ _ _ _ _ _ _ c.loop-row.invariant.takes (subst One c.as_slice-line.ensures c.in_err-take.ensures.stops))))
 
 pub returns-clause-takes : goal.returns-clause-takes
 returns-clause-takes g c =
     let items = c.as_slice-row-items.result.now in
     let i = c.loop-row.row-index in
-    let Now : List Found → Type 0 = λ t. g.T.Taker.takes c.args.taker.now c.args.out.now t c.loop-row.taker c.loop-row.out in
-    subst Now (ap (map found_in) (take_all i items (omega arith) ∙ c.as_slice-row-items.ensures)) c.loop-row.invariant.takes
+    let Now : List Met → Type 0 = λ t. g.T.Taker.takes c.args.taker.now c.args.out.now t c.loop-row.taker c.loop-row.out in
+    subst Now (ap (map met_in) (take_all i items (omega arith) ∙ c.as_slice-row-items.ensures)) c.loop-row.invariant.takes

@@ -1,11 +1,11 @@
 use Rattle.std.proofs.Common.{◌≡◌, ◌≤◌, ◌+◌, take, map}
-use Rattle.sampled_table.specs.Kept.{found_in}
+use Rattle.sampled_run.specs.Taking.{met_in}
 use Rattle.sampled_run.proofs.giving.give_kept.Given as goal
 
 -- The records so far were taken.
 abbrev pub invariant-loop-row : goal.invariant-loop-row
 invariant-loop-row g l = record {
-  takes : g.T.Taker.takes l.initial.taker l.initial.out (map found_in (take l.row-index l.row-items)) l.taker l.out;
+  takes : g.T.Taker.takes l.initial.taker l.initial.out (map met_in (take l.row-index l.row-items)) l.taker l.out;
   count : g.T.Taker.count l.taker ≡ g.T.Taker.count l.initial.taker + l.row-index;
   goes : g.T.Taker.goes l.initial.out l.out;
   later : g.T.Taker.faults l.initial.out ≤ g.T.Taker.faults l.out;
