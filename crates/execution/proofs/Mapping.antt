@@ -27,8 +27,8 @@ on_table_map (F.Tabled format) pattern told spans P Q so p = so _ p
 on_table_map (F.Sampled options limit) pattern None spans P Q so p = tt
 on_table_map (F.Sampled options limit) pattern (Some folder) spans P Q so p = λ kept. so _ (p kept)
 
-writes_map : (Has Other : List ℕ → Type 0) → ((text : List ℕ) → Has text → Other text) → (spec : Spec) (format : LogFormat) (plan : Planned) (spans : List Span) (counts : Counts) (folder : Folder) → Writes Has spec format plan spans counts folder → Writes Other spec format plan spans counts folder
-writes_map Has Other so spec format plan spans counts folder w = record { text = so (text_in spec format plan folder spans) w.text; processed = w.processed; output = w.output; bad = w.bad; within = w.within }
+writes_map : (Has Other : List ℕ → Type 0) → ((text : List ℕ) → Has text → Other text) → (spec : Spec) (moment : ℤ) (q : model.Query) (format : LogFormat) (plan : Planned) (spans : List Span) (counts : Counts) (folder : Folder) → Writes Has spec moment q format plan spans counts folder → Writes Other spec moment q format plan spans counts folder
+writes_map Has Other so spec moment q format plan spans counts folder w = record { text = so (text_in spec moment q format plan folder spans) w.text; processed = w.processed; output = w.output; bad = w.bad; within = w.within }
 
 pub executed_map : (format : LogFormat) (told : Option Folder) (Has Other : List ℕ → Type 0) (spec : Spec) (moment : ℤ) (q : model.Query) (spans : List Span) (counts : Counts) → ((text : List ℕ) → Has text → Other text)
     → IsExecuted format told Has spec moment q spans counts → IsExecuted format told Other spec moment q spans counts
@@ -37,8 +37,8 @@ executed_map format told Has Other spec moment q spans counts so ran =
     (λ table w. record {
       plan = w.plan;
       is_planned = w.is_planned;
-      written = told_map told (λ folder. AreKept (lines_in format) false spans folder → Writes Has spec format w.plan spans counts folder) (λ folder. AreKept (lines_in format) false spans folder → Writes Other spec format w.plan spans counts folder)
-          (λ folder f kept. writes_map Has Other so spec format w.plan spans counts folder (f kept)) w.written;
+      written = told_map told (λ folder. AreKept (lines_in format) false spans folder → Writes Has spec moment q format w.plan spans counts folder) (λ folder. AreKept (lines_in format) false spans folder → Writes Other spec moment q format w.plan spans counts folder)
+          (λ folder f kept. writes_map Has Other so spec moment q format w.plan spans counts folder (f kept)) w.written;
     }) ran
 
 front_map : (format : LogFormat) (told : Option Folder) (Nothing None' : Type 0) (Front Other : List ℕ → Type 0) (spec : Spec) (moment : ℤ) (q : model.Query) (spans : List Span) (table : TableColumns) → (Nothing → None') → ((text : List ℕ) → Front text → Other text)
@@ -47,8 +47,8 @@ front_map format told Nothing None' Front Other spec moment q spans table none s
 front_map format told Nothing None' Front Other spec moment q spans table none so (inr holds) = inr (record {
   plan = holds.plan;
   is_planned = holds.is_planned;
-  front = told_map told (λ folder. AreKept (lines_in format) false spans folder → Front (text_in spec format holds.plan folder spans)) (λ folder. AreKept (lines_in format) false spans folder → Other (text_in spec format holds.plan folder spans))
-      (λ folder f kept. so (text_in spec format holds.plan folder spans) (f kept)) holds.front;
+  front = told_map told (λ folder. AreKept (lines_in format) false spans folder → Front (text_in spec moment q format holds.plan folder spans)) (λ folder. AreKept (lines_in format) false spans folder → Other (text_in spec moment q format holds.plan folder spans))
+      (λ folder f kept. so (text_in spec moment q format holds.plan folder spans) (f kept)) holds.front;
 })
 
 pub stopped_map : (format : LogFormat) (told : Option Folder) (Nothing None' : Type 0) (Front Other : List ℕ → Type 0) (spec : Spec) (moment : ℤ) (q : model.Query) (spans : List Span) → (Nothing → None') → ((text : List ℕ) → Front text → Other text)

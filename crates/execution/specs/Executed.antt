@@ -10,7 +10,6 @@ use Rattle.delimited_input.specs.Lines.{delimited_lines}
 use Rattle.log_reading.specs.declared.span.Span.{Span}
 use Rattle.log_reading.specs.Page.{IsTooMany, IsWithin}
 use Rattle.log_reading.specs.Spans.{AreKept, BadLine, spans_found, spans_bad, spans_bad_lines}
-use Rattle.output_formats.specs.Headers.{csv_of}
 use Rattle.query_run.specs.declared.executing.Counts.{Counts}
 use Rattle.query_types.specs.declared.fault.TypeFault.{TypeFault}
 use Rattle.query_types.specs.declared.table.TableColumns.{TableColumns}
@@ -25,6 +24,7 @@ use Rattle.sampled_table.specs.Judged.{table_of as table_with}
 use Rattle.execution.specs.declared.formats.LogFormat.{LogFormat}
 use Rattle.execution.specs.declared.formats.LogFormat.TheVariants as F
 use Rattle.execution.specs.Formats.{lines_in}
+use Rattle.execution.specs.Texts.{run_text}
 
 -- from 1970-01-01 00:00:00 to 9999-12-31 23:59:59
 abbrev pub IsMoment : ℤ → Type 0
@@ -50,12 +50,12 @@ rows_in (F.Tabled format) pattern plan folder spans = plan_rows (readings_of for
 rows_in (F.Sampled options limit) pattern plan folder spans = rows_with pattern (told_in options limit pattern folder spans) plan (spans_found (delimited_lines options) false folder spans)
 
 -- the text of these rows
-abbrev pub text_in : Spec → LogFormat → Planned → Folder → List Span → List ℕ
-text_in spec format plan folder spans = csv_of spec.headers true plan.names (rows_in format spec.ts_format plan folder spans)
+abbrev pub text_in : Spec → ℤ → model.Query → LogFormat → Planned → Folder → List Span → List ℕ
+text_in spec moment q format plan folder spans = run_text spec moment q true plan.names (rows_in format spec.ts_format plan folder spans)
 
--- an output has gained the CSV text of a plan's rows, in a given sense; so many records, rows and bad lines were met, of these no more than there may be
-pub record Writes (Has : List ℕ → Type 0) (spec : Spec) (format : LogFormat) (plan : Planned) (spans : List Span) (counts : Counts) (folder : Folder) : Type 0 where
-  pub text : Has (text_in spec format plan folder spans)
+-- an output has gained the text of a plan's rows, in a given sense; so many records, rows and bad lines were met, of these no more than there may be
+pub record Writes (Has : List ℕ → Type 0) (spec : Spec) (moment : ℤ) (q : model.Query) (format : LogFormat) (plan : Planned) (spans : List Span) (counts : Counts) (folder : Folder) : Type 0 where
+  pub text : Has (text_in spec moment q format plan folder spans)
   pub processed : counts.processed ≡ length (spans_found (lines_in format) false folder spans)
   pub output : counts.output ≡ length (rows_in format spec.ts_format plan folder spans)
   pub bad : counts.bad ≡ length (spans_bad (lines_in format) false folder spans)
@@ -65,7 +65,7 @@ pub record Writes (Has : List ℕ → Type 0) (spec : Spec) (format : LogFormat)
 pub record WritesAll (format : LogFormat) (told : Option Folder) (Has : List ℕ → Type 0) (spec : Spec) (moment : ℤ) (q : model.Query) (spans : List Span) (counts : Counts) (table : TableColumns) : Type 0 where
   pub plan : Planned
   pub is_planned : plan_of table moment q ≡ Ok plan
-  pub written : Told told (λ folder. AreKept (lines_in format) false spans folder → Writes Has spec format plan spans counts folder)
+  pub written : Told told (λ folder. AreKept (lines_in format) false spans folder → Writes Has spec moment q format plan spans counts folder)
 
 -- the output gains the text of the query's rows
 abbrev pub IsExecuted : LogFormat → Option Folder → (List ℕ → Type 0) → Spec → ℤ → model.Query → List Span → Counts → Type 0
@@ -75,7 +75,7 @@ IsExecuted format told Has spec moment q spans counts = OnTable format spec.ts_f
 pub record HoldsFront (format : LogFormat) (told : Option Folder) (Front : List ℕ → Type 0) (spec : Spec) (moment : ℤ) (q : model.Query) (spans : List Span) (table : TableColumns) : Type 0 where
   pub plan : Planned
   pub is_planned : plan_of table moment q ≡ Ok plan
-  pub front : Told told (λ folder. AreKept (lines_in format) false spans folder → Front (text_in spec format plan folder spans))
+  pub front : Told told (λ folder. AreKept (lines_in format) false spans folder → Front (text_in spec moment q format plan folder spans))
 
 -- a run stopped before it wrote anything, or within the text
 abbrev pub IsStopped : LogFormat → Option Folder → Type 0 → (List ℕ → Type 0) → Spec → ℤ → model.Query → List Span → Type 0

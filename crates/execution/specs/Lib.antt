@@ -3,3 +3,4 @@ pub mod Built
 pub mod Executed
 pub mod Faults
 pub mod Standard
+pub mod Texts

@@ -1,23 +1,13 @@
 // What is built so far.
 ghost use Rattle.std.specs.Prelude.{◌≡◌};
 ghost use Rattle.query_tree.specs.Views.{placed_all, query_of};
-ghost use Rattle.execution.specs.Built.{all_built, are_options_built, is_csv, reads_stdin};
+ghost use Rattle.execution.specs.Built.{all_built, are_options_built, reads_stdin};
 
-use command_words::{OutputFormat, Spec};
+use crate::texts::{has_text, output_of};
+use command_words::Spec;
 use query_text::is_stdin;
 use query_tree::{PlacedList, Query};
 use query_types::is_built;
-
-fn is_csv(format: Option<OutputFormat>) -> bool
-    ensures { result ≡ is_csv format }
-{
-    match format {
-        Some(OutputFormat::Csv) => true,
-        Some(OutputFormat::Nat | OutputFormat::Tsv | OutputFormat::W3c | OutputFormat::Tpl) =>
-            false,
-        None => false,
-    }
-}
 
 // Whether STDIN is the only name.
 fn reads_stdin(names: &PlacedList) -> bool
@@ -30,15 +20,15 @@ fn reads_stdin(names: &PlacedList) -> bool
 }
 
 // Whether all that the options ask for is built.
-fn are_options_built(spec: &Spec) -> bool
-    ensures { result ≡ are_options_built spec.now }
+fn are_options_built(spec: &Spec, query: &Query) -> bool
+    ensures { result ≡ are_options_built spec.now (query_of query.now) }
 {
-    is_csv(spec.output) && spec.checkpoint.is_none()
+    has_text(output_of(spec, query)) && spec.checkpoint.is_none()
 }
 
 /// Whether all that the options and the query ask for is built.
 pub fn all_built(spec: &Spec, query: &Query) -> bool
     ensures { result ≡ all_built spec.now (query_of query.now) }
 {
-    are_options_built(spec) && is_built(query) && !reads_stdin(&query.names)
+    are_options_built(spec, query) && is_built(query) && !reads_stdin(&query.names)
 }

@@ -14,6 +14,7 @@ ghost use Rattle.execution.specs.Standard.{IsStandard, standard_at};
 use crate::formats::{LogFormat, log_format};
 use crate::sampled::execute_sampled;
 use crate::tabled::execute_tabled;
+use crate::texts::{output_of, text_as};
 use crate::{Ran, RunFault};
 use checkpoint::Spans;
 use command_words::Spec;
@@ -68,14 +69,15 @@ pub fn execute<L: Logs, I: Source, G: Stage>(
 {
     let target = standard_output();
     let moment = Moment { seconds: moment };
+    let shape = text_as(alloc, spec, output_of(spec, query), moment);
     match log_format(spec, query) {
         LogFormat::Tabled(format) => {
             execute_tabled(
-                alloc, spec, format, query, moment, logs, spans, target, stage,
+                alloc, spec, format, query, moment, logs, spans, shape, target, stage,
             )
         }
         LogFormat::Sampled(options, limit) => execute_sampled(
-            alloc, spec, options, limit, query, moment, logs, spans, target, stage,
+            alloc, spec, options, limit, query, moment, logs, spans, shape, target, stage,
         ),
     }
 }

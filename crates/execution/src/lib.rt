@@ -13,8 +13,10 @@ mod formats;
 mod planning;
 mod sampled;
 mod tabled;
+mod texts;
 
 pub use built::all_built;
 pub use executing::execute;
 pub use fault::{Ran, RunFault};
 pub use formats::{LogFormat, log_format};
+pub use texts::output_of;

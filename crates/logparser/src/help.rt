@@ -6,8 +6,8 @@ pub const HELP: &str = "\
 logparser [options] query
 logparser [options] file:NAME
 
-Reads logs, runs an SQL-like query over their rows, and writes what it gives as CSV to
-standard output. Statistics and messages go to standard error.
+Reads logs, runs an SQL-like query over their rows, and writes what it gives to standard
+output. Statistics and messages go to standard error.
 
 Query (or a file that holds it: file:NAME)
   SELECT * | value [AS name], ..    what is written
@@ -38,9 +38,15 @@ Options, in any order and in any case
     TSV          a header, and fields between tabs (*.tsv)
     TEXTLINE     a row for each line (any other name)
     TEXTWORD     a row for each word
-  -o:CSV         comma separated values; to be given, as the default isn't built yet
+  -o:FORMAT      how rows are written:
+    NAT          tables to be read by people; the default
+    CSV          comma separated values
+    TSV          fields between tabs, never quoted
+    W3C          a W3C extended log
   -e:N           refuse the run where more than N lines can't be read (-1: never)
   -headers:OFF   no line of names (AUTO, ON)
+  -rtp:N         NAT: a new table after N rows, 1 to 10000 (10); one of all rows (-1)
+  -oSeparator:C  TSV output: what parts fields: space, tab, or another character (tab)
   -stats:OFF     no statistics (ON)
   --help         alone: this text
   --version      alone: the version
@@ -63,13 +69,13 @@ Fields
   TEXTLINE, TEXTWORD    LogFilename Index Text
 
 Examples
-  logparser -i:TEXTLINE -o:CSV \"SELECT * FROM server.log\"
+  logparser \"SELECT * FROM server.txt\"
   logparser -o:CSV \"SELECT cs-uri-stem, time-taken FROM u_ex*.log WHERE sc-status = 404\"
   logparser -o:CSV \"SELECT DateTime, Request FROM nc1.log WHERE StatusCode >= 500\" | head
   logparser -o:CSV \"SELECT name, MUL(price, 2) AS twice FROM list.csv WHERE name LIKE 'a%'\"
 
-Not built yet, and answered so: other outputs, INTO files, -iCheckpoint, COUNT and the like,
-TOP, DISTINCT, GROUP BY, HAVING, ORDER BY, subqueries, standard input.
+Not built yet, and answered so: templates (-o:TPL, -tpl), INTO files, -iCheckpoint, COUNT and
+the like, TOP, DISTINCT, GROUP BY, HAVING, ORDER BY, subqueries, standard input.
 
 The manual is docs/manual.md in the repository; docs/examples.md answers common questions.
 

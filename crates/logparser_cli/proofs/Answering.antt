@@ -76,7 +76,7 @@ whole old new mid spec moment q spans counts found grow ran told = record {
       (λ table w. record {
         plan = w.plan;
         is_planned = w.is_planned;
-        written = whole_told new.folder (log_format spec q) found.logs spans (λ s folder. Writes (λ (t : List ℕ). Gains old.out new.out t) spec (log_format spec q) w.plan s counts folder) found.wholes w.written;
+        written = whole_told new.folder (log_format spec q) found.logs spans (λ s folder. Writes (λ (t : List ℕ). Gains old.out new.out t) spec moment q (log_format spec q) w.plan s counts folder) found.wholes w.written;
       })
       ran;
   told = told;
@@ -89,7 +89,7 @@ front_of old new spec moment q logs spans table wholes (inl same) = inl same
 front_of old new spec moment q logs spans table wholes (inr front) = inr (record {
   plan = front.plan;
   is_planned = front.is_planned;
-  front = whole_told new.folder (log_format spec q) logs spans (λ s folder. GainsSome old.out new.out (text_in spec (log_format spec q) front.plan folder s)) wholes front.front;
+  front = whole_told new.folder (log_format spec q) logs spans (λ s folder. GainsSome old.out new.out (text_in spec moment q (log_format spec q) front.plan folder s)) wholes front.front;
 })
 
 stopped_front : (old new : World) (spec : Spec) (moment : ℤ) (q : model.Query) (logs : List NameLength) (spans : List Span) → spans ≡ whole_spans logs → IsStoppedIn (log_format spec q) new.folder (new.out ≡ old.out) (λ (t : List ℕ). GainsSome old.out new.out t) spec moment q spans → IsFront new.folder old.out new.out spec moment q logs

@@ -80,12 +80,14 @@ pub logs_later : (before mid now : Option Folder) (q : model.Query) (logs : List
 logs_later before mid now q logs grow are = record {
   listed = lists_grown mid now (from_names q) (listed_names logs) grow are.listed;
   lengths = All-weaker (IsLength before mid) (IsLength before now) (length_later before mid now grow) logs are.lengths;
+  few = are.few;
 }
 
 pub logs_earlier : (before mid now : Option Folder) (q : model.Query) (logs : List NameLength) → OnlyGrow before mid → AreLogs mid now q logs → AreLogs before now q logs
 logs_earlier before mid now q logs grow are = record {
   listed = are.listed;
   lengths = All-weaker (IsLength mid now) (IsLength before now) (length_earlier before mid now grow) logs are.lengths;
+  few = are.few;
 }
 
 pub is_unlisted : (now : Option Folder) (q : model.Query) (fault : ListFault) → IsRefused now (from_names q) fault → IsUnlisted now q (unlisted fault)

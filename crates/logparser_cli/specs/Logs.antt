@@ -1,5 +1,5 @@
 -- The logs that a query reads.
-use Rattle.std.specs.Prelude.{◌≡◌, ℕ, List, map, Option, All, ⊤}
+use Rattle.std.specs.Prelude.{◌≡◌, ◌≤◌, ℕ, List, length, map, Option, All, ⊤}
 use Rattle.grammar.specs.Trees as model
 use Rattle.lp_model.specs.Outside.{Folder}
 use Rattle.checkpoint.specs.Wholes.{whole_spans}
@@ -22,6 +22,7 @@ from_names q = map (λ name. name.text) (names_in q)
 pub record AreLogs (before now : Option Folder) (q : model.Query) (logs : List NameLength) : Type 0 where
   pub listed : Lists now (from_names q) (listed_names logs)
   pub lengths : All (IsLength before now) logs
+  pub few : length logs ≤ 100000
 
 -- these are the spans of the logs of the FROM names, each whole
 pub record AreSpans (before now : Option Folder) (q : model.Query) (spans : List Span) : Type 0 where

@@ -47,7 +47,7 @@ told_statistics false counts = []
 pub record WritesAll (told : Option Folder) (before now : Option (List ℕ)) (spec : Spec) (moment : ℤ) (q : model.Query) (logs : List NameLength) (counts : Counts) (table : TableColumns) : Type 0 where
   pub plan : Planned
   pub is_planned : plan_of table moment q ≡ Ok plan
-  pub written : Told told (Writes (λ (t : List ℕ). Gains before now t) spec (log_format spec q) plan (whole_spans logs) counts)
+  pub written : Told told (Writes (λ (t : List ℕ). Gains before now t) spec moment q (log_format spec q) plan (whole_spans logs) counts)
 
 -- a whole run: the output gains the text of the query's rows over the whole logs, and the other output the statistics
 pub record IsWhole (old new : World) (spec : Spec) (moment : ℤ) (q : model.Query) : Type 0 where
@@ -61,7 +61,7 @@ pub record IsWhole (old new : World) (spec : Spec) (moment : ℤ) (q : model.Que
 pub record HoldsFront (told : Option Folder) (before now : Option (List ℕ)) (spec : Spec) (moment : ℤ) (q : model.Query) (logs : List NameLength) (table : TableColumns) : Type 0 where
   pub plan : Planned
   pub is_planned : plan_of table moment q ≡ Ok plan
-  pub front : Told told (λ folder. GainsSome before now (text_in spec (log_format spec q) plan folder (whole_spans logs)))
+  pub front : Told told (λ folder. GainsSome before now (text_in spec moment q (log_format spec q) plan folder (whole_spans logs)))
 
 -- nothing was written, or the front of the text
 abbrev pub IsFront : Option Folder → Option (List ℕ) → Option (List ℕ) → Spec → ℤ → model.Query → List NameLength → Type 0

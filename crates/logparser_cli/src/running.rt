@@ -153,6 +153,8 @@ fn run_words<L: Logs, I: Source, S: Sink, E: Sink>(
         (record { folder = L.folder logs.old; logs_faults = L.faults logs.old; out = S.written out.old; out_faults = S.faults out.old; err = E.written err.old; err_faults = E.faults err.old })
         (record { folder = L.folder logs.new; logs_faults = L.faults logs.new; out = S.written out.new; out_faults = S.faults out.new; err = E.written err.new; err_faults = E.faults err.new })
         result }
+    ensures grows { OnlyGrow (L.folder logs.old) (L.folder logs.new) }
+    ensures later { L.faults logs.old ≤ L.faults logs.new }
     ensures input { input.new ≡ input.old }
     ensures silent { OnRefused result (err.new ≡ err.old) }
 {
@@ -199,6 +201,8 @@ pub fn run<L: Logs, D: Disk, I: Source, S: Sink, E: Sink>(
         result }
     ensures told { OnRefused result (Tells (E.written err.old) (E.written err.new) (message result) (Rose (E.faults err.old) (E.faults err.new))) }
     ensures disk { disk.new ≡ disk.old }
+    ensures grows { OnlyGrow (L.folder logs.old) (L.folder logs.new) }
+    ensures later { L.faults logs.old ≤ L.faults logs.new }
     ensures input { input.new ≡ input.old }
 {
     match run_words(alloc, words, moment, logs, input, out, err) {

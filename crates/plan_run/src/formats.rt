@@ -4,7 +4,6 @@ ghost use Rattle.lp_model.specs.Outside.{Rose, OnlyGrow, Told, bytes_in};
 ghost use Rattle.query_run.specs.Output.{kind_of, placed_at, reached, GainsText, GainsFront};
 ghost use Rattle.log_reading.specs.Page.{IsTooMany, IsWithin};
 ghost use Rattle.log_reading.specs.Spans.{AllSpans, IsSpan, AreKept, OnBadLine, spans_found, spans_bad, spans_bad_lines, spans_size};
-ghost use Rattle.output_formats.specs.Headers.{csv_of};
 ghost use Rattle.query_types.specs.Conditions.{filter_of};
 ghost use Rattle.query_types.specs.Planned.{Covers, planned_in};
 ghost use Rattle.input_tables.specs.Tables.{lines_of, columns_of, readings_of};
@@ -16,17 +15,17 @@ use line_input::{TextLines, TextWords};
 use log_reading::{RunFault, Span};
 use lp_outside::{Logs, Stage};
 use ncsa_input::Ncsa;
-use output_formats::{CsvOut, Headers};
+use output_formats::Shape;
 use query_run::{Target, Written};
 use query_types::Plan;
 use std::alloc::Global;
 use w3c_input::IisW3c;
 
-/// Writes the CSV text of a plan's rows over the records of spans, which are read in a format and joined in order.
-pub fn run_plan<L: Logs, G: Stage>(
+/// Writes the text of a plan's rows over the records of spans, which are read in a format and joined in order.
+pub fn run_plan<L: Logs, F: Shape + Drop, G: Stage>(
     alloc: Global,
     format: TableFormat,
-    headers: Headers,
+    shape: F,
     plan: Plan,
     logs: &mut L,
     spans: &[Span],
@@ -42,7 +41,7 @@ pub fn run_plan<L: Logs, G: Stage>(
     ensures grows { OnlyGrow (L.folder logs.old) (L.folder logs.new) }
     ensures goes { G.goes stage.old stage.new }
     ensures text { IfOk result (λ written. Told (L.folder logs.new) (λ folder. AreKept (lines_of format) false spans.now folder
-        → GainsText (reached (kind_of G.state G.ended) target stage.old) (placed_at (kind_of G.state G.ended) target.output written.output stage.new) (csv_of headers true plan.names (plan_rows (readings_of format) (planned_in plan) (lines_of format) folder spans.now)))) }
+        → GainsText (reached (kind_of G.state G.ended) target stage.old) (placed_at (kind_of G.state G.ended) target.output written.output stage.new) (F.text shape true plan.names (plan_rows (readings_of format) (planned_in plan) (lines_of format) folder spans.now)))) }
     ensures ended { IfOk result (λ written. G.ended stage.new written.output.name written.output.base written.output.mark) }
     ensures processed { IfOk result (λ written. Told (L.folder logs.new) (λ folder. AreKept (lines_of format) false spans.now folder
         → written.counts.processed ≡ length (spans_found (lines_of format) false folder spans.now))) }
@@ -55,7 +54,7 @@ pub fn run_plan<L: Logs, G: Stage>(
         → IsTooMany most_bad 0 (spans_bad_lines (lines_of format) false folder spans.now) line))) }
     ensures stopped { IsErrOf result RunFault.Stopped → ⊥ }
     ensures front { OnErr result (Told (L.folder logs.new) (λ folder. AreKept (lines_of format) false spans.now folder
-        → GainsFront (reached (kind_of G.state G.ended) target stage.old) stage.new (csv_of headers true plan.names (plan_rows (readings_of format) (planned_in plan) (lines_of format) folder spans.now)))) }
+        → GainsFront (reached (kind_of G.state G.ended) target stage.old) stage.new (F.text shape true plan.names (plan_rows (readings_of format) (planned_in plan) (lines_of format) folder spans.now)))) }
     ensures given { L.given logs.new ≤ L.given logs.old + spans_size spans.now }
     ensures later_logs { L.faults logs.old ≤ L.faults logs.new }
     ensures logs { IsErrOf result RunFault.Logs → Rose (L.faults logs.old) (L.faults logs.new) }
@@ -66,7 +65,6 @@ pub fn run_plan<L: Logs, G: Stage>(
         Ok(readings) => readings,
         Err(_) => return Err(RunFault::Memory),
     };
-    let shape = CsvOut::new(alloc, headers);
     match format {
         TableFormat::IisW3c => run_reader(
             alloc, &IisW3c, format, readings, plan, logs, spans, shape, target, most_bad, stage,

@@ -5,7 +5,6 @@ ghost use Rattle.log_reading.specs.Page.{IsTooMany, IsWithin};
 ghost use Rattle.log_reading.specs.Spans.{AllSpans, AreKept, IsSpan, spans_bad_lines, spans_size};
 ghost use Rattle.delimited_input.specs.Lines.{delimited_lines};
 ghost use Rattle.delimited_input.specs.Separators.{IsRefused};
-ghost use Rattle.output_formats.specs.Headers.{csv_of};
 ghost use Rattle.query_run.specs.Output.{kind_of, reached};
 ghost use Rattle.query_tree.specs.Views.{query_of};
 ghost use Rattle.query_types.specs.Built.{is_built};
@@ -19,19 +18,19 @@ use delimited_input::{Delimited, DelimitedOptions};
 use log_reading::Span;
 use lp_outside::{Logs, Stage};
 use lp_time::Pattern;
-use output_formats::{CsvOut, Headers};
+use output_formats::Shape;
 use query_run::{Target, Written};
 use query_tree::Query;
 use std::alloc::Global;
 
-/// Writes the CSV text of a query's rows over the records of CSV or TSV spans, joined in order, whose columns the spans tell.
-pub fn run_sampled<'a, L: Logs, G: Stage>(
+/// Writes the text of a query's rows over the records of CSV or TSV spans, joined in order, whose columns the spans tell.
+pub fn run_sampled<'a, L: Logs, F: Shape + Drop, G: Stage>(
     alloc: Global,
     options: DelimitedOptions,
     limit: u32,
     pattern: &'a Pattern,
     moment: Moment,
-    headers: Headers,
+    shape: F,
     query: &'a Query,
     most_bad: Option<u64>,
     logs: &mut L,
@@ -46,10 +45,10 @@ pub fn run_sampled<'a, L: Logs, G: Stage>(
     requires there { Told (L.folder logs.old) (λ folder. AllSpans spans.now (λ span. span.listed ≤ length (bytes_in folder span.name))) }
     ensures grows { OnlyGrow (L.folder logs.old) (L.folder logs.new) }
     ensures ran { IfOk result (λ run. Told (L.folder logs.new) (λ folder. AreKept (delimited_lines options) false spans.now folder
-        → IsSampled (rules_of limit pattern.now moment.seconds (query_of query.now) (csv_of headers)) (reached (kind_of G.state G.ended) target stage.old) (past_of (delimited_lines options) false folder spans.now) (delimited_lines options) folder spans.now run stage.new)) }
+        → IsSampled (rules_of limit pattern.now moment.seconds (query_of query.now) (F.text shape)) (reached (kind_of G.state G.ended) target stage.old) (past_of (delimited_lines options) false folder spans.now) (delimited_lines options) folder spans.now run stage.new)) }
     ensures ended { IfOk result (λ run. G.ended stage.new run.output.name run.output.base run.output.mark) }
     ensures stopped { IfErr result (λ fault. Told (L.folder logs.new) (λ folder. AreKept (delimited_lines options) false spans.now folder
-        → IsStoppedBy (rules_of limit pattern.now moment.seconds (query_of query.now) (csv_of headers)) (reached (kind_of G.state G.ended) target stage.old) (past_of (delimited_lines options) false folder spans.now) fault stage.new)) }
+        → IsStoppedBy (rules_of limit pattern.now moment.seconds (query_of query.now) (F.text shape)) (reached (kind_of G.state G.ended) target stage.old) (past_of (delimited_lines options) false folder spans.now) fault stage.new)) }
     ensures within { IfOk result (λ run. IsWithin most_bad run.counts.bad) }
     ensures too_many { IfErr result (λ fault. OnBadOne fault (λ line. Told (L.folder logs.new) (λ folder. AreKept (delimited_lines options) false spans.now folder
         → IsTooMany most_bad 0 (spans_bad_lines (delimited_lines options) false folder spans.now) line))) }
@@ -63,7 +62,6 @@ pub fn run_sampled<'a, L: Logs, G: Stage>(
     let Ok(reader) = Delimited::new(options) else {
         unreachable!();
     };
-    let shape = CsvOut::new(alloc, headers);
     sample_reader(
         alloc, &reader, limit, pattern, moment, query, most_bad, logs, spans, shape, target, stage,
     )

@@ -12,8 +12,14 @@ use Rattle.execution.proofs.Standard.{standard_is}
 use Rattle.execution.specs.Executed.{IsExecuted, IsParseError, IsStopped, IsUnplanned, IsUntouched}
 use Rattle.execution.specs.Faults.{IfParse, IfPlan}
 use Rattle.execution.specs.Formats.{input_of}
-use Rattle.execution.proofs.FormatLemmas.{separated}
+use Rattle.execution.proofs.FormatLemmas.{built_query, separated}
 use Rattle.execution.proofs.executing.execute.Goals as goal
+
+pub execute_tabled-requires-clause-built : goal.execute_tabled-requires-clause-built
+execute_tabled-requires-clause-built g c = built_query c.args.spec.now (query_of c.args.query.now) c.requires.built
+
+pub execute_sampled-requires-clause-built : goal.execute_sampled-requires-clause-built
+execute_sampled-requires-clause-built g c = built_query c.args.spec.now (query_of c.args.query.now) c.requires.built
 
 pub execute_sampled-requires-clause-separator : goal.execute_sampled-requires-clause-separator
 execute_sampled-requires-clause-separator g c =

@@ -18,6 +18,7 @@ returns-in-Ok-whole_spans-clause-found g c = record {
   are_logs = record {
     listed = subst (λ (texts : List (List ℕ)). Lists (g.L.Logs.folder c.list_logs.new.logs) texts (names_in c.in-Ok-list_logs.list)) (c.in-Ok.ensures ∙ names_behind c.args.query.now) c.in-Ok-list_logs.ensures.listed;
     lengths = c.in-Ok-list_logs.ensures.lengths;
+    few = c.in-Ok-list_logs.ensures.few;
   };
   wholes = c.in-Ok-whole_spans.ensures;
 }

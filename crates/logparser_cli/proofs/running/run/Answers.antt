@@ -19,5 +19,7 @@ returns-in_default g c =
       told = on_refused status (Tells (g.E.Sink.written c.args.err.now) (g.E.Sink.written c.tell_refusal.new.err) (message status) (Rose (g.E.Sink.faults c.args.err.now) (g.E.Sink.faults c.tell_refusal.new.err)))
           (subst (λ (err : g.row.E.Denot). Tells (g.E.Sink.written err) (g.E.Sink.written c.tell_refusal.new.err) (message status) (Rose (g.E.Sink.faults err) (g.E.Sink.faults c.tell_refusal.new.err))) same c.tell_refusal.ensures.told);
       disk = refl;
+      grows = c.run_words.ensures.grows;
+      later = c.run_words.ensures.later;
       input = c.run_words.ensures.input;
     }

@@ -1,5 +1,7 @@
 use Rattle.std.proofs.Common.{◌≡◌, List, ℕ, Err, ap, sym, subst, FitsSigned, w64}
 use Rattle.std.proofs.lemmas.Int.{to_z-of_z}
+use Rattle.std.specs.Bool.{⊤}
+use Rattle.execution.specs.declared.fault.Ran.{Ran}
 use Rattle.query_tree.specs.Views.{query_of}
 use Rattle.reports.specs.declared.status.Status.{Status}
 use Rattle.logparser_cli.specs.Answers.{AnswersBuilt}
@@ -25,4 +27,4 @@ returns-clause-answers g c =
     let new : World = record { folder = g.L.Logs.folder c.execute.new.logs; logs_faults = g.L.Logs.faults c.execute.new.logs; out = g.S.Sink.written c.execute.new.stage; out_faults = g.S.Sink.faults c.execute.new.stage; err = g.E.Sink.written c.args.err.now; err_faults = g.E.Sink.faults c.args.err.now } in
     let q = query_of c.args.query.now in
     subst (λ (status : Status). AnswersBuilt old new c.args.spec.now c.args.moment q status) (sym c.stopped.ensures)
-    (stopped_answers old new (g.L.Logs.folder c.find_spans.new.logs) c.args.spec.now c.args.moment q c.in-Ok.spans c.in-Err-execute.fault c.in-Ok.ensures.found c.in-Err-execute.ensures.grows (stopped_map (log_format c.args.spec.now q) new.folder _ (new.out ≡ old.out) _ (λ (t : List ℕ). GainsSome old.out new.out t) c.args.spec.now c.args.moment q c.in-Ok.spans (λ same. ap g.S.Sink.written same) (λ text front. written_front g.S.Sink.written _ c.args.out.now c.execute.new.stage text front) (simp to_z-of_z at c.in-Err-execute.ensures.stopped)) (simp to_z-of_z at c.in-Err-execute.ensures.plan) (if_plan_map (Err c.in-Err-execute.fault) _ _ (λ f is. untouched_map (log_format c.args.spec.now q) new.folder _ (new.out ≡ old.out) c.args.spec.now c.in-Ok.spans (λ same. ap g.S.Sink.written same) is) c.in-Err-execute.ensures.before) (simp to_z-of_z at c.in-Err-execute.ensures.parse) (λ e. rose_since _ _ _ c.in-Ok.ensures.later (c.in-Err-execute.ensures.logs (ap Err e))) (λ e. c.in-Err-execute.ensures.stage (ap Err e)))
+    (stopped_answers old new (g.L.Logs.folder c.find_spans.new.logs) c.args.spec.now c.args.moment q c.in-Ok.spans c.in-Err-execute.fault c.in-Ok.ensures.found c.in-Err-execute.ensures.grows (stopped_map (log_format c.args.spec.now q) new.folder _ (new.out ≡ old.out) _ (λ (t : List ℕ). GainsSome old.out new.out t) c.args.spec.now c.args.moment q c.in-Ok.spans (λ same. ap g.S.Sink.written same) (λ text front. written_front g.S.Sink.written (λ stream name base mark. ⊤) c.args.out.now c.execute.new.stage text front) (simp to_z-of_z at c.in-Err-execute.ensures.stopped)) (simp to_z-of_z at c.in-Err-execute.ensures.plan) (if_plan_map {T = Ran} (Err c.in-Err-execute.fault) _ _ (λ f is. untouched_map (log_format c.args.spec.now q) new.folder _ (new.out ≡ old.out) c.args.spec.now c.in-Ok.spans (λ same. ap g.S.Sink.written same) is) c.in-Err-execute.ensures.before) (simp to_z-of_z at c.in-Err-execute.ensures.parse) (λ e. rose_since _ _ _ c.in-Ok.ensures.later (c.in-Err-execute.ensures.logs (ap Err e))) (λ e. c.in-Err-execute.ensures.stage (ap Err e)))

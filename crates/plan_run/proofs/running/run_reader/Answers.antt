@@ -1,7 +1,7 @@
 use Rattle.lp_model.proofs.Growing.{OnlyGrow-refl}
 use Rattle.log_reading.specs.Page.{IsTooMany}
 use Rattle.log_reading.specs.Spans.{AreKept, OnBadLine, spans_bad_lines}
-use Rattle.query_run.specs.Output.{kind_of, placed_at, reached, GainsText}
+use Rattle.query_run.specs.Output.{kind_of, placed_at, reached, GainsText, GainsFront}
 use Rattle.query_run.specs.declared.executing.Written.{Written}
 use Rattle.query_types.specs.Planned.{planned_in}
 use Rattle.query_types.specs.declared.plans.Plan.{Plan}
@@ -9,7 +9,7 @@ use Rattle.slot_reading.specs.declared.reading.Reading.{Reading}
 use Rattle.input_tables.specs.Tables.{lines_of}
 use Rattle.plan_run.specs.Rows.{plan_rows}
 use Rattle.plan_run.proofs.Sizes.{has_room, told_none}
-use Rattle.std.proofs.Common.{List, ℕ, true, false, IfOk, IfErr, subst}
+use Rattle.std.proofs.Common.{List, ℕ, true, false, IfOk, IfErr, OnErr, subst}
 use Rattle.lp_model.specs.Outside.{Told}
 use Rattle.lp_model.specs.Reading.{Format}
 use Rattle.plan_run.proofs.running.run_reader.Goals as goal
@@ -39,6 +39,17 @@ returns-clause-text g c =
     let read = g.R.LineReader.format c.args.reader.now in
     let picker = c.in-Ok-new.picker in
     let named = subst (λ (names : List (List ℕ)). Of read names picker.readings picker.ready.plan) c.in-Ok.ensures c.write_spans.ensures.text in
+    let by_readings = subst (λ (readings : List Reading). Of read c.args.plan.names readings picker.ready.plan) c.in-Ok-new.ensures.readings named in
+    let by_plan = subst (λ (plan : Plan). Of read c.args.plan.names c.args.readings plan) c.in-Ok-new.ensures.plan by_readings in
+    subst (λ (format : Format). Of format c.args.plan.names c.args.readings c.args.plan) c.requires.reads by_plan
+
+pub returns-clause-front : goal.returns-clause-front
+returns-clause-front g c =
+    let Of : Format → List (List ℕ) → List Reading → Plan → Type 0 = λ format names readings plan. OnErr c.write_spans.result (Told (g.L.Logs.folder c.write_spans.new.logs) (λ folder. AreKept format false c.args.spans.now folder
+    → GainsFront (reached (kind_of g.G.Stage.state g.G.Stage.ended) c.args.target c.args.stage.now) c.write_spans.new.stage (g.F.Shape.text c.args.shape true names (plan_rows readings (planned_in plan) format folder c.args.spans.now)))) in
+    let read = g.R.LineReader.format c.args.reader.now in
+    let picker = c.in-Ok-new.picker in
+    let named = subst (λ (names : List (List ℕ)). Of read names picker.readings picker.ready.plan) c.in-Ok.ensures c.write_spans.ensures.front in
     let by_readings = subst (λ (readings : List Reading). Of read c.args.plan.names readings picker.ready.plan) c.in-Ok-new.ensures.readings named in
     let by_plan = subst (λ (plan : Plan). Of read c.args.plan.names c.args.readings plan) c.in-Ok-new.ensures.plan by_readings in
     subst (λ (format : Format). Of format c.args.plan.names c.args.readings c.args.plan) c.requires.reads by_plan

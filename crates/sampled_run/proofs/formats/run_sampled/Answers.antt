@@ -5,8 +5,6 @@ use Rattle.log_reading.specs.Page.{IsTooMany}
 use Rattle.log_reading.specs.Spans.{AreKept, spans_bad_lines}
 use Rattle.delimited_input.specs.declared.options.DelimitedOptions.{DelimitedOptions}
 use Rattle.delimited_input.specs.Lines.{delimited_lines}
-use Rattle.output_formats.specs.Headers.{csv_of}
-use Rattle.output_formats.specs.declared.csv.Headers.{Headers}
 use Rattle.query_run.specs.Output.{kind_of, reached}
 use Rattle.query_run.specs.declared.executing.Written.{Written}
 use Rattle.sampled_run.specs.declared.fault.SampleFault.{SampleFault}
@@ -24,17 +22,16 @@ returns-clause-ran g c =
     let u = reached (kind_of g.G.Stage.state g.G.Stage.ended) c.args.target c.args.stage.now in
     let v = c.sample_reader.new.stage in
     let spans = c.args.spans.now in
-    let rules : Headers → Rules = λ headers. rules_of c.args.limit c.args.pattern.now c.args.moment.seconds (query_of c.args.query.now) (csv_of headers) in
-    let Behind : DelimitedOptions → Headers → Written → Type 0 = λ options headers run. Told told (λ folder. AreKept (delimited_lines options) false spans folder
-    → IsSampled (rules headers) u (past_behind (delimited_lines options) false folder nothing spans) (delimited_lines options) folder spans run v) in
-    let given = subst (λ (options : DelimitedOptions). IfOk c.sample_reader.result (Behind options c.new-shape.result)) c.in-Ok.ensures.ok c.sample_reader.ensures.ran in
-    let named = subst (λ (headers : Headers). IfOk c.sample_reader.result (Behind c.args.options headers)) c.new-shape.ensures given in
-    if_ok (Behind c.args.options c.args.headers)
+    let rules : Rules = rules_of c.args.limit c.args.pattern.now c.args.moment.seconds (query_of c.args.query.now) (g.F.Shape.text c.args.shape) in
+    let Behind : DelimitedOptions → Written → Type 0 = λ options run. Told told (λ folder. AreKept (delimited_lines options) false spans folder
+    → IsSampled rules u (past_behind (delimited_lines options) false folder nothing spans) (delimited_lines options) folder spans run v) in
+    let given = subst (λ (options : DelimitedOptions). IfOk c.sample_reader.result (Behind options)) c.in-Ok.ensures.ok c.sample_reader.ensures.ran in
+    if_ok (Behind c.args.options)
     (λ (run : Written). Told told (λ folder. AreKept (delimited_lines c.args.options) false spans folder
-    → IsSampled (rules c.args.headers) u (past_of (delimited_lines c.args.options) false folder spans) (delimited_lines c.args.options) folder spans run v))
+    → IsSampled rules u (past_of (delimited_lines c.args.options) false folder spans) (delimited_lines c.args.options) folder spans run v))
     c.sample_reader.result
-    (λ run. ran_told (rules c.args.headers) (delimited_lines c.args.options) (delimited_sets_once c.args.options) told spans u v run)
-    named
+    (λ run. ran_told rules (delimited_lines c.args.options) (delimited_sets_once c.args.options) told spans u v run)
+    given
 
 pub returns-clause-stopped : goal.returns-clause-stopped
 returns-clause-stopped g c =
@@ -42,17 +39,16 @@ returns-clause-stopped g c =
     let u = reached (kind_of g.G.Stage.state g.G.Stage.ended) c.args.target c.args.stage.now in
     let v = c.sample_reader.new.stage in
     let spans = c.args.spans.now in
-    let rules : Headers → Rules = λ headers. rules_of c.args.limit c.args.pattern.now c.args.moment.seconds (query_of c.args.query.now) (csv_of headers) in
-    let Behind : DelimitedOptions → Headers → SampleFault → Type 0 = λ options headers fault. Told told (λ folder. AreKept (delimited_lines options) false spans folder
-    → IsStoppedBy (rules headers) u (past_behind (delimited_lines options) false folder nothing spans) fault v) in
-    let given = subst (λ (options : DelimitedOptions). IfErr c.sample_reader.result (Behind options c.new-shape.result)) c.in-Ok.ensures.ok c.sample_reader.ensures.stopped in
-    let named = subst (λ (headers : Headers). IfErr c.sample_reader.result (Behind c.args.options headers)) c.new-shape.ensures given in
-    if_err (Behind c.args.options c.args.headers)
+    let rules : Rules = rules_of c.args.limit c.args.pattern.now c.args.moment.seconds (query_of c.args.query.now) (g.F.Shape.text c.args.shape) in
+    let Behind : DelimitedOptions → SampleFault → Type 0 = λ options fault. Told told (λ folder. AreKept (delimited_lines options) false spans folder
+    → IsStoppedBy rules u (past_behind (delimited_lines options) false folder nothing spans) fault v) in
+    let given = subst (λ (options : DelimitedOptions). IfErr c.sample_reader.result (Behind options)) c.in-Ok.ensures.ok c.sample_reader.ensures.stopped in
+    if_err (Behind c.args.options)
     (λ (fault : SampleFault). Told told (λ folder. AreKept (delimited_lines c.args.options) false spans folder
-    → IsStoppedBy (rules c.args.headers) u (past_of (delimited_lines c.args.options) false folder spans) fault v))
+    → IsStoppedBy rules u (past_of (delimited_lines c.args.options) false folder spans) fault v))
     c.sample_reader.result
-    (λ fault. stopped_told (rules c.args.headers) (delimited_lines c.args.options) (delimited_sets_once c.args.options) told spans u v fault)
-    named
+    (λ fault. stopped_told rules (delimited_lines c.args.options) (delimited_sets_once c.args.options) told spans u v fault)
+    given
 
 pub returns-clause-too_many : goal.returns-clause-too_many
 returns-clause-too_many g c =

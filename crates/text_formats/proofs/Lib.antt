@@ -1,0 +1,5 @@
+pub mod Breaking
+pub mod Stopping
+pub mod Tabling
+pub mod Piecing
+pub mod Blocks
