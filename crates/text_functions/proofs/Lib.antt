@@ -1,3 +1,4 @@
+mod CaseLemmas
 mod CharacterLemmas
 mod Cutting
 mod EdgeLemmas
@@ -7,5 +8,7 @@ mod PieceLemmas
 mod PlaceLemmas
 mod PrefixLemmas
 mod ReplaceLemmas
+mod RunLemmas
+mod StandLemmas
 mod TokenLemmas
 mod ValueLemmas

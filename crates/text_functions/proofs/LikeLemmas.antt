@@ -9,33 +9,33 @@ use Rattle.text_functions.specs.Likes.{Likes, stands_for}
 use Rattle.text_functions.proofs.CharacterLemmas.{no_characters}
 
 -- what a `%` says, and what another character says
-abbrev Skips : List ℕ → List ℕ → Type 0
+abbrev pub Skips : List ℕ → List ℕ → Type 0
 Skips ps text = (skipped : List ℕ) × (rest : List ℕ) × (text ≡ skipped ++ rest) × Likes ps rest
 
-abbrev Takes : ℕ → List ℕ → List ℕ → Type 0
+abbrev pub Takes : ℕ → List ℕ → List ℕ → Type 0
 Takes p ps text = (c : ℕ) × (rest : List ℕ) × (text ≡ c ∷ rest) × IsTrue (stands_for p c) × Likes ps rest
 
-as_skips : (ps text : List ℕ) → Likes (37 ∷ ps) text → Skips ps text
+pub as_skips : (ps text : List ℕ) → Likes (37 ∷ ps) text → Skips ps text
 unfolding Likes
 as_skips ps text h = h
 
-from_skips : (ps text : List ℕ) → Skips ps text → Likes (37 ∷ ps) text
+pub from_skips : (ps text : List ℕ) → Skips ps text → Likes (37 ∷ ps) text
 unfolding Likes
 from_skips ps text h = h
 
-as_takes : (p : ℕ) (ps text : List ℕ) → (p == 37) ≡ false → Likes (p ∷ ps) text → Takes p ps text
+pub as_takes : (p : ℕ) (ps text : List ℕ) → (p == 37) ≡ false → Likes (p ∷ ps) text → Takes p ps text
 unfolding Likes
 as_takes p ps text other h = MatchBool-at_false (Skips ps text) (Takes p ps text) other h
 
-from_takes : (p : ℕ) (ps text : List ℕ) → (p == 37) ≡ false → Takes p ps text → Likes (p ∷ ps) text
+pub from_takes : (p : ℕ) (ps text : List ℕ) → (p == 37) ≡ false → Takes p ps text → Likes (p ∷ ps) text
 unfolding Likes
 from_takes p ps text other h = subst (λ (b : Bool). MatchBool b (Skips ps text) (Takes p ps text)) (sym other) h
 
-as_end : (text : List ℕ) → Likes [] text → text ≡ []
+pub as_end : (text : List ℕ) → Likes [] text → text ≡ []
 unfolding Likes
 as_end text h = h
 
-from_end : (text : List ℕ) → text ≡ [] → Likes [] text
+pub from_end : (text : List ℕ) → text ≡ [] → Likes [] text
 unfolding Likes
 from_end text h = h
 

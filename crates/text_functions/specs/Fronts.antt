@@ -13,6 +13,11 @@ IsFront pattern text (Percent rest behind) =
     (Likes pattern text ↔ Likes (37 ∷ chars behind.now) (chars rest.now))
     × (Likes (37 ∷ pattern) text ↔ Likes (37 ∷ chars behind.now) (chars rest.now))
 
+-- the same of a pattern with a `%` before it
+abbrev pub IsBehindPercent : List ℕ → List ℕ → Front → Type 0
+IsBehindPercent pattern text (Whole is_like) = IsTrue is_like ↔ Likes (37 ∷ pattern) text
+IsBehindPercent pattern text (Percent rest behind) = Likes (37 ∷ pattern) text ↔ Likes (37 ∷ chars behind.now) (chars rest.now)
+
 -- less is left
 abbrev pub IsShorter : List ℕ → List ℕ → Front → Type 0
 IsShorter pattern text (Whole is_like) = ⊤

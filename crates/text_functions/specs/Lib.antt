@@ -5,3 +5,4 @@ pub mod Tokens
 pub mod Edges
 pub mod Likes
 pub mod Fronts
+pub mod Runs

@@ -12,6 +12,7 @@ mod likeness;
 mod occurrences;
 mod places;
 mod replacing;
+mod runs;
 mod tokens;
 
 pub use edges::{extract_extension, extract_filename, extract_path, ltrim, rtrim, trim};

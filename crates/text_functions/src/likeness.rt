@@ -2,9 +2,10 @@
 ghost use Rattle.std.specs.Prelude.{◌≡◌, ◌↔◌, IsTrue, ◌∷◌};
 ghost use Rattle.std.specs.Str.{chars};
 ghost use Rattle.text_functions.specs.Likes.{Likes, stands_for};
-ghost use Rattle.text_functions.specs.Fronts.{IsFront, IsShorter, IsText};
+ghost use Rattle.text_functions.specs.Fronts.{IsBehindPercent, IsFront, IsShorter, IsText};
 
 use crate::characters::first_character;
+use crate::runs::{Run, behind_run, ends_with_run, first_run};
 
 /// Whether a text is like a pattern: `%` stands for any text, `_` for one character, every other character for itself, in
 /// either case of a letter of ASCII.
@@ -63,15 +64,51 @@ fn like_behind_percent(text: &str, pattern: &str) -> bool
     let mut rest = text;
     let mut left = pattern;
     loop {
-        match match_front(rest, left) {
-            Front::Whole(true) => return true,
+        match pass_run(rest, left) {
+            Front::Whole(is_like) => return is_like,
             Front::Percent(next, behind) => {
                 rest = next;
                 left = behind;
             }
+        }
+    }
+}
+
+// How far the characters before the first `%` of a pattern, with a `%` before them, stand for a text: they are searched for.
+fn pass_run<'t, 'p>(text: &'t str, pattern: &'p str) -> Front<'t, 'p>
+    ensures meaning { IsBehindPercent (chars pattern.now) (chars text.now) result }
+    ensures shorter { IsShorter pattern.now text.now result }
+    ensures utf8 { IsText result }
+{
+    match first_run(pattern) {
+        Run::Blank => walk(text, pattern),
+        Run::Last(run) => Front::Whole(ends_with_run(text, run)),
+        Run::Between(run, behind) => {
+            if run.is_empty() {
+                return Front::Percent(text, behind);
+            }
+            match behind_run(text, run) {
+                Some(rest) => Front::Percent(rest, behind),
+                None => Front::Whole(false),
+            }
+        }
+    }
+}
+
+// The same character by character, for a `_` among them.
+fn walk<'t, 'p>(text: &'t str, pattern: &'p str) -> Front<'t, 'p>
+    ensures meaning { IsBehindPercent (chars pattern.now) (chars text.now) result }
+    ensures shorter { IsShorter pattern.now text.now result }
+    ensures utf8 { IsText result }
+{
+    let mut rest = text;
+    loop {
+        match match_front(rest, pattern) {
+            Front::Whole(true) => return Front::Whole(true),
+            Front::Percent(next, behind) => return Front::Percent(next, behind),
             Front::Whole(false) => {
                 let Some((_, next)) = first_character(rest) else {
-                    return false;
+                    return Front::Whole(false);
                 };
                 rest = next;
             }
