@@ -1,5 +1,5 @@
 -- The blocks of a NAT text, one row after the other.
-use Rattle.std.proofs.Common.{◌≡◌, ℕ, Bool, true, false, ◌||◌, ◌&&◌, List, [], ◌∷◌, ◌++◌, length, nat_lt, if◌then◌else◌, Option, ap, sym, ◌∙◌, refl, append_assoc, subst}
+use Rattle.std.proofs.Common.{◌≡◌, ℕ, Bool, true, false, ◌||◌, List, [], ◌∷◌, ◌++◌, length, nat_lt, ap, sym, ◌∙◌, refl, append_assoc, subst}
 use Rattle.lp_model.specs.Outside.{Begins, GrowsIn}
 use Rattle.lp_model.proofs.Growing.{append-nil}
 use Rattle.lp_values.specs.declared.value.Value.{Value}

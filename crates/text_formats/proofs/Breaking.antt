@@ -1,5 +1,5 @@
 -- Which fields hold a byte that breaks them.
-use Rattle.std.proofs.Common.{◌≡◌, ℕ, Bool, true, false, ◌||◌, List, [], ◌∷◌, map, ap, sym, ◌∙◌, refl, ◌==◌}
+use Rattle.std.proofs.Common.{◌≡◌, ℕ, Bool, true, false, ◌||◌, List, [], ◌∷◌, map, ap, ◌∙◌, refl}
 use Rattle.std.specs.List.{list_any}
 use Rattle.memchr.specs.Find.{is_byte, is_byte3}
 use Rattle.text_formats.specs.declared.style.Style.{Style}

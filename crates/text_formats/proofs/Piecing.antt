@@ -1,8 +1,8 @@
 -- A line of pieces, one after the other.
-use Rattle.std.proofs.Common.{◌≡◌, ℕ, ◌+◌, ◌-◌, ◌<◌, ◌≤◌, Bool, List, [], ◌∷◌, ◌++◌, length, drop, get_or, ap, sym, ◌∙◌, refl, append_assoc, arith, ◌==◌, length-drop}
+use Rattle.std.proofs.Common.{◌≡◌, ℕ, ◌+◌, ◌-◌, ◌<◌, ◌≤◌, Bool, List, [], ◌++◌, length, drop, get_or, ap, sym, ◌∙◌, refl, append_assoc, arith, ◌==◌, length-drop}
 use Rattle.std.proofs.lemmas.Bool.Decides.{nat_tests}
 use Rattle.std.proofs.lemmas.List.{drop_more, drop_all}
-use Rattle.lp_model.specs.Outside.{Begins, GrowsIn}
+use Rattle.lp_model.specs.Outside.{GrowsIn}
 use Rattle.lp_model.proofs.Growing.{append-nil}
 use Rattle.text_formats.specs.Tables.{pieces_from}
 

@@ -1,6 +1,5 @@
 -- The NAT text of values: tables of so many rows, one behind another.
 use Rattle.std.specs.Prelude.{◌≡◌, ℕ, Bool, true, false, ◌&&◌, ◌||◌, List, [], ◌∷◌, ◌++◌, map, length, nat_lt, ◌==◌, if◌then◌else◌, Option, Some, None}
-use Rattle.std.specs.Option.{option_map_or}
 use Rattle.lp_values.specs.declared.value.Value.{Value}
 use Rattle.lp_values.specs.declared.value.Value.TheVariants.{Text}
 use Rattle.output_formats.specs.declared.csv.Headers.{Headers}

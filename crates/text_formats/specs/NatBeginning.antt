@@ -1,5 +1,5 @@
 -- What is out of a NAT text begins the whole.
-use Rattle.std.specs.Prelude.{◌≡◌, ℕ, Bool, true, List, ◌++◌}
+use Rattle.std.specs.Prelude.{ℕ, Bool, true, List, ◌++◌}
 use Rattle.lp_model.specs.Outside.{Begins}
 use Rattle.text_formats.specs.Nat.{NatState, Rows, IsNatText, nat_of, blocks_text, blocks_behind, title}
 use Rattle.text_formats.specs.Tables.{block_text}

@@ -1,5 +1,5 @@
 -- The layout of a table from its rows: columns as wide as their widest cell, one space apart.
-use Rattle.std.specs.Prelude.{ℕ, ◌+◌, ◌-◌, Bool, true, false, ◌&&◌, ◌||◌, List, [], ◌∷◌, ◌++◌, map, flat_map, replicate, count_by, length, max, nat_lt, nat_le, ◌==◌, if◌then◌else◌, slice_get}
+use Rattle.std.specs.Prelude.{ℕ, ◌+◌, ◌-◌, Bool, true, false, ◌||◌, List, [], ◌∷◌, ◌++◌, map, flat_map, replicate, count_by, length, max, nat_lt, nat_le, ◌==◌, if◌then◌else◌, slice_get}
 use Rattle.std.specs.Option.{option_map_or}
 use Rattle.lp_values.specs.Printed.{printed}
 use Rattle.lp_values.specs.declared.value.Value.{Value}

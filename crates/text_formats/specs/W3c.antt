@@ -1,5 +1,5 @@
 -- The W3C text of values.
-use Rattle.std.specs.Prelude.{ℕ, Bool, true, List, [], ◌∷◌, ◌++◌, ℤ, map, codes}
+use Rattle.std.specs.Prelude.{ℕ, Bool, true, List, ◌++◌, ℤ, map, codes}
 use Rattle.lp_values.specs.Printed.{printed, printed_stamp}
 use Rattle.lp_values.specs.Civil.{civil_of}
 use Rattle.lp_values.specs.declared.part.Part.TheVariants.{Both}

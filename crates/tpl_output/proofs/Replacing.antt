@@ -5,7 +5,6 @@ use Rattle.std.proofs.Common.{length-drop}
 use Rattle.lp_model.specs.Outside.{Begins, GrowsIn}
 use Rattle.lp_model.proofs.Buffers.{grows_along}
 use Rattle.lp_values.specs.declared.value.Value.{Value}
-use Rattle.text_formats.specs.Lined.{lined}
 use Rattle.text_formats.proofs.Stopping.{stopped_in_head, stopped_in_row}
 use Rattle.tpl_output.specs.declared.filling.Filling.{Filling}
 use Rattle.tpl_output.specs.Marks.{filled, filled_from, mark_at, shown, size_of}

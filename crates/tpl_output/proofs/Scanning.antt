@@ -1,5 +1,5 @@
 -- A text from one place to the next.
-use Rattle.std.proofs.Common.{◌≡◌, ℕ, ◌+◌, ◌<◌, ◌≤◌, Bool, true, false, List, [], ◌∷◌, ◌++◌, length, take, drop, get_or, ◌-◌, if◌then◌else◌, Option, Some, None, ap, sym, ◌∙◌, refl, append_assoc, arith}
+use Rattle.std.proofs.Common.{◌≡◌, ℕ, ◌+◌, ◌<◌, ◌≤◌, true, false, List, [], ◌∷◌, ◌++◌, length, take, drop, get_or, ◌-◌, if◌then◌else◌, Option, Some, None, ap, sym, ◌∙◌, refl, append_assoc, arith}
 use Rattle.std.proofs.lemmas.List.{drop_more, drop_all, take_all}
 use Rattle.tpl_output.specs.declared.placed.Placed.{Placed}
 use Rattle.std.specs.Option.{option_or}

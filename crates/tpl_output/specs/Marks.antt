@@ -1,5 +1,5 @@
 -- What stands in the place of marks in a section.
-use Rattle.std.specs.Prelude.{ℕ, zero, suc, ◌+◌, ◌-◌, ◌*◌, Bool, true, false, ◌&&◌, List, [], ◌∷◌, ◌++◌, length, take, drop, codes, decimal, flat_map, nat_le, ◌==◌, if◌then◌else◌, Option, Some, None, option_map, ℤ, slice_get, position}
+use Rattle.std.specs.Prelude.{ℕ, zero, suc, ◌+◌, ◌-◌, ◌*◌, Bool, ◌&&◌, List, [], ◌∷◌, ◌++◌, length, take, drop, codes, decimal, nat_le, ◌==◌, if◌then◌else◌, Option, Some, None, option_map, ℤ, slice_get, position}
 use Rattle.std.specs.Char.{is_ascii_digit}
 use Rattle.std.specs.Option.{option_or, option_map_or, option_and_then}
 use Rattle.lp_values.specs.Printed.{printed, printed_stamp}

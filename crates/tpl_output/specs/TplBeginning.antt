@@ -1,5 +1,5 @@
 -- What is out of a text by a template begins the whole.
-use Rattle.std.specs.Prelude.{◌≡◌, ℕ, Bool, true, false, List, [], ◌++◌}
+use Rattle.std.specs.Prelude.{ℕ, Bool, true, false, List, [], ◌++◌}
 use Rattle.std.proofs.Common.{ap, ◌∙◌, append_assoc}
 use Rattle.lp_model.specs.Outside.{Begins}
 use Rattle.lp_values.specs.declared.value.Value.{Value}

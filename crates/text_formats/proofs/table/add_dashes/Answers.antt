@@ -1,4 +1,4 @@
-use Rattle.std.proofs.Common.{List, ℕ, [], ◌∷◌, replicate, if◌then◌else◌}
+use Rattle.std.proofs.Common.{[], ◌∷◌, replicate, if◌then◌else◌}
 use Rattle.lp_model.proofs.Results.{on_err}
 use Rattle.lp_model.proofs.Buffers.{grows_front}
 use Rattle.text_formats.proofs.table.add_dashes.Goals as goal

@@ -1,4 +1,4 @@
-use Rattle.std.proofs.Common.{◌≡◌, ◌-◌, ◌++◌, [], ◌∷◌, replicate, drop, ap, ◌∙◌}
+use Rattle.std.proofs.Common.{◌-◌, ◌++◌, [], ◌∷◌, replicate, drop, ap, ◌∙◌}
 use Rattle.std.proofs.Math.Seq.{drop-append_seam}
 use Rattle.lp_model.proofs.Results.{on_err}
 use Rattle.lp_model.proofs.Buffers.{grows_front, grows_later, grows_along}

@@ -1,4 +1,4 @@
-use Rattle.std.proofs.Common.{◌≡◌, ◌+◌, ◌++◌, [], ◌∷◌, length, nat_eq, ap, sym, ◌∙◌, append_assoc, arith}
+use Rattle.std.proofs.Common.{◌+◌, ◌++◌, [], ◌∷◌, length, nat_eq, ap, sym, ◌∙◌, append_assoc}
 use Rattle.lp_model.proofs.Results.{on_err}
 use Rattle.lp_model.proofs.Buffers.{grows_along}
 use Rattle.text_formats.specs.Tables.{filled, pieces_from, row_line}

@@ -1,4 +1,4 @@
-use Rattle.std.proofs.Common.{◌≡◌, ◌+◌, ◌++◌, [], ◌∷◌, length, nat_eq, get_or, replicate, if◌then◌else◌, ap, sym, ◌∙◌, refl, append_assoc, arith}
+use Rattle.std.proofs.Common.{◌+◌, ◌++◌, [], ◌∷◌, nat_eq, get_or, replicate, if◌then◌else◌, ap, ◌∙◌, refl, append_assoc, arith}
 use Rattle.lp_model.proofs.Results.{on_err}
 use Rattle.lp_model.proofs.Buffers.{grows_along}
 use Rattle.lp_values.specs.declared.value.Value.TheVariants.{Null}

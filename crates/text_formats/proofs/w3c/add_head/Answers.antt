@@ -1,4 +1,4 @@
-use Rattle.std.proofs.Common.{◌≡◌, List, ℕ, ◌++◌, codes, ap, ◌∙◌, append_assoc, FitsSigned, w64, rules}
+use Rattle.std.proofs.Common.{◌++◌, codes, FitsSigned, w64, rules}
 use Rattle.std.proofs.lemmas.Int.{to_z-of_z}
 use Rattle.lp_model.proofs.Results.{on_err, on_err_map}
 use Rattle.lp_model.proofs.Buffers.{grows_none, grows_front, grows_later}

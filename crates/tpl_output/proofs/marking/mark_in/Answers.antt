@@ -1,4 +1,4 @@
-use Rattle.std.proofs.Common.{sym, ◌∙◌, arith}
+use Rattle.std.proofs.Common.{sym, ◌∙◌}
 use Rattle.tpl_output.proofs.Digits.{mark_next, mark_ended, mark_nowhere}
 use Rattle.tpl_output.proofs.marking.mark_in.Goals as goal
 

@@ -1,0 +1,11 @@
+pub mod Finds
+pub mod Skips
+pub mod Lasts
+pub mod EntryFields
+pub mod Taking
+pub mod SpanFields
+pub mod Puts
+pub mod Ledgers
+pub mod Leaving
+pub mod KeptPlaces
+pub mod Adding

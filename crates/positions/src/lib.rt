@@ -1,0 +1,22 @@
+//! Where runs left their logs.
+//!
+//! To the crates above: [`Positions::load`], the kept places of a ledger, with its input text; [`Positions::advance`],
+//! those with an entry more; and [`Positions::add_spans`], what a run reads of files that are listed. `specs` says what
+//! places entries keep.
+#![tactic(auto, using(ledger::proofs::Resting::rests_then))]
+
+mod advancing;
+mod entries;
+mod fault;
+mod fields;
+mod laws;
+mod loading;
+mod place;
+mod places;
+mod spans;
+
+pub use fault::LoadFault;
+pub use laws::places_are_kept_places;
+pub use loading::Positions;
+pub use place::Place;
+pub use spans::{SpanFault, Spans};

@@ -1,0 +1,17 @@
+// Where a log was left.
+use line_input::Standing;
+use lp_outside::Name;
+
+/// Where a log was left, and how it stands there.
+#[derive(Drop)]
+pub struct Place {
+    pub to: u64,
+    pub standing: Standing,
+}
+
+/// A log, and where it was left.
+#[derive(Drop)]
+pub(crate) struct Left {
+    pub identity: Name,
+    pub place: Place,
+}
