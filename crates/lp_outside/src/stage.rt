@@ -73,7 +73,8 @@ pub trait Stage {
         requires { mark.old.length % 4096 ≡ 0 }
         ensures goes { goes self.old self.new }
         ensures gained { OnOk result (Gained output name.now base mark.old mark.new bytes.now (state self.old) (state self.new)) }
-        // After a refusal a stream has written the front of the bytes.
+        // After a refusal the mark is where it was, and a stream has written the front of the bytes.
+        ensures err { OnErr result (mark.new ≡ mark.old) }
         ensures front { OnErr result (GainsSome (state self.old).written (state self.new).written bytes.now) }
         ensures taken { OnErr result (Told (state self.old).taken (λ before. IsSomeAnd (state self.new).taken (λ now. before ≤ now))) }
         ensures others { SparesOthers output name.now (state self.old) (state self.new) }
