@@ -1,13 +1,14 @@
 -- Texts that are read whole.
-use Rattle.std.proofs.Common.{◌≡◌, ◌⊎◌, ⊎_elim, ℕ, ◌+◌, ◌<◌, ◌≤◌, List, [], ◌++◌, length, take, drop, refl, sym, ◌∙◌, ap, subst, append_assoc, arith}
-use Rattle.std.proofs.lemmas.List.{length-append, append-nil, length-take-le}
+use Rattle.std.proofs.Common.{◌≡◌, ◌⊎◌, ⊎_elim, ℕ, ◌+◌, ◌-◌, ◌<◌, ◌≤◌, List, [], ◌++◌, length, take, drop, refl, sym, ◌∙◌, ap, subst, append_assoc, arith}
+use Rattle.std.proofs.lemmas.List.{length-append, append-nil, length-take, length-take-le, take-take, drop-drop}
+use Rattle.std.proofs.Math.Seq.{take-add}
 use Rattle.disk_model.specs.Disk.{DiskState}
 use Rattle.ledger.specs.declared.refused.LedgerRefused.{LedgerRefused}
 use Rattle.ledger.specs.declared.refused.LedgerRefused.TheVariants.{DiskFault, LedgerFault}
 use Rattle.ledger.specs.declared.refused.TextRefused.{TextRefused}
 use Rattle.ledger.specs.declared.refused.TextRefused.TheVariants as Text
 use Rattle.ledger.specs.declared.refused.Part2.TheVariants.{Ledger}
-use Rattle.ledger.specs.Reader.{Position, CanRead, Stood, IsRead, IsBroken, RefusedAt, left_of, any_word}
+use Rattle.ledger.specs.Reader.{Position, CanRead, Stood, IsRead, SomeRead, IsBroken, RefusedAt, left_of, any_word}
 use Rattle.ledger.specs.Texts.{any_text, Added, AddedSome, text_refused, TextRefusedAt, IsNoFault}
 use Rattle.ledger.proofs.Moving.{skipped, stood_then}
 use Rattle.ledger.proofs.Composing.{text_unsized, text_refused as unread, text_read}
@@ -58,7 +59,25 @@ text_whole file to from mid at n old new read none added =
     let same : new ≡ added.bytes = added.new_is ∙ ap (λ (t : List ℕ). t ++ added.bytes) none in
     subst (λ (t : List ℕ). IsRead any_text file to from at t) (sym same) (text_read _ file to from mid at n added.bytes read added.stood added.size_is tt)
 
-pub text_unfaulted : (file : List ℕ) (to from : ℕ) (refused : TextRefused) → IsNoFault refused → TextRefusedAt any_text file to from refused
-text_unfaulted file to from Text.DiskFault clean = tt
-text_unfaulted file to from (Text.LedgerFault part at) clean = absurd clean
-text_unfaulted file to from Text.Memory clean = tt
+-- or all of them are
+pub text_stands : (file : List ℕ) (to from mid n : ℕ) → IsRead any_word file to from mid n → n ≤ length (left_of file to mid) → (at : ℕ) × SomeRead any_text file to from at
+text_stands file to from mid n read le =
+    let b : List ℕ = drop mid file in
+    let size : length (take n (left_of file to mid)) ≡ n = length-take-le n (left_of file to mid) le in
+    let within : n ≤ to - mid = omega (arith, le, length-take (to - mid) b) in
+    let room : to - mid ≡ n + (to - (mid + n)) = omega (arith, within) in
+    let front : take n (left_of file to mid) ≡ take n b = take-take n (to - mid) b within in
+    let behind : take (to - (mid + n)) (drop n b) ≡ left_of file to (mid + n) = ap (take (to - (mid + n))) (drop-drop n mid file) in (
+      mid + n,
+      record {
+        value = take n (left_of file to mid);
+        read = text_read _ file to from mid (mid + n) n (take n (left_of file to mid)) read
+            (record { split = ap (λ (m : ℕ). take m b) room ∙ take-add n (to - (mid + n)) b ∙ ap (λ (t : List ℕ). t ++ take (to - (mid + n)) (drop n b)) (sym front) ∙ ap (λ (t : List ℕ). take n (left_of file to mid) ++ t) behind; moved = omega (arith, size) }) size tt;
+      },
+    )
+
+-- a call that refuses no bytes, of a text that stands there whole
+pub text_unfaulted : (file : List ℕ) (to from mid n : ℕ) (refused : TextRefused) → IsRead any_word file to from mid n → n ≤ length (left_of file to mid) → IsNoFault refused → TextRefusedAt any_text file to from refused
+text_unfaulted file to from mid n Text.DiskFault read le clean = tt
+text_unfaulted file to from mid n (Text.LedgerFault part at) read le clean = absurd clean
+text_unfaulted file to from mid n Text.Memory read le clean = text_stands file to from mid n read le

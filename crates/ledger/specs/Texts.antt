@@ -9,7 +9,7 @@ use Rattle.ledger.specs.declared.refused.LedgerRefused.TheVariants.{DiskFault, L
 use Rattle.ledger.specs.declared.refused.TextRefused.{TextRefused}
 use Rattle.ledger.specs.declared.refused.TextRefused.TheVariants as Text
 use Rattle.ledger.specs.declared.refused.Part2.TheVariants.{Ledger}
-use Rattle.ledger.specs.Reader.{Stood, IsRead, IsBroken, left_of}
+use Rattle.ledger.specs.Reader.{Stood, IsRead, SomeRead, IsBroken, left_of}
 
 -- any bytes behind their length
 abbrev pub any_text : Layout (List ℕ)
@@ -32,11 +32,11 @@ abbrev pub text_refused : LedgerRefused → TextRefused
 text_refused DiskFault = Text.DiskFault
 text_refused (LedgerFault part at) = Text.LedgerFault part at
 
--- a refusal for the bytes is one of the ledger, at the first field that doesn't fit
+-- a refusal for the bytes is one of the ledger, at the first field that doesn't fit; where memory is wanted a value stands there whole
 abbrev pub TextRefusedAt : {A : Type 0} → Layout A → List ℕ → ℕ → ℕ → TextRefused → Type 0
 TextRefusedAt layout file to from Text.DiskFault = ⊤
 TextRefusedAt layout file to from (Text.LedgerFault part at) = (part ≡ Ledger) × IsBroken layout file to from at
-TextRefusedAt layout file to from Text.Memory = ⊤
+TextRefusedAt layout file to from Text.Memory = (at : ℕ) × SomeRead layout file to from at
 
 -- a text is read, or the bytes are refused, or memory is wanted
 abbrev pub ReadsText : List ℕ → ℕ → ℕ → ℕ → Result (List ℕ) TextRefused → Type 0

@@ -142,6 +142,28 @@ impl EntryReader {
         Ok(())
     }
 
+    /// Tells whether so many bytes are left, and takes none: at most one byte more is read, and none that was read ahead.
+    pub(crate) fn has<D: Disk>(
+        &self,
+        disk: &mut D,
+        ledger: &Name,
+        count: u64,
+    ) -> Result<bool, DiskFailed>
+        ensures tells { IfOk result (λ has. (file : List ℕ) (to : ℕ) → CanRead (D.state disk.old) ledger.now file to self.now → MatchBool has (count ≤ length (left_of file to self.now.at)) (length (left_of file to self.now.at) < count)) }
+        ensures rests { Rests (D.state disk.old) (D.state disk.new) }
+        ensures cause { HasCause (D.faults disk.old) (D.faults disk.new) result }
+    {
+        if count <= (self.end - self.start) as u64 {
+            return Ok(true);
+        }
+        if count > self.to.saturating_sub(self.at) {
+            return Ok(false);
+        }
+        let mut last = [0; 1];
+        let found = disk.read_at(ledger, self.at + (count - 1), &mut last)?;
+        Ok(found > 0)
+    }
+
     pub(crate) fn rewind(&mut self, place: u64)
         ensures at { self.new.at ≡ place }
         ensures to { self.new.to ≡ self.old.to }

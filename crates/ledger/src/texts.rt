@@ -19,6 +19,16 @@ fn refused_text(refused: LedgerRefused) -> TextRefused
     }
 }
 
+/// The refusal of a text that isn't there whole.
+fn cut_text(place: u64) -> TextRefused
+    ensures { result ≡ TextRefused.LedgerFault Part2.Ledger place }
+{
+    TextRefused::LedgerFault {
+        part: Part2::Ledger,
+        at: place,
+    }
+}
+
 /// Adds some of the bytes left, at most so many, to others.
 fn add_some<D: Disk>(
     disk: &mut D,
@@ -95,19 +105,24 @@ fn find_text<D: Disk>(
         Ok(size) => size,
         Err(refused) => return Err(refused_text(refused)),
     };
+    // The ledger is looked at before memory is asked for: want of it is no answer to a text that isn't there.
+    match reader.has(disk, ledger, u64::from(size)) {
+        Ok(true) => {}
+        Ok(false) => return Err(cut_text(place)),
+        Err(_) => return Err(TextRefused::DiskFault),
+    }
     let mut text = Bytes::new(alloc);
     match add_bytes(disk, ledger, reader, u64::from(size), &mut text) {
         Ok(true) => Ok(text),
-        Ok(false) => Err(TextRefused::LedgerFault {
-            part: Part2::Ledger,
-            at: place,
-        }),
+        // Only a disk that changed since has fewer.
+        Ok(false) => Err(cut_text(place)),
         Err(refused) => Err(refused),
     }
 }
 
 impl EntryReader {
-    /// Takes a text. Where none stands there the ledger is damaged at the text's length; after any `Err` none is taken.
+    /// Takes a text. Where none stands there the ledger is damaged at the text's length, which is told before memory is asked
+    /// for: at want of memory the text stands there whole. After any `Err` none is taken.
     pub fn take_text<D: Disk>(
         &mut self,
         alloc: Global,
