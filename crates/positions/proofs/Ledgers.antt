@@ -68,7 +68,7 @@ pub refused_walk : (file : List ℕ) (refused : LedgerRefused) → RefusedLedger
 refused_walk file Refused.DiskFault is = tt
 refused_walk file (Refused.LedgerFault part at) is = is
 
-pub refused_taking : (file : List ℕ) (fault : LoadFault) → IsNoFault fault → RefusedLoad file fault
-refused_taking file DiskFault is = tt
-refused_taking file (LedgerFault part at) is = absurd is
-refused_taking file Memory is = tt
+pub refused_taking : (file : List ℕ) (pairs : List Pair) (fault : LoadFault) → IsLedger file pairs → IsNoFault fault → RefusedLoad file fault
+refused_taking file pairs DiskFault fits is = tt
+refused_taking file pairs (LedgerFault part at) fits is = absurd is
+refused_taking file pairs Memory fits is = (pairs, fits)

@@ -1,5 +1,5 @@
 -- Faults of a load.
-use Rattle.std.specs.Prelude.{ℕ, ◌≤◌, Result, IfErr}
+use Rattle.std.specs.Prelude.{◌≡◌, ℕ, ◌≤◌, Result, IfErr, OnOk}
 use Rattle.std.specs.Bool.{⊤}
 use Rattle.lp_model.specs.Outside.{Rose}
 use Rattle.ledger.specs.declared.refused.LedgerRefused.{LedgerRefused}
@@ -30,7 +30,8 @@ LoadRoseFor before now DiskFault = Rose before now
 LoadRoseFor before now (LedgerFault part at) = ⊤
 LoadRoseFor before now Memory = ⊤
 
--- a count of faults never falls, and a call is refused for the disk only where it rose
+-- a count of faults never falls, stays where the call is done, and a call is refused for the disk only where it rose
 pub record HasLoadReason {T : Type 0} (before now : ℕ) (result : Result T LoadFault) : Type 0 where
   pub later : before ≤ now
+  pub same : OnOk result (now ≡ before)
   pub failed : IfErr result (LoadRoseFor before now)

@@ -23,8 +23,8 @@ pub record KeepsLedger (file : List ℕ) (kept : Kept) : Type 0 where
   pub is : IsLedger file pairs
   pub keeps : Keeps (entries_of pairs) kept
 
--- why it isn't loaded: a damage is that of the ledger, at the place where it breaks
+-- why it isn't loaded: a damage is that of the ledger, at the place where it breaks, and where memory is wanted the ledger fits
 abbrev pub RefusedLoad : List ℕ → LoadFault → Type 0
 RefusedLoad file DiskFault = ⊤
 RefusedLoad file (LedgerFault part at) = (part ≡ Ledger) × BreaksLedger file at
-RefusedLoad file Memory = ⊤
+RefusedLoad file Memory = (pairs : List Pair) × IsLedger file pairs

@@ -85,7 +85,8 @@ fn take_pairs<D: Disk>(
 }
 
 impl Positions {
-    /// The kept places of a ledger. Its entries are read once more behind the walk that tells whether it is whole.
+    /// The kept places of a ledger. Its entries are read once more behind the walk that tells whether it is whole; memory is
+    /// asked for behind that walk, so want of it is told only of a ledger that fits.
     pub fn load<D: Disk>(alloc: Global, disk: &mut D, ledger: &Name) -> Result<Positions, LoadFault>
         ensures loads { (file : List ℕ) → Holds (D.state disk.old) ledger.now file → MatchResult result (KeepsLedger file) (RefusedLoad file) }
         ensures rests { Rests (D.state disk.old) (D.state disk.new) }

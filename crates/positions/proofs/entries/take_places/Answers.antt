@@ -1,4 +1,4 @@
-use Rattle.std.proofs.Common.{[], ◌∷◌, ◌++◌, refl, arith, flat_map}
+use Rattle.std.proofs.Common.{[], ◌∷◌, ◌++◌, refl, ◌∙◌, arith, flat_map}
 use Rattle.ledger_model.specs.Grammar.{span_layout}
 use Rattle.ledger.proofs.Resting.{rests_then}
 use Rattle.ledger.proofs.Composing.{handed}
@@ -10,6 +10,7 @@ pub loop-index-preserved : goal.loop-index-preserved
 loop-index-preserved g c = let inv = c.loop-index.invariant in record {
   rests = rests_then _ _ _ inv.rests c.take_place.ensures.rests;
   later = omega (arith, inv.later, c.take_place.ensures.reason.later);
+  same = c.in_ok-take_place.ensures.reason.same ∙ inv.same;
   left = λ to all more first.
       let n = next_span (g.D.Disk.state c.loop-index.disk) c.args.ledger.now to c.loop-index.reader _ more all c.loop-index.places.entries (inv.left to all more first) (omega arith) in
       let k = c.in_ok-take_place.ensures.takes to n.past n.span (flat_map span_layout.spell n.rest ++ more) n.fits n.remembers n.stands in

@@ -1,4 +1,4 @@
-use Rattle.std.proofs.Common.{List, [], ◌∷◌, ◌++◌, refl, arith, subst, flat_map}
+use Rattle.std.proofs.Common.{List, [], ◌∷◌, ◌++◌, refl, ◌∙◌, arith, subst, flat_map}
 use Rattle.ledger_model.specs.Entries.{Entry}
 use Rattle.ledger_model.specs.Ledgers.{spelled_pair}
 use Rattle.ledger.proofs.Resting.{rests_then, rests_holds}
@@ -13,6 +13,7 @@ pub loop-index-preserved : goal.loop-index-preserved
 loop-index-preserved g c = let inv = c.loop-index.invariant in record {
   rests = rests_then _ _ _ inv.rests c.take_pair.ensures.rests;
   later = omega (arith, inv.later, c.take_pair.ensures.reason.later);
+  same = c.in_ok-place.ensures.reason.same ∙ inv.same;
   left = λ file pairs holds first.
       let kept = kept_of c.loop-index.input c.loop-index.places.entries in
       let n = next_pair file c.args.to c.loop-index.place _ pairs kept (inv.left file pairs holds first) (omega arith) in

@@ -11,7 +11,7 @@ returns-in_err-take_pairs-clause-loads g c = λ file holds.
     let end = c.in_ok-end.ensures.walks file holds in
     let there = rests_holds (g.D.Disk.state c.args.disk.now) (g.D.Disk.state c.walk.new.disk) c.args.ledger.now file c.walk.ensures.rests holds in
     handed c.from_residual-in_err-take_pairs.result c.in_err-take_pairs.field-0.0 _ (RefusedLoad file) c.from_residual-in_err-take_pairs.ensures.1
-    (refused_taking file c.in_err-take_pairs.field-0.0 (c.in_err-take_pairs.ensures.takes file end.pairs there (ledger_fits file end.pairs end.is) (sym end.entries) (keeps_none None c.new-places.result.entries refl c.new-places.ensures.empty) (ledger_left file end.pairs c.in_ok-end.end.pair end.is end.pair)))
+    (refused_taking file end.pairs c.in_err-take_pairs.field-0.0 end.is (c.in_err-take_pairs.ensures.takes file end.pairs there (ledger_fits file end.pairs end.is) (sym end.entries) (keeps_none None c.new-places.result.entries refl c.new-places.ensures.empty) (ledger_left file end.pairs c.in_ok-end.end.pair end.is end.pair)))
 
 pub returns-clause-loads : goal.returns-clause-loads
 returns-clause-loads g c = λ file holds.
