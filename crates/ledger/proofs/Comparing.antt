@@ -10,17 +10,18 @@ use Rattle.std.specs.Str.{bytes_eq}
 use Rattle.std.proofs.lemmas.List.{length-append, append-nil, map-append, drop_more, drop_all}
 use Rattle.std.proofs.lemmas.Slice.Eq.{bytes_eq-Decides}
 use Rattle.std.proofs.lemmas.Bool.Decides.{not_from_Decides}
+use Rattle.lp_outside.specs.declared.stage.Mark.{Mark}
 use Rattle.ledger_model.specs.Layouts.{Layout, AllFit, spelled}
-use Rattle.ledger_model.specs.Numbers.{u64_bytes, text_bytes}
+use Rattle.ledger_model.specs.Numbers.{number, u64_bytes, text_bytes}
 use Rattle.ledger_model.specs.Entries.{Output}
 use Rattle.ledger_model.specs.Grammar.{IsName, IsNew, name_field, output_layout}
-use Rattle.ledger_model.proofs.Fields.{text_law}
-use Rattle.ledger_model.proofs.Laws.{IsLawful}
+use Rattle.ledger_model.proofs.Fields.{text_law, number_law, u64_one}
+use Rattle.ledger_model.proofs.Laws.{IsLawful, lawful_field, lawful_behind}
 use Rattle.ledger.specs.declared.refused.LedgerRefused.{LedgerRefused}
 use Rattle.ledger.specs.declared.refused.LedgerRefused.TheVariants.{DiskFault, LedgerFault}
 use Rattle.ledger.specs.Reader.{RefusedAt, Reads, IsRead, left_of}
 use Rattle.ledger.specs.Counted.{SomeItems}
-use Rattle.ledger.specs.Placing.{IsOfDisk, hash_on, name_hash, HasHashes, HashedItems, ComparesSeen}
+use Rattle.ledger.specs.Placing.{IsOfDisk, place_layout, place_at, TakesPlace, hash_on, name_hash, HasHashes, HashedItems, ComparesSeen}
 use Rattle.ledger.proofs.Counting.{items_more}
 
 -- a value that stands in front is the one that is read
@@ -28,6 +29,15 @@ pub gives_front : {A : Type 0} (layout : Layout A) → IsLawful layout → (file
 gives_front layout law file to a b value more e fits (Ok u) read = law.one u value (left_of file to b) more read.fits fits (sym read.stood.split ∙ e)
 gives_front layout law file to a b value more e fits (Err DiskFault) broken = tt
 gives_front layout law file to a b value more e fits (Err (LedgerFault part at)) broken = law.apart value more broken.1.later fits (subst (λ (t : List ℕ). layout.Breaks t broken.1.later) e broken.1.breaks)
+
+pub place_law : IsLawful place_layout
+place_law = lawful_behind number _ number_law (λ base b. lawful_behind _ _ (lawful_field _ u64_bytes (λ a b r s f g e. u64_one a b r s f.0 g.0 e)) (λ size s. number_law))
+
+-- and so where an output's text stands
+pub place_front : (file : List ℕ) (to a b : ℕ) (value : ℕ × (ℕ × ℕ)) (more : List ℕ) → left_of file to a ≡ place_layout.spell value ++ more → place_layout.Fits value → (r : Result (ℕ × Mark) LedgerRefused) → TakesPlace file to a b r
+    → MatchResult r (λ place. (place_at place.0 place.1 ≡ value) × (left_of file to b ≡ more)) IsOfDisk
+place_front file to a b value more e fits (Ok place) read = gives_front place_layout place_law file to a b value more e fits (Ok (place_at place.0 place.1)) read
+place_front file to a b value more e fits (Err refused) broken = gives_front place_layout place_law file to a b value more e fits (Err refused) broken
 
 -- so many of the outputs were read, none of this name
 pub record Past (file : List ℕ) (to end : ℕ) (items : List Output) (count : ℕ) (name : List ℕ) (a : ℕ) : Type 0 where
@@ -47,10 +57,8 @@ pub record Ahead (file : List ℕ) (to end : ℕ) (items : List Output) (count :
   pub output : Output
   pub more : List ℕ
   pub name_fits : (length output.name < 2 ^ 32) × IsName output.name
-  pub base_fits : output.base < 2 ^ 64
-  pub size_fits : output.size < 2 ^ 64
-  pub last_fits : output.last < 2 ^ 64
-  pub front : left_of file to a ≡ text_bytes output.name ++ (u64_bytes output.base ++ (u64_bytes output.size ++ (u64_bytes output.last ++ more)))
+  pub place_fits : place_layout.Fits (output.base, (output.size, output.last))
+  pub front : left_of file to a ≡ text_bytes output.name ++ (place_layout.spell (output.base, (output.size, output.last)) ++ more)
   pub goes : (e : ℕ) → left_of file to e ≡ more → output.name ≢ name → Past file to end items (count + 1) name e
   pub clash : output.name ≡ name → IsNew items name → ⊥
 
@@ -62,11 +70,8 @@ new_middle : (past rest : List Output) (x : Output) (name : List ℕ) → x.name
 new_middle [] rest x name same new = new.0 same
 new_middle (y ∷ past) rest x name same new = new_middle past rest x name same new.1
 
-nested_front : (a b c d e : List ℕ) → (a ++ (b ++ (c ++ d))) ++ e ≡ a ++ (b ++ (c ++ (d ++ e)))
-nested_front a b c d e = simp append_assoc
-
-nested : (a b c d e f : List ℕ) → ((a ++ (b ++ (c ++ d))) ++ e) ++ f ≡ a ++ (b ++ (c ++ (d ++ (e ++ f))))
-nested a b c d e f = simp append_assoc
+nested : (a b c d : List ℕ) → ((a ++ b) ++ c) ++ d ≡ a ++ (b ++ (c ++ d))
+nested a b c d = append_assoc (a ++ b) c d ∙ append_assoc a b (c ++ d)
 
 past_split : (file : List ℕ) (to end : ℕ) (items past : List Output) (count : ℕ) (name : List ℕ) (a : ℕ) (next : List Output) → items ≡ past ++ next → length past ≡ count → count < length items → AllFit output_layout past next → left_of file to a ≡ spelled output_layout past next ++ left_of file to end → IsNew past name → Ahead file to end items count name a
 past_split file to end items past count name a [] parts is fewer fit stands new = absurd (omega (arith, ap length parts, length-append past [], is, fewer))
@@ -74,10 +79,8 @@ past_split file to end items past count name a (x ∷ rest) parts is fewer fit s
   output = x;
   more = spelled output_layout (past ++ x ∷ []) rest ++ left_of file to end;
   name_fits = (fit.0.0.0, fit.0.0.1.0);
-  base_fits = fit.0.1.0;
-  size_fits = fit.0.1.1.0.0;
-  last_fits = fit.0.1.1.1;
-  front = stands ∙ nested (text_bytes x.name) (u64_bytes x.base) (u64_bytes x.size) (u64_bytes x.last) (spelled output_layout (past ++ x ∷ []) rest) (left_of file to end);
+  place_fits = fit.0.1;
+  front = stands ∙ nested (text_bytes x.name) (place_layout.spell (x.base, (x.size, x.last))) (spelled output_layout (past ++ x ∷ []) rest) (left_of file to end);
   goes = λ e here differs. record {
     past = past ++ x ∷ [];
     next = rest;
@@ -118,8 +121,8 @@ compares_at file to other first count seen name r same c = subst (λ (n : ℕ). 
 -- the name that was read is that of the output that stands there
 pub front_name : (file : List ℕ) (to from mid at : ℕ) (before : List Output) (output : Output) (name : List ℕ) → IsRead name_field file to from mid name → IsRead (output_layout before) file to from at output → name ≡ output.name
 front_name file to from mid at before output name read whole =
-    (gives_front name_field (text_law IsName) file to from mid output.name (u64_bytes output.base ++ (u64_bytes output.size ++ (u64_bytes output.last ++ left_of file to at)))
-    (whole.stood.split ∙ nested_front (text_bytes output.name) (u64_bytes output.base) (u64_bytes output.size) (u64_bytes output.last) (left_of file to at)) (whole.fits.0.0, whole.fits.0.1.0) (Ok name) read).0
+    (gives_front name_field (text_law IsName) file to from mid output.name (place_layout.spell (output.base, (output.size, output.last)) ++ left_of file to at)
+    (whole.stood.split ∙ append_assoc (text_bytes output.name) (place_layout.spell (output.base, (output.size, output.last))) (left_of file to at)) (whole.fits.0.0, whole.fits.0.1.0) (Ok name) read).0
 
 -- a name whose hash no output's name has is new
 pub new_by_hash : (outputs : List Output) (seen name : List ℕ) → seen ≡ map (λ (o : Output). name_hash o.name) outputs → list_any (λ h. h == name_hash name) seen ≡ false → IsNew outputs name

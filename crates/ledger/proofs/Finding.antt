@@ -12,8 +12,11 @@ use Rattle.ledger_model.specs.Grammar.{IsEntry, payload_of, IsMoment, texts_layo
 use Rattle.ledger_model.proofs.Laws.{IsLawful, lawful_field, lawful_behind, same_fronts}
 use Rattle.ledger_model.proofs.Fields.{u32_one, number_law, text_law, signed_law, texts_law, kept_parts_law}
 use Rattle.disk_model.specs.Disk.{DiskState}
-use Rattle.ledger.specs.Reader.{Position, CanRead, IsRead, SomeRead, RefusedAt, left_of, any_byte, any_word}
+use Rattle.ledger.specs.Reader.{Position, Holds, CanRead, IsRead, SomeRead, RefusedAt, left_of, any_byte, any_word}
 use Rattle.ledger.specs.Counted.{any_signed}
+use Rattle.ledger.specs.Placing.{place_layout, place_at}
+use Rattle.ledger.proofs.Comparing.{place_law}
+use Rattle.lp_outside.specs.declared.stage.Mark.{Mark}
 use Rattle.ledger.specs.Outputs.{loose_head, loose_front, HoldsEntry, Cursor, StandsBefore}
 use Rattle.ledger.specs.declared.refused.LedgerRefused.{LedgerRefused}
 use Rattle.ledger.specs.declared.refused.LedgerRefused.TheVariants.{LedgerFault}
@@ -76,6 +79,15 @@ can_start disk ledger from to position tells at end ahead = record {
   within = omega (arith, ap length ahead);
 }
 
+-- of a file that is known
+pub can_at : (disk : DiskState) (ledger file : List ℕ) (to : ℕ) (position : Position) → Holds disk ledger file → position.to ≡ to → position.ahead ≡ [] → CanRead disk ledger file to position
+can_at disk ledger file to position holds end ahead = record {
+  holds = holds;
+  end = end;
+  ahead = ahead ∙ sym (ap (λ (l : List ℕ). take (length l) (drop position.at file)) ahead);
+  within = omega (arith, ap length ahead);
+}
+
 -- the output at a place of the list
 pub record AtOutput (outputs : List Output) (k : ℕ) : Type 0 where
   pub output : Output
@@ -105,23 +117,19 @@ fit_at before (x ∷ xs) (suc k) o fit at = subst (λ (b : List Output). (output
 pub output_fits : (entry : Entry) (k : ℕ) (o : Output) → IsEntry entry → slice_get entry.outputs k ≡ Some o → (output_layout (take k entry.outputs)).Fits o
 output_fits entry k o is at = fit_at [] entry.outputs k o is.fits.1.1.1.1.0.1 at
 
--- the bytes of an output, field by field
+-- the bytes of an output: its name, and where its text stands
 pub output_stands : (outputs : List Output) (k : ℕ) (is : AtOutput outputs k) (more bytes : List ℕ) → bytes ≡ spelled output_layout (take k outputs) (drop k outputs) ++ more
-    → bytes ≡ text_bytes is.output.name ++ (u64_bytes is.output.base ++ (u64_bytes is.output.size ++ (u64_bytes is.output.last ++ (spelled output_layout (take (k + 1) outputs) (drop (k + 1) outputs) ++ more))))
+    → bytes ≡ text_bytes is.output.name ++ (place_layout.spell (is.output.base, (is.output.size, is.output.last)) ++ (spelled output_layout (take (k + 1) outputs) (drop (k + 1) outputs) ++ more))
 output_stands outputs k is more bytes stands =
     let o = is.output in
     let later = spelled output_layout (take (k + 1) outputs) (drop (k + 1) outputs) in
     let name = text_bytes o.name in
-    let base = u64_bytes o.base in
-    let size = u64_bytes o.size in
-    let last = u64_bytes o.last in
+    let place = place_layout.spell (o.base, (o.size, o.last)) in
     stands
     ∙ ap (λ (l : List Output). spelled output_layout (take k outputs) l ++ more) is.split
-    ∙ ap (λ (b : List Output). ((name ++ (base ++ (size ++ last))) ++ spelled output_layout b (drop (k + 1) outputs)) ++ more) (sym is.front)
-    ∙ append_assoc (name ++ (base ++ (size ++ last))) later more
-    ∙ append_assoc name (base ++ (size ++ last)) (later ++ more)
-    ∙ ap (λ (l : List ℕ). name ++ l) (append_assoc base (size ++ last) (later ++ more))
-    ∙ ap (λ (l : List ℕ). name ++ (base ++ l)) (append_assoc size last (later ++ more))
+    ∙ ap (λ (b : List Output). ((name ++ place) ++ spelled output_layout b (drop (k + 1) outputs)) ++ more) (sym is.front)
+    ∙ append_assoc (name ++ place) later more
+    ∙ append_assoc name place (later ++ more)
 
 abbrev refused_of : {T E : Type 0} → E → Result T E → E
 refused_of d (Ok x) = d
@@ -196,49 +204,25 @@ module _ (disk : DiskState) (ledger : List ℕ) (entry : Entry) (k : ℕ) (curso
   pub can_take : CanRead disk ledger b.file b.to position
   can_take = subst (CanRead disk ledger b.file b.to) (sym same) b.can
 
-  name_stands : left_of b.file b.to position.at ≡ text_bytes it.output.name ++ (u64_bytes it.output.base ++ (u64_bytes it.output.size ++ (u64_bytes it.output.last ++ (spelled output_layout (take (k + 1) entry.outputs) (drop (k + 1) entry.outputs) ++ b.more))))
+  name_stands : left_of b.file b.to position.at ≡ text_bytes it.output.name ++ (place_layout.spell (it.output.base, (it.output.size, it.output.last)) ++ (spelled output_layout (take (k + 1) entry.outputs) (drop (k + 1) entry.outputs) ++ b.more))
   name_stands = output_stands entry.outputs k it b.more (left_of b.file b.to position.at) (ap (λ (p : Position). left_of b.file b.to p.at) same ∙ b.left)
 
-  -- name, base, length and last, one after another
+  -- the name, and then the place
   pub name_taken : (place : ℕ) (name : List ℕ) → IsRead name_field b.file b.to position.at place name
-      → (name ≡ it.output.name) × (left_of b.file b.to place ≡ u64_bytes it.output.base ++ (u64_bytes it.output.size ++ (u64_bytes it.output.last ++ (spelled output_layout (take (k + 1) entry.outputs) (drop (k + 1) entry.outputs) ++ b.more))))
+      → (name ≡ it.output.name) × (left_of b.file b.to place ≡ place_layout.spell (it.output.base, (it.output.size, it.output.last)) ++ (spelled output_layout (take (k + 1) entry.outputs) (drop (k + 1) entry.outputs) ++ b.more))
   name_taken place name read = read_it name_field (text_law _) b.file b.to position.at place name it.output.name _ (fits.0.0, fits.0.1.0) name_stands read
-
-  pub base_taken : (place next : ℕ) (name : List ℕ) (base : ℕ) → IsRead name_field b.file b.to position.at place name → IsRead number b.file b.to place next base
-      → (base ≡ it.output.base) × (left_of b.file b.to next ≡ u64_bytes it.output.size ++ (u64_bytes it.output.last ++ (spelled output_layout (take (k + 1) entry.outputs) (drop (k + 1) entry.outputs) ++ b.more)))
-  base_taken place next name base one two = read_it number number_law b.file b.to place next base it.output.base _ fits.1.0 (name_taken place name one).1 two
-
-  pub size_taken : (place next third : ℕ) (name : List ℕ) (base size : ℕ) → IsRead name_field b.file b.to position.at place name → IsRead number b.file b.to place next base → IsRead number b.file b.to next third size
-      → (size ≡ it.output.size) × (left_of b.file b.to third ≡ u64_bytes it.output.last ++ (spelled output_layout (take (k + 1) entry.outputs) (drop (k + 1) entry.outputs) ++ b.more))
-  size_taken place next third name base size one two three = read_it number number_law b.file b.to next third size it.output.size _ fits.1.1.0.0 (base_taken place next name base one two).1 three
-
-  pub last_taken : (place next third fourth : ℕ) (name : List ℕ) (base size last : ℕ) → IsRead name_field b.file b.to position.at place name → IsRead number b.file b.to place next base → IsRead number b.file b.to next third size → IsRead number b.file b.to third fourth last
-      → (last ≡ it.output.last) × (left_of b.file b.to fourth ≡ spelled output_layout (take (k + 1) entry.outputs) (drop (k + 1) entry.outputs) ++ b.more)
-  last_taken place next third fourth name base size last one two three four = read_it number number_law b.file b.to third fourth last it.output.last _ fits.1.1.1 (size_taken place next third name base size one two three).1 four
 
   pub no_name : (T : Type 0) (refused : LedgerRefused) (part : Part2) (p : ℕ) → IsErrOf {T = T} {E = LedgerRefused} (Err refused) (LedgerFault part p) → RefusedAt name_field b.file b.to position.at refused → ⊥
   no_name T refused part p is = stops {T = T} name_field (text_law _) b.file b.to position.at it.output.name _ (fits.0.0, fits.0.1.0) name_stands refused part p is
 
-  pub no_base : (T : Type 0) (place : ℕ) (name : List ℕ) → IsRead name_field b.file b.to position.at place name → (refused : LedgerRefused) (part : Part2) (p : ℕ) → IsErrOf {T = T} {E = LedgerRefused} (Err refused) (LedgerFault part p) → RefusedAt number b.file b.to place refused → ⊥
-  no_base T place name one refused part p is = stops {T = T} number number_law b.file b.to place it.output.base _ fits.1.0 (name_taken place name one).1 refused part p is
+  pub no_place : (T : Type 0) (place : ℕ) (name : List ℕ) → IsRead name_field b.file b.to position.at place name → (refused : LedgerRefused) (part : Part2) (p : ℕ) → IsErrOf {T = T} {E = LedgerRefused} (Err refused) (LedgerFault part p) → RefusedAt place_layout b.file b.to place refused → ⊥
+  no_place T place name read refused part p is = stops {T = T} place_layout place_law b.file b.to place (it.output.base, (it.output.size, it.output.last)) _ fits.1 (name_taken place name read).1 refused part p is
 
-  pub no_size : (T : Type 0) (place next : ℕ) (name : List ℕ) (base : ℕ) → IsRead name_field b.file b.to position.at place name → IsRead number b.file b.to place next base → (refused : LedgerRefused) (part : Part2) (p : ℕ) → IsErrOf {T = T} {E = LedgerRefused} (Err refused) (LedgerFault part p) → RefusedAt number b.file b.to next refused → ⊥
-  no_size T place next name base one two refused part p is = stops {T = T} number number_law b.file b.to next it.output.size _ fits.1.1.0.0 (base_taken place next name base one two).1 refused part p is
-
-  pub no_last : (T : Type 0) (place next third : ℕ) (name : List ℕ) (base size : ℕ) → IsRead name_field b.file b.to position.at place name → IsRead number b.file b.to place next base → IsRead number b.file b.to next third size → (refused : LedgerRefused) (part : Part2) (p : ℕ) → IsErrOf {T = T} {E = LedgerRefused} (Err refused) (LedgerFault part p) → RefusedAt number b.file b.to third refused → ⊥
-  no_last T place next third name base size one two three refused part p is = stops {T = T} number number_law b.file b.to third it.output.last _ fits.1.1.1 (size_taken place next third name base size one two three).1 refused part p is
-
-  pub ends_low : (place next third : ℕ) (name : List ℕ) (base size : ℕ) → IsRead name_field b.file b.to position.at place name → IsRead number b.file b.to place next base → IsRead number b.file b.to next third size → base + size < 2 ^ 63
-  ends_low place next third name base size one two three = omega (arith, fits.1.1.0.1, (base_taken place next name base one two).0, (size_taken place next third name base size one two three).0)
-
-  pub taken_all : (now : DiskState) (place next third : ℕ) (name : List ℕ) (base size last : ℕ) (after : Cursor) → IsRead name_field b.file b.to position.at place name → IsRead number b.file b.to place next base → IsRead number b.file b.to next third size
-      → IsRead number b.file b.to third after.position.at last → CanRead now ledger b.file b.to after.position
-      → (slice_get entry.outputs k ≡ Some (record { name = name; base = base; size = size; last = last })) × StandsBefore now ledger entry (k + 1) after
-  taken_all now place next third name base size last after one two three four can =
-      let names = (name_taken place name one).0 in
-      let bases = (base_taken place next name base one two).0 in
-      let sizes = (size_taken place next third name base size one two three).0 in
-      let all = last_taken place next third after.position.at name base size last one two three four in (
-        it.is ∙ (λ i. Some (record { name = sym names i; base = sym bases i; size = sym sizes i; last = sym all.0 i })),
+  pub taken_all : (now : DiskState) (place : ℕ) (name : List ℕ) (base : ℕ) (mark : Mark) (after : Cursor) → IsRead name_field b.file b.to position.at place name → IsRead place_layout b.file b.to place after.position.at (place_at base mark) → CanRead now ledger b.file b.to after.position
+      → (slice_get entry.outputs k ≡ Some (record { name = name; base = base; size = mark.length; last = mark.last })) × StandsBefore now ledger entry (k + 1) after
+  taken_all now place name base mark after read placed can =
+      let names = name_taken place name read in
+      let all = read_it place_layout place_law b.file b.to place after.position.at (place_at base mark) (it.output.base, (it.output.size, it.output.last)) _ fits.1 names.1 placed in (
+        it.is ∙ (λ i. Some (record { name = sym names.0 i; base = (sym all.0 i).0; size = (sym all.0 i).1.0; last = (sym all.0 i).1.1 })),
         record { is_entry = b.is_entry; file = b.file; to = b.to; can = can; more = b.more; left = all.1 },
       )

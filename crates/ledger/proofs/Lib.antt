@@ -16,3 +16,4 @@ pub mod Pairs
 pub mod Sizing
 pub mod Wholes
 pub mod Spelled
+pub mod Begun

@@ -1,20 +1,18 @@
 // The outputs of an entry, read one after another.
 #![tactic(auto, using(crate::proofs::Resting::rests_then))]
 
-ghost use Rattle.std.specs.Prelude.{◌≡◌, ◌<◌, ◌+◌, ◌^◌, ℕ, List, length, Some, slice_get, IfOk, IsErrOf};
+ghost use Rattle.std.specs.Prelude.{◌≡◌, ◌<◌, ◌+◌, ◌^◌, ℕ, List, length, Some, slice_get, IfOk, IsErrOf, MatchResult};
 ghost use Rattle.ledger_model.specs.Entries.{Entry};
-ghost use Rattle.ledger.specs.Reader.{Rests, Looks, HasReason};
+ghost use Rattle.ledger.specs.Reader.{Rests, Looks, HasReason, Holds, CanRead, IsRead, RefusedAt};
 ghost use Rattle.ledger.specs.Written.{output_of};
-ghost use Rattle.ledger.specs.Outputs.{loose_head, loose_front, HoldsEntry, StandsBefore};
+ghost use Rattle.ledger.specs.Outputs.{loose_head, loose_front, outputs_front, loose_output, HoldsEntry, FindsOutputs, StandsBefore, parts_of};
 
 use crate::checking::{check_kept, check_texts, text};
 use crate::passing::TextKind;
-use crate::refused::damaged;
+use crate::placing::take_place;
 use crate::{EntryReader, LedgerRefused, Output};
-use lp_outside::{Disk, Mark, Name};
+use lp_outside::{Disk, Name};
 use std::marker::Model;
-
-const LIMIT: u64 = 1 << 63;
 
 fn skip_head<D: Disk>(
     disk: &mut D,
@@ -75,6 +73,8 @@ impl OutputReader {
     ) -> Result<OutputReader, LedgerRefused>
         ensures found { IfOk result (λ o. (entry : Entry) → HoldsEntry (D.state disk.old) ledger.now from to entry
             → (o.staged ≡ entry.staged) × (o.count ≡ length entry.outputs) × StandsBefore (D.state disk.new) ledger.now entry 0 o) }
+        // Of bytes that are no entry the first field that doesn't fit is told.
+        ensures reads { (file : List ℕ) → Holds (D.state disk.old) ledger.now file → MatchResult result (FindsOutputs file to from) (RefusedAt outputs_front file to from) }
         ensures fault { (part : Part2) (p : ℕ) → IsErrOf result (LedgerFault part p) → (entry : Entry) → HoldsEntry (D.state disk.old) ledger.now from to entry → ⊥ }
         ensures rests { Rests (D.state disk.old) (D.state disk.new) }
         ensures reason { HasReason (D.faults disk.old) (D.faults disk.new) result }
@@ -118,6 +118,9 @@ impl OutputReader {
         ensures count { self.new.count ≡ self.old.count }
         ensures taken { IfOk result (λ output. (entry : Entry) (k : ℕ) → StandsBefore (D.state disk.old) ledger.now entry k self.old → k < length entry.outputs
             → (slice_get entry.outputs k ≡ Some (output_of output)) × StandsBefore (D.state disk.new) ledger.now entry (k + 1) self.new) }
+        // Of bytes that are no output the first field that doesn't fit is told.
+        ensures reads { (file : List ℕ) (to : ℕ) → CanRead (D.state disk.old) ledger.now file to self.old.position → CanRead (D.state disk.new) ledger.now file to self.new.position
+            × MatchResult result (λ output. IsRead loose_output file to self.old.position.at self.new.position.at (parts_of (output_of output))) (RefusedAt loose_output file to self.old.position.at) }
         ensures end { IfOk result (λ output. output.base + output.mark.length < 2 ^ 63) }
         ensures fault { (part : Part2) (p : ℕ) → IsErrOf result (LedgerFault part p) → (entry : Entry) (k : ℕ) → StandsBefore (D.state disk.old) ledger.now entry k self.old → k < length entry.outputs → ⊥ }
         ensures rests { Rests (D.state disk.old) (D.state disk.new) }
@@ -127,26 +130,14 @@ impl OutputReader {
             Ok(name) => name,
             Err(refused) => return Err(refused),
         };
-        let base = match self.reader.number(disk, ledger) {
-            Ok(base) => base,
+        let place = match take_place(disk, ledger, &mut self.reader) {
+            Ok(place) => place,
             Err(refused) => return Err(refused),
         };
-        let place = self.reader.place();
-        let length = match self.reader.number(disk, ledger) {
-            Ok(length) => length,
-            Err(refused) => return Err(refused),
-        };
-        let last = match self.reader.number(disk, ledger) {
-            Ok(last) => last,
-            Err(refused) => return Err(refused),
-        };
-        if base >= LIMIT || length >= LIMIT - base {
-            return Err(damaged(place));
-        }
         Ok(Output {
             name,
-            base,
-            mark: Mark { last, length },
+            base: place.0,
+            mark: place.1,
         })
     }
 }

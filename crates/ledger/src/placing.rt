@@ -4,7 +4,7 @@
 ghost use Rattle.std.specs.Prelude.{◌≡◌, ℕ, ◌+◌, ◌<◌, ◌≤◌, ◌^◌, List, length, IfOk, MatchBool};
 ghost use Rattle.ledger.specs.Reader.{Rests, Looks, HasReason, Holds, CanRead, Checks, IsRead};
 ghost use Rattle.ledger.specs.Counted.{SomeItems};
-ghost use Rattle.ledger.specs.Placing.{name_hash, HasHashes, Compares, ComparesSeen};
+ghost use Rattle.ledger.specs.Placing.{name_hash, HasHashes, Compares, ComparesSeen, TakesPlace};
 ghost use Rattle.ledger_model.specs.Grammar.{outputs_layout, output_layout, ending_layout};
 ghost use Rattle.ledger_model.specs.Entries.{Output};
 ghost use Rattle.ledger_model.specs.Layouts.{listed};
@@ -12,7 +12,7 @@ ghost use Rattle.ledger_model.specs.Layouts.{listed};
 use crate::checking::check_counts;
 use crate::refused::damaged;
 use crate::{EntryReader, LedgerRefused};
-use lp_outside::{Disk, Name};
+use lp_outside::{Disk, Mark, Name};
 
 const LIMIT: u64 = 1 << 63;
 
@@ -40,6 +40,28 @@ fn ends_high(base: u64, size: u64) -> bool
     base >= LIMIT || size >= LIMIT - base
 }
 
+/// The place where an output's text begins, and the mark behind it.
+pub(crate) fn take_place<D: Disk>(
+    disk: &mut D,
+    ledger: &Name,
+    reader: &mut EntryReader,
+) -> Result<(u64, Mark), LedgerRefused>
+    ensures takes { (file : List ℕ) (to : ℕ) → CanRead (D.state disk.old) ledger.now file to reader.old → CanRead (D.state disk.new) ledger.now file to reader.new
+        × TakesPlace file to reader.old.at reader.new.at result }
+    ensures low { IfOk result (λ place. place.0 + place.1.length < 2 ^ 63) }
+    ensures rests { Rests (D.state disk.old) (D.state disk.new) }
+    ensures reason { HasReason (D.faults disk.old) (D.faults disk.new) result }
+{
+    let base = reader.number(disk, ledger)?;
+    let place = reader.place();
+    let length = reader.number(disk, ledger)?;
+    if ends_high(base, length) {
+        return Err(damaged(place));
+    }
+    let last = reader.number(disk, ledger)?;
+    Ok((base, Mark { last, length }))
+}
+
 /// Whether a name is that of one of the outputs that stand at a place.
 fn is_taken<D: Disk>(
     disk: &mut D,
@@ -56,9 +78,7 @@ fn is_taken<D: Disk>(
     let mut reader = EntryReader::new(first, to);
     for _index in 0..count {
         let other = reader.take_name(disk, ledger)?;
-        reader.number(disk, ledger)?;
-        reader.number(disk, ledger)?;
-        reader.number(disk, ledger)?;
+        take_place(disk, ledger, &mut reader)?;
         if other.is(name) {
             return Ok(true);
         }
@@ -111,13 +131,7 @@ fn output<D: Disk>(
     if taken {
         return Err(damaged(start));
     }
-    let base = reader.number(disk, ledger)?;
-    let place = reader.place();
-    let size = reader.number(disk, ledger)?;
-    if ends_high(base, size) {
-        return Err(damaged(place));
-    }
-    reader.number(disk, ledger)?;
+    take_place(disk, ledger, reader)?;
     Ok(hash)
 }
 

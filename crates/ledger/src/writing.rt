@@ -4,7 +4,7 @@
 ghost use Rattle.std.specs.Prelude.{◌≡◌, ℕ, ◌+◌, ◌<◌, ◌≤◌, ◌^◌, List, [], ◌∷◌, ◌++◌, length, take, drop, OnOk, OnErr};
 ghost use Rattle.lp_model.specs.Outside.{HasCause};
 ghost use Rattle.disk_model.specs.Disk.{Works, Shows, At, Torn, IsSynced, overwritten};
-ghost use Rattle.disk_changes.specs.Changes.{KeepsFront, StaysShort, Anything};
+ghost use Rattle.disk_changes.specs.Changes.{KeepsFront, Anything};
 ghost use Rattle.ledger.specs.Writer.{Written, WritesBody};
 ghost use Rattle.ledger_model.specs.Numbers.{u64_bytes};
 ghost use Rattle.ledger_model.specs.Ledgers.{mark};
@@ -23,8 +23,9 @@ const FRONT: [u8; 18] = *b"LPCHECKPOINT0001\0\0";
 /// Writes the front of a new ledger, and makes it lasting.
 pub fn create<D: Disk>(disk: &mut D, ledger: &Name) -> Result<(), DiskFailed>
     ensures made { OnOk result ((D.state disk.old).tells → length ((D.state disk.old).seen ledger.now) ≤ 18 → (D.state disk.new).seen ledger.now ≡ mark ++ (0 ∷ (0 ∷ []))) }
-    ensures crash { (D.state disk.old).honest → Works (At ledger.now (StaysShort 18)) (D.state disk.old) (D.state disk.new) }
-    ensures shows { (D.state disk.old).tells → Shows (At ledger.now Anything) (D.state disk.old) (D.state disk.new) }
+    // Bytes behind the front stay, in a longer ledger too.
+    ensures crash { (D.state disk.old).honest → Works (At ledger.now (Torn 0 18)) (D.state disk.old) (D.state disk.new) }
+    ensures shows { (D.state disk.old).tells → Shows (At ledger.now (Torn 0 18)) (D.state disk.old) (D.state disk.new) }
     ensures lasting { OnOk result ((D.state disk.old).honest → IsSynced (D.state disk.new) ledger.now) }
     ensures cause { HasCause (D.faults disk.old) (D.faults disk.new) result }
 {

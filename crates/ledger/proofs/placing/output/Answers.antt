@@ -1,20 +1,20 @@
-use Rattle.std.proofs.Common.{◌<◌, ◌+◌, ◌^◌, ℕ, length, refl, ◌∙◌, ap, Ok, Err, arith}
-use Rattle.ledger.specs.Placing.{name_hash}
+use Rattle.std.proofs.Common.{◌<◌, ◌^◌, ℕ, length, refl, ◌∙◌, ap, Ok, Err}
+use Rattle.ledger.specs.Placing.{name_hash, place_layout}
 use Rattle.ledger.proofs.Composing.{handed, narrowed, misfit, refused_narrower, refused_first, refused_second, read_both, refused_here, some_read}
 use Rattle.ledger.proofs.Tagged.{checks_viewed, refused_viewed}
 use Rattle.ledger.proofs.Resting.{can_rests}
 use Rattle.ledger.proofs.Comparing.{of_disk, compares_at, front_name}
 use Rattle.ledger_model.specs.Entries.{Output}
-use Rattle.ledger_model.specs.Numbers.{number, u64_bytes, text_bytes, text_of}
-use Rattle.ledger_model.specs.Layouts.{field, behind}
+use Rattle.ledger_model.specs.Numbers.{text_bytes, text_of}
+use Rattle.ledger_model.specs.Layouts.{behind}
 use Rattle.ledger_model.specs.Grammar.{IsName, IsNew, output_layout}
-use Rattle.ledger_model.proofs.Fields.{number_law, text_law}
+use Rattle.ledger_model.proofs.Fields.{text_law}
 use Rattle.ledger.proofs.placing.output.Goals as goal
 
 pub returns-in_err-name-clause-looks : goal.returns-in_err-name-clause-looks
 returns-in_err-name-clause-looks g c = λ file to can.
     let n = c.in_err-name.ensures.gives file to can in
-    (n.0, λ some has. handed c.from_residual.result c.in_err-name.field-0.0 _ _ c.from_residual.ensures.1 (refused_viewed (λ (o : Output). (o.name, (o.base, (o.size, o.last)))) (behind (text_of (λ t. IsName t × IsNew some.items t)) (λ name. behind number (λ base. behind (field (λ size. (size < 2 ^ 64) × (base + size < 2 ^ 63)) u64_bytes) (λ size. number)))) file to c.args.reader.now.at c.in_err-name.field-0.0 (refused_first (text_of (λ t. IsName t × IsNew some.items t)) (λ name. behind number (λ base. behind (field (λ size. (size < 2 ^ 64) × (base + size < 2 ^ 63)) u64_bytes) (λ size. number))) file to _ _ (refused_narrower (λ t. (length t < 2 ^ 32) × IsName t) (λ t. (length t < 2 ^ 32) × (IsName t × IsNew some.items t)) text_bytes (λ t f. (f.0, f.1.0)) file to _ _ n.1))))
+    (n.0, λ some has. handed c.from_residual.result c.in_err-name.field-0.0 _ _ c.from_residual.ensures.1 (refused_viewed (λ (o : Output). (o.name, (o.base, (o.size, o.last)))) (behind (text_of (λ t. IsName t × IsNew some.items t)) (λ name. place_layout)) file to c.args.reader.now.at c.in_err-name.field-0.0 (refused_first (text_of (λ t. IsName t × IsNew some.items t)) (λ name. place_layout) file to _ _ (refused_narrower (λ t. (length t < 2 ^ 32) × IsName t) (λ t. (length t < 2 ^ 32) × (IsName t × IsNew some.items t)) text_bytes (λ t f. (f.0, f.1.0)) file to _ _ n.1))))
 
 pub returns-in_err-taken-clause-looks : goal.returns-in_err-taken-clause-looks
 returns-in_err-taken-clause-looks g c = λ file to can.
@@ -29,64 +29,27 @@ returns-then-taken-clause-looks g c = λ file to can.
       rested,
       λ some has.
           let clash : IsNew some.items c.in_ok-name.name → ⊥ = rw c.if-taken.true at (compares_at file to c.end.result c.args.first c.args.count c.args.seen.now c.in_ok-name.name (Ok c.in_ok-taken.taken) (c.end.ensures ∙ n.0.end) (c.in_ok-taken.ensures.compares file n.0.holds) c.args.reader.now.at some has) in
-          refused_viewed (λ (o : Output). (o.name, (o.base, (o.size, o.last)))) (behind (text_of (λ t. IsName t × IsNew some.items t)) (λ name. behind number (λ base. behind (field (λ size. (size < 2 ^ 64) × (base + size < 2 ^ 63)) u64_bytes) (λ size. number)))) file to c.args.reader.now.at c.damaged.result (refused_first (text_of (λ t. IsName t × IsNew some.items t)) (λ name. behind number (λ base. behind (field (λ size. (size < 2 ^ 64) × (base + size < 2 ^ 63)) u64_bytes) (λ size. number))) file to _ _ (refused_here (text_of (λ t. IsName t × IsNew some.items t)) file to c.args.reader.now.at c.place-start.result c.damaged.result c.damaged.ensures c.place-start.ensures (misfit (λ t. (length t < 2 ^ 32) × IsName t) (λ t. (length t < 2 ^ 32) × (IsName t × IsNew some.items t)) text_bytes (text_law IsName) (λ t f. (f.0, f.1.0)) file to _ _ _ n.1 (λ f. clash f.1.1)))),
+          refused_viewed (λ (o : Output). (o.name, (o.base, (o.size, o.last)))) (behind (text_of (λ t. IsName t × IsNew some.items t)) (λ name. place_layout)) file to c.args.reader.now.at c.damaged.result (refused_first (text_of (λ t. IsName t × IsNew some.items t)) (λ name. place_layout) file to _ _ (refused_here (text_of (λ t. IsName t × IsNew some.items t)) file to c.args.reader.now.at c.place-start.result c.damaged.result c.damaged.ensures c.place-start.ensures (misfit (λ t. (length t < 2 ^ 32) × IsName t) (λ t. (length t < 2 ^ 32) × (IsName t × IsNew some.items t)) text_bytes (text_law IsName) (λ t f. (f.0, f.1.0)) file to _ _ _ n.1 (λ f. clash f.1.1)))),
     )
 
-pub returns-in_err-base-clause-looks : goal.returns-in_err-base-clause-looks
-returns-in_err-base-clause-looks g c = λ file to can.
+pub returns-in_err-take_place-clause-looks : goal.returns-in_err-take_place-clause-looks
+returns-in_err-take_place-clause-looks g c = λ file to can.
     let n = c.in_ok-name.ensures.gives file to can in
     let rested = can_rests _ _ c.args.ledger.now file to c.take_name.new.self c.is_known.ensures.rests n.0 in
-    let b = c.in_err-base.ensures.gives file to rested in (
-      b.0,
+    let p = c.in_err-take_place.ensures.takes file to rested in (
+      p.0,
       λ some has. let fresh : IsNew some.items c.in_ok-name.name = rw c.if-taken.false at (compares_at file to c.end.result c.args.first c.args.count c.args.seen.now c.in_ok-name.name (Ok c.in_ok-taken.taken) (c.end.ensures ∙ n.0.end) (c.in_ok-taken.ensures.compares file n.0.holds) c.args.reader.now.at some has) in
-          handed c.from_residual-in_err-base.result c.in_err-base.field-0.0 _ _ c.from_residual-in_err-base.ensures.1 (refused_viewed (λ (o : Output). (o.name, (o.base, (o.size, o.last)))) (behind (text_of (λ t. IsName t × IsNew some.items t)) (λ name. behind number (λ base. behind (field (λ size. (size < 2 ^ 64) × (base + size < 2 ^ 63)) u64_bytes) (λ size. number)))) file to c.args.reader.now.at c.in_err-base.field-0.0 (refused_second (text_of (λ t. IsName t × IsNew some.items t)) (λ name. behind number (λ base. behind (field (λ size. (size < 2 ^ 64) × (base + size < 2 ^ 63)) u64_bytes) (λ size. number))) file to _ _ _ _ (narrowed (λ t. (length t < 2 ^ 32) × IsName t) (λ t. (length t < 2 ^ 32) × (IsName t × IsNew some.items t)) text_bytes file to _ _ _ n.1 (n.1.fits.0, (n.1.fits.1, fresh))) (refused_first number (λ base. behind (field (λ size. (size < 2 ^ 64) × (base + size < 2 ^ 63)) u64_bytes) (λ size. number)) file to _ _ b.1))),
-    )
-
-pub returns-in_err-size-clause-looks : goal.returns-in_err-size-clause-looks
-returns-in_err-size-clause-looks g c = λ file to can.
-    let n = c.in_ok-name.ensures.gives file to can in
-    let rested = can_rests _ _ c.args.ledger.now file to c.take_name.new.self c.is_known.ensures.rests n.0 in
-    let b = c.in_ok-base.ensures.gives file to rested in
-    let s = c.in_err-size.ensures.gives file to b.0 in (
-      s.0,
-      λ some has. let fresh : IsNew some.items c.in_ok-name.name = rw c.if-taken.false at (compares_at file to c.end.result c.args.first c.args.count c.args.seen.now c.in_ok-name.name (Ok c.in_ok-taken.taken) (c.end.ensures ∙ n.0.end) (c.in_ok-taken.ensures.compares file n.0.holds) c.args.reader.now.at some has) in
-          handed c.from_residual-in_err-size.result c.in_err-size.field-0.0 _ _ c.from_residual-in_err-size.ensures.1 (refused_viewed (λ (o : Output). (o.name, (o.base, (o.size, o.last)))) (behind (text_of (λ t. IsName t × IsNew some.items t)) (λ name. behind number (λ base. behind (field (λ size. (size < 2 ^ 64) × (base + size < 2 ^ 63)) u64_bytes) (λ size. number)))) file to c.args.reader.now.at c.in_err-size.field-0.0 (refused_second (text_of (λ t. IsName t × IsNew some.items t)) (λ name. behind number (λ base. behind (field (λ size. (size < 2 ^ 64) × (base + size < 2 ^ 63)) u64_bytes) (λ size. number))) file to _ _ _ _ (narrowed (λ t. (length t < 2 ^ 32) × IsName t) (λ t. (length t < 2 ^ 32) × (IsName t × IsNew some.items t)) text_bytes file to _ _ _ n.1 (n.1.fits.0, (n.1.fits.1, fresh))) (refused_second number (λ base. behind (field (λ size. (size < 2 ^ 64) × (base + size < 2 ^ 63)) u64_bytes) (λ size. number)) file to _ _ _ _ b.1 (refused_first (field (λ size. (size < 2 ^ 64) × (c.in_ok-base.base + size < 2 ^ 63)) u64_bytes) (λ size. number) file to _ _ (refused_narrower (λ n. n < 2 ^ 64) (λ size. (size < 2 ^ 64) × (c.in_ok-base.base + size < 2 ^ 63)) u64_bytes (λ n f. f.0) file to _ _ s.1))))),
-    )
-
-pub returns-then-ends_high-clause-looks : goal.returns-then-ends_high-clause-looks
-returns-then-ends_high-clause-looks g c = λ file to can.
-    let n = c.in_ok-name.ensures.gives file to can in
-    let rested = can_rests _ _ c.args.ledger.now file to c.take_name.new.self c.is_known.ensures.rests n.0 in
-    let b = c.in_ok-base.ensures.gives file to rested in
-    let s = c.in_ok-size.ensures.gives file to b.0 in (
-      s.0,
-      λ some has. let fresh : IsNew some.items c.in_ok-name.name = rw c.if-taken.false at (compares_at file to c.end.result c.args.first c.args.count c.args.seen.now c.in_ok-name.name (Ok c.in_ok-taken.taken) (c.end.ensures ∙ n.0.end) (c.in_ok-taken.ensures.compares file n.0.holds) c.args.reader.now.at some has) in
-          refused_viewed (λ (o : Output). (o.name, (o.base, (o.size, o.last)))) (behind (text_of (λ t. IsName t × IsNew some.items t)) (λ name. behind number (λ base. behind (field (λ size. (size < 2 ^ 64) × (base + size < 2 ^ 63)) u64_bytes) (λ size. number)))) file to c.args.reader.now.at c.damaged-then-ends_high.result (refused_second (text_of (λ t. IsName t × IsNew some.items t)) (λ name. behind number (λ base. behind (field (λ size. (size < 2 ^ 64) × (base + size < 2 ^ 63)) u64_bytes) (λ size. number))) file to _ _ _ _ (narrowed (λ t. (length t < 2 ^ 32) × IsName t) (λ t. (length t < 2 ^ 32) × (IsName t × IsNew some.items t)) text_bytes file to _ _ _ n.1 (n.1.fits.0, (n.1.fits.1, fresh))) (refused_second number (λ base. behind (field (λ size. (size < 2 ^ 64) × (base + size < 2 ^ 63)) u64_bytes) (λ size. number)) file to _ _ _ _ b.1 (refused_first (field (λ size. (size < 2 ^ 64) × (c.in_ok-base.base + size < 2 ^ 63)) u64_bytes) (λ size. number) file to _ _ (refused_here (field (λ size. (size < 2 ^ 64) × (c.in_ok-base.base + size < 2 ^ 63)) u64_bytes) file to _ c.place-place.result c.damaged-then-ends_high.result c.damaged-then-ends_high.ensures c.place-place.ensures (misfit (λ n. n < 2 ^ 64) (λ size. (size < 2 ^ 64) × (c.in_ok-base.base + size < 2 ^ 63)) u64_bytes number_law (λ n f. f.0) file to _ _ _ s.1 (λ f. omega (arith, c.if-ends_high.ensures, f.1))))))),
-    )
-
-pub returns-in_err-number-clause-looks : goal.returns-in_err-number-clause-looks
-returns-in_err-number-clause-looks g c = λ file to can.
-    let n = c.in_ok-name.ensures.gives file to can in
-    let rested = can_rests _ _ c.args.ledger.now file to c.take_name.new.self c.is_known.ensures.rests n.0 in
-    let b = c.in_ok-base.ensures.gives file to rested in
-    let s = c.in_ok-size.ensures.gives file to b.0 in
-    let l = c.in_err-number.ensures.gives file to s.0 in (
-      l.0,
-      λ some has. let fresh : IsNew some.items c.in_ok-name.name = rw c.if-taken.false at (compares_at file to c.end.result c.args.first c.args.count c.args.seen.now c.in_ok-name.name (Ok c.in_ok-taken.taken) (c.end.ensures ∙ n.0.end) (c.in_ok-taken.ensures.compares file n.0.holds) c.args.reader.now.at some has) in
-          handed c.from_residual-in_err-number.result c.in_err-number.field-0.0 _ _ c.from_residual-in_err-number.ensures.1 (refused_viewed (λ (o : Output). (o.name, (o.base, (o.size, o.last)))) (behind (text_of (λ t. IsName t × IsNew some.items t)) (λ name. behind number (λ base. behind (field (λ size. (size < 2 ^ 64) × (base + size < 2 ^ 63)) u64_bytes) (λ size. number)))) file to c.args.reader.now.at c.in_err-number.field-0.0 (refused_second (text_of (λ t. IsName t × IsNew some.items t)) (λ name. behind number (λ base. behind (field (λ size. (size < 2 ^ 64) × (base + size < 2 ^ 63)) u64_bytes) (λ size. number))) file to _ _ _ _ (narrowed (λ t. (length t < 2 ^ 32) × IsName t) (λ t. (length t < 2 ^ 32) × (IsName t × IsNew some.items t)) text_bytes file to _ _ _ n.1 (n.1.fits.0, (n.1.fits.1, fresh))) (refused_second number (λ base. behind (field (λ size. (size < 2 ^ 64) × (base + size < 2 ^ 63)) u64_bytes) (λ size. number)) file to _ _ _ _ b.1 (refused_second (field (λ size. (size < 2 ^ 64) × (c.in_ok-base.base + size < 2 ^ 63)) u64_bytes) (λ size. number) file to _ _ _ _ (narrowed (λ n. n < 2 ^ 64) (λ size. (size < 2 ^ 64) × (c.in_ok-base.base + size < 2 ^ 63)) u64_bytes file to _ _ _ s.1 (s.1.fits, c.if-ends_high.ensures)) l.1)))),
+          handed c.from_residual-in_err-take_place.result c.in_err-take_place.field-0.0 _ _ c.from_residual-in_err-take_place.ensures.1 (refused_viewed (λ (o : Output). (o.name, (o.base, (o.size, o.last)))) (behind (text_of (λ t. IsName t × IsNew some.items t)) (λ name. place_layout)) file to c.args.reader.now.at c.in_err-take_place.field-0.0 (refused_second (text_of (λ t. IsName t × IsNew some.items t)) (λ name. place_layout) file to _ _ _ _ (narrowed (λ t. (length t < 2 ^ 32) × IsName t) (λ t. (length t < 2 ^ 32) × (IsName t × IsNew some.items t)) text_bytes file to _ _ _ n.1 (n.1.fits.0, (n.1.fits.1, fresh))) p.1)),
     )
 
 pub returns-clause-looks : goal.returns-clause-looks
 returns-clause-looks g c = λ file to can.
     let n = c.in_ok-name.ensures.gives file to can in
     let rested = can_rests _ _ c.args.ledger.now file to c.take_name.new.self c.is_known.ensures.rests n.0 in
-    let b = c.in_ok-base.ensures.gives file to rested in
-    let s = c.in_ok-size.ensures.gives file to b.0 in
-    let l = c.in_ok-number.ensures.gives file to s.0 in (
-      l.0,
+    let p = c.in_ok-take_place.ensures.takes file to rested in (
+      p.0,
       λ some has. let fresh : IsNew some.items c.in_ok-name.name = rw c.if-taken.false at (compares_at file to c.end.result c.args.first c.args.count c.args.seen.now c.in_ok-name.name (Ok c.in_ok-taken.taken) (c.end.ensures ∙ n.0.end) (c.in_ok-taken.ensures.compares file n.0.holds) c.args.reader.now.at some has) in
-          checks_viewed {R = ℕ} (λ (o : Output). (o.name, (o.base, (o.size, o.last)))) (λ parts. record { name = parts.0; base = parts.1.0; size = parts.1.1.0; last = parts.1.1.1 }) (behind (text_of (λ t. IsName t × IsNew some.items t)) (λ name. behind number (λ base. behind (field (λ size. (size < 2 ^ 64) × (base + size < 2 ^ 63)) u64_bytes) (λ size. number)))) (λ parts. refl) file to _ _ (Ok c.hash_of-hash.result) (some_read (behind (text_of (λ t. IsName t × IsNew some.items t)) (λ name. behind number (λ base. behind (field (λ size. (size < 2 ^ 64) × (base + size < 2 ^ 63)) u64_bytes) (λ size. number)))) file to _ _ _
-          (read_both (text_of (λ t. IsName t × IsNew some.items t)) (λ name. behind number (λ base. behind (field (λ size. (size < 2 ^ 64) × (base + size < 2 ^ 63)) u64_bytes) (λ size. number))) file to _ _ _ _ _ (narrowed (λ t. (length t < 2 ^ 32) × IsName t) (λ t. (length t < 2 ^ 32) × (IsName t × IsNew some.items t)) text_bytes file to _ _ _ n.1 (n.1.fits.0, (n.1.fits.1, fresh))) (read_both number (λ base. behind (field (λ size. (size < 2 ^ 64) × (base + size < 2 ^ 63)) u64_bytes) (λ size. number)) file to _ _ _ _ _ b.1 (read_both (field (λ size. (size < 2 ^ 64) × (c.in_ok-base.base + size < 2 ^ 63)) u64_bytes) (λ size. number) file to _ _ _ _ _ (narrowed (λ n. n < 2 ^ 64) (λ size. (size < 2 ^ 64) × (c.in_ok-base.base + size < 2 ^ 63)) u64_bytes file to _ _ _ s.1 (s.1.fits, c.if-ends_high.ensures)) l.1)))),
+          checks_viewed {R = ℕ} (λ (o : Output). (o.name, (o.base, (o.size, o.last)))) (λ parts. record { name = parts.0; base = parts.1.0; size = parts.1.1.0; last = parts.1.1.1 }) (behind (text_of (λ t. IsName t × IsNew some.items t)) (λ name. place_layout)) (λ parts. refl) file to _ _ (Ok c.hash_of-hash.result) (some_read (behind (text_of (λ t. IsName t × IsNew some.items t)) (λ name. place_layout)) file to _ _ _ (read_both (text_of (λ t. IsName t × IsNew some.items t)) (λ name. place_layout) file to _ _ _ _ _ (narrowed (λ t. (length t < 2 ^ 32) × IsName t) (λ t. (length t < 2 ^ 32) × (IsName t × IsNew some.items t)) text_bytes file to _ _ _ n.1 (n.1.fits.0, (n.1.fits.1, fresh))) p.1)),
     )
 
 pub returns-clause-hash : goal.returns-clause-hash
