@@ -5,7 +5,7 @@ use Rattle.disk_model.proofs.DiskSteps.{LeavesOnly-then}
 use Rattle.ledger_model.specs.Entries.{Entry}
 use Rattle.ledger_model.specs.Ledgers.{body_of, front_of}
 use Rattle.recovery_model.specs.Recovered.{Recovers, RecoversEither, RecoversAsBefore}
-use Rattle.commit.specs.States.{IsSettled, IsSealed, IsGood, Keeps, Preserves, KeepsEither, ShowsFiles}
+use Rattle.commit.specs.States.{IsSettled, IsSealed, IsGood, Keeps, Preserves, KeepsEither, ShowsFiles, LiesIn}
 use Rattle.commit.specs.Resume.{CanSettle}
 use Rattle.commit.specs.declared.phases.CommitFiles.{CommitFiles}
 use Rattle.commit.proofs.SealedEntries.{resting_start, resting_stage, resting_means, settled_stage}
@@ -30,6 +30,10 @@ same_on a b c f s = record { same_reference = s.same_reference ∙ f.same_refere
 -- an entry that may be written to one may be written to the other
 pub good_on : {D : Type 0} → (a b : Commit D) (entry : Entry) → Same a b → IsGood (ledger_of a) (stage_of a) entry → IsGood (ledger_of b) (stage_of b) entry
 good_on a b entry same good = subst (λ (n : CommitFiles). IsGood n.ledger n.stage entry) (sym same.files) good
+
+-- and one that lies in the ledger of one lies in that of the other
+pub lies_on : {D : Type 0} → (disk : DiskState) (a b : Commit D) (entries : List Entry) (entry : Entry) → Same a b → LiesIn disk (ledger_of b) entries entry → LiesIn disk (ledger_of a) entries entry
+lies_on disk a b entries entry same lies = subst (λ (n : CommitFiles). LiesIn disk n.ledger entries entry) same.files lies
 
 -- an entry behind a closed gate is none
 pub settled_of : (disk : DiskState) (ledger stage : List ℕ) (place : ℕ) (entry : Entry) (entries : List Entry) (before after : Files) → IsSealed disk ledger stage place entry entries before after → IsSettled disk ledger stage place entries before

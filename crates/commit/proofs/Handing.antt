@@ -1,9 +1,9 @@
 -- From the commit that holds a disk to the disk.
-use Rattle.std.proofs.Common.{◌≡◌, List, ℕ, sym, subst}
+use Rattle.std.proofs.Common.{◌≡◌, List, ℕ, sym, ◌∙◌, ap, subst}
 use Rattle.disk_model.specs.Disk.{Files, DiskState, LeavesOnly}
 use Rattle.lp_model.specs.Outside.{Rose}
 use Rattle.ledger_model.specs.Entries.{Entry}
-use Rattle.commit.specs.States.{Keeps, ShowsFiles}
+use Rattle.commit.specs.States.{Keeps, ShowsFiles, LiesIn}
 use Rattle.commit.specs.Resume.{CanSettle}
 use Rattle.commit.specs.declared.phases.CommitFiles.{CommitFiles}
 use Rattle.commit.specs.declared.phases.Commit.{Commit}
@@ -35,3 +35,9 @@ module _ {D : Type 0} (state : D → DiskState) (a : Commit D) (disk : D) (files
 
   pub rose_at : (faults : D → ℕ) (x y : D) → x ≡ y → Rose (faults a.disk.now) (faults y) → Rose (faults disk) (faults x)
   rose_at faults x y is rose = subst (λ (d : D). Rose (faults d) (faults x)) disk_is (subst (λ (d : D). Rose (faults a.disk.now) (faults d)) (sym is) rose)
+
+  pub same_at : (faults : D → ℕ) (x y : D) → x ≡ y → faults y ≡ faults a.disk.now → faults x ≡ faults disk
+  same_at faults x y is same = ap faults is ∙ same ∙ ap faults disk_is
+
+  pub lies_at : (x y : D) (entries : List Entry) (entry : Entry) → x ≡ y → LiesIn (state y) (ledger_of a) entries entry → LiesIn (state x) files.ledger entries entry
+  lies_at x y entries entry is lies = subst (λ (f : CommitFiles). LiesIn (state x) f.ledger entries entry) files_are (subst (λ (d : D). LiesIn (state d) (ledger_of a) entries entry) (sym is) lies)

@@ -105,6 +105,16 @@ pub record IsOpen (disk : DiskState) (ledger stage : List ℕ) (place : ℕ) (en
   pub entries_are : entries ≡ map (λ pair. pair.entry) earlier ++ entry ∷ []
   pub files_are : (name file : List ℕ) → IsOther ledger stage name → disk.may_leave name file → IsFile (frames_in disk stage entry.staged) entry.outputs name file (files name)
 
+-- What a read gives of the ledger has an entry with its body whole, behind these pairs and whatever its own gate and done byte are; these are the entries up to it.
+pub record LiesIn (disk : DiskState) (ledger : List ℕ) (entries : List Entry) (entry : Entry) : Type 0 where
+  pub earlier : List Pair
+  pub fit : AllByRecursion IsPair earlier
+  pub gate : ℕ
+  pub done : ℕ
+  pub more : List ℕ
+  pub ledger_is : disk.seen ledger ≡ front_of earlier ++ (gate ∷ done ∷ body_of entry) ++ more
+  pub entries_are : entries ≡ map (λ pair. pair.entry) earlier ++ entry ∷ []
+
 -- What is known of each file within a step, by its name.
 
 -- an entry is written behind a closed gate: the ledger up to the gate and the files stay

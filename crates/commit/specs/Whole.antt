@@ -1,12 +1,26 @@
 -- A whole commit: what two texts make of the files, and what each image stands for.
-use Rattle.std.specs.Prelude.{◌≡◌, ◌≢◌, ◌⊎◌, ℕ, List, [], ◌∷◌, ◌++◌}
+use Rattle.std.specs.Prelude.{◌≡◌, ◌≢◌, ◌⊎◌, ℕ, ◌≤◌, List, [], ◌∷◌, ◌++◌, Result, OnOk, IfErr}
+use Rattle.lp_model.specs.Outside.{Rose}
 use Rattle.disk_model.specs.Disk.{Files, DiskState}
 use Rattle.ledger_model.specs.Entries.{Entry, Output}
 use Rattle.lp_outside.specs.declared.stage.Mark.{Mark}
 use Rattle.recovery_model.specs.Recovered.{Recovers}
 use Rattle.commit.specs.States.{IsGood}
 use Rattle.commit.specs.Resume.{CanSettle}
+use Rattle.commit.specs.declared.running.Refused.{Refused}
+use Rattle.commit.specs.declared.running.Refused.TheVariants.{Memory, Failed}
 use Rattle.recovery_model.specs.Recovered.{RecoversAsBefore}
+
+-- a run was refused before its gate: for the disk only where that counted a fault, and for want of memory only where it counted none
+abbrev pub RefusedFor : ℕ → ℕ → Refused → Type 0
+RefusedFor before now Memory = now ≡ before
+RefusedFor before now Failed = Rose before now
+
+-- a count of faults never falls, stays where the call is done, and tells the one refusal from the other
+pub record HasRefusal {T : Type 0} (before now : ℕ) (result : Result T Refused) : Type 0 where
+  pub later : before ≤ now
+  pub same : OnOk result (now ≡ before)
+  pub refused : IfErr result (RefusedFor before now)
 
 -- two files gain a text each, and all others stay
 pub record AddsTwo (first one second two : List ℕ) (before after : Files) : Type 0 where

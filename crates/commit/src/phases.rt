@@ -1,5 +1,5 @@
 // The phases of a commit, one after the other, over the only reference to a disk.
-ghost use Rattle.std.specs.Prelude.{◌≡◌, ◌≤◌, ◌+◌, ◌^◌, ◌++◌, [], ◌∷◌, ℕ, List, OnOk, IsErrOf};
+ghost use Rattle.std.specs.Prelude.{◌≡◌, ◌≤◌, ◌+◌, ◌^◌, ◌++◌, [], ◌∷◌, ℕ, List, OnOk, OnErr, IsErrOf};
 ghost use Rattle.lp_model.specs.Outside.{HasCause};
 ghost use Rattle.disk_model.specs.Disk.{Files};
 ghost use Rattle.ledger_model.specs.Entries.{Entry};
@@ -8,7 +8,7 @@ ghost use Rattle.ledger.specs.Reader.{HasReason};
 ghost use Rattle.ledger.specs.declared.refused.LedgerRefused.TheVariants.{LedgerFault};
 ghost use Rattle.ledger.specs.declared.refused.Part2.{Part2};
 ghost use Rattle.recovery_model.specs.Recovered.{Recovers};
-ghost use Rattle.commit.specs.States.{ShowsFiles};
+ghost use Rattle.commit.specs.States.{ShowsFiles, LiesIn};
 ghost use Rattle.commit.specs.Faults.{IsApart, FitsWhole, BreaksAt};
 
 use crate::{CommitFault, finish, open_gate, seal, settle_disk, start};
@@ -101,6 +101,7 @@ impl<'d, D: Disk> Commit<'d, D> {
     pub fn start(&mut self) -> Result<(), DiskFailed>
         ensures goes { Goes D.state self.old self.new }
         ensures empty { OnOk result ((disk_of D.state self.old).tells → HasFrames D.state self.new × ((disk_of D.state self.new).seen (stage_of self.new) ≡ [])) }
+        ensures count { OnErr result (staged_of self.new ≡ staged_of self.old) }
         ensures cause { HasCause (D.faults self.old.disk.now) (D.faults self.new.disk.now) result }
     {
         start(self.disk, &self.files.stage)?;
@@ -133,6 +134,8 @@ impl<'d, D: Disk> Commit<'d, D> {
         ensures same { Same self.old self.new }
         // A crash at any moment leaves the state before the entry or the one with it, and so does the disk afterwards, at a refusal too.
         ensures any_moment { (entry : Entry) (entries : List Entry) (before after : Files) → Sealed D.state self.old entry entries before after → LeavesEither D.state self.old self.new entries entry before after }
+        // The entry lies behind its pair, at a refusal too.
+        ensures lies { (entry : Entry) (entries : List Entry) (before after : Files) → Sealed D.state self.old entry entries before after → LiesIn (disk_of D.state self.new) (ledger_of self.old) (entries ++ entry ∷ []) entry }
         ensures opened { OnOk result ((entry : Entry) (entries : List Entry) (before after : Files) → Sealed D.state self.old entry entries before after → Opened D.state self.new entry (entries ++ entry ∷ []) after) }
         ensures cause { HasCause (D.faults self.old.disk.now) (D.faults self.new.disk.now) result }
     {
@@ -144,6 +147,8 @@ impl<'d, D: Disk> Commit<'d, D> {
         ensures same { Same self.old self.new }
         // A crash at any moment leaves the state with the entry, and so does the disk afterwards, at a refusal too.
         ensures any_moment { (entry : Entry) (entries : List Entry) (files : Files) → Opened D.state self.old entry entries files → PreservesHeld D.state self.old self.new entries files }
+        // The entry lies behind its pair, at a refusal too.
+        ensures lies { (entry : Entry) (entries : List Entry) (files : Files) → Opened D.state self.old entry entries files → LiesIn (disk_of D.state self.new) (ledger_of self.old) entries entry }
         ensures done { OnOk result ((entry : Entry) (entries : List Entry) (files : Files) → Opened D.state self.old entry entries files → Settled D.state self.new entries files) }
         // From the state that the gate leaves the bytes always fit.
         ensures no_fault { (part : Part2) (p : ℕ) → IsErrOf result (LedgerFault part p) → (entry : Entry) (entries : List Entry) (files : Files) → Opened D.state self.old entry entries files → ⊥ }

@@ -8,10 +8,10 @@ ghost use Rattle.ledger.specs.Reader.{HasReason};
 ghost use Rattle.ledger.specs.declared.refused.LedgerRefused.TheVariants.{LedgerFault};
 ghost use Rattle.ledger.specs.declared.refused.Part2.{Part2};
 ghost use Rattle.recovery_model.specs.Recovered.{Recovers};
-ghost use Rattle.commit.specs.States.{IsGood, Keeps, ShowsFiles};
+ghost use Rattle.commit.specs.States.{IsGood, Keeps, ShowsFiles, LiesIn};
 ghost use Rattle.commit.specs.Resume.{CanSettle, Settles};
 ghost use Rattle.lp_outside.specs.Gained.{HasText};
-ghost use Rattle.commit.specs.Whole.{AddsTwo, MayCommit, output_at, BeforeOrWith};
+ghost use Rattle.commit.specs.Whole.{HasRefusal, AddsTwo, MayCommit, output_at, BeforeOrWith};
 ghost use Rattle.commit.specs.Phases.{disk_of, ledger_of, stage_of, staged_of, Same, Goes, Unsettled, Settled, Staged, Sealed, PreservesHeld, SettlesHeld, LeavesEither};
 
 use crate::{Commit, CommitFault, CommitFiles};
@@ -29,9 +29,12 @@ pub enum Refused {
 /// Where a commit stopped.
 #[derive(Clone, Copy, Debug, PartialEq, Eq)]
 pub enum Stopped {
-    /// Before the gate, for want of memory.
+    /// Before the gate, for want of memory: the disk has counted no fault, and stands for the state before.
     Memory,
+    /// Before the gate: the disk failed or what it holds is damaged, and it stands for the state before.
     BeforeGate,
+    /// At the gate or behind it: the disk failed, and stands for the state before or for the one with the entry, which lies
+    /// whole behind its pair. The next settling tells which.
     FromGate,
 }
 
@@ -95,8 +98,7 @@ fn stage_texts<'d, D: Disk>(
     requires apart { first.now ≢ second.now }
     requires one { length one.now < 2 ^ 64 }
     requires two { length two.now < 2 ^ 64 }
-    ensures later { D.faults commit.old.disk.now ≤ D.faults commit.new.disk.now }
-    ensures failed { IsErrOf result Refused.Failed → Rose (D.faults commit.old.disk.now) (D.faults commit.new.disk.now) }
+    ensures reason { HasRefusal (D.faults commit.old.disk.now) (D.faults commit.new.disk.now) result }
     ensures goes { Goes D.state commit.old commit.new }
     ensures staged { OnOk result ((entries : List PlainEntry) (before after : Files) → Settled D.state commit.old entries before → AddsTwo first.now one.now second.now two.now before after
         → IsGood (ledger_of commit.old) (stage_of commit.old) (entry_of entry.new) → Staged D.state commit.new (entry_of entry.new) before after) }
@@ -128,8 +130,7 @@ fn prepare<'d, D: Disk>(
     requires apart { first.now ≢ second.now }
     requires one { length one.now < 2 ^ 64 }
     requires two { length two.now < 2 ^ 64 }
-    ensures later { D.faults commit.old.disk.now ≤ D.faults commit.new.disk.now }
-    ensures failed { IsErrOf result Refused.Failed → Rose (D.faults commit.old.disk.now) (D.faults commit.new.disk.now) }
+    ensures reason { HasRefusal (D.faults commit.old.disk.now) (D.faults commit.new.disk.now) result }
     ensures same { Same commit.old commit.new }
     ensures any_moment { (entries : List PlainEntry) (files : Files) → Settled D.state commit.old entries files → PreservesHeld D.state commit.old commit.new entries files }
     ensures sealed { OnOk result ((entries : List PlainEntry) (before after : Files) → Settled D.state commit.old entries before → AddsTwo first.now one.now second.now two.now before after
@@ -150,6 +151,7 @@ fn conclude<'d, D: Disk>(commit: &mut Commit<'d, D>) -> Result<(), CommitFault>
     ensures same { Same commit.old commit.new }
     ensures any_moment { (entry : PlainEntry) (entries : List PlainEntry) (before after : Files) → Sealed D.state commit.old entry entries before after → LeavesEither D.state commit.old commit.new entries entry before after }
     ensures done { OnOk result ((entry : PlainEntry) (entries : List PlainEntry) (before after : Files) → Sealed D.state commit.old entry entries before after → Settled D.state commit.new (entries ++ entry ∷ []) after) }
+    ensures lies { (entry : PlainEntry) (entries : List PlainEntry) (before after : Files) → Sealed D.state commit.old entry entries before after → LiesIn (disk_of D.state commit.new) (ledger_of commit.old) (entries ++ entry ∷ []) entry }
     ensures no_fault { (part : Part2) (p : ℕ) → IsErrOf result (LedgerFault part p) → (entry : PlainEntry) (entries : List PlainEntry) (before after : Files) → Sealed D.state commit.old entry entries before after → ⊥ }
     ensures reason { HasReason (D.faults commit.old.disk.now) (D.faults commit.new.disk.now) result }
 {
@@ -183,6 +185,11 @@ fn commit_texts<'d, D: Disk>(
         → Keeps (disk_of D.state commit.new) (ledger_of commit.old) (stage_of commit.old) (entries ++ entry_of entry.new ∷ []) after) }
     ensures shown { OnOk result ((entries : List PlainEntry) (before after : Files) → MayCommit (disk_of D.state commit.old) (ledger_of commit.old) (stage_of commit.old) entries (entry_of entry.new) first.now one.now second.now two.now before after
         → ShowsFiles (disk_of D.state commit.new) (ledger_of commit.old) (stage_of commit.old) after) }
+    ensures behind { IsErrOf result Stopped.FromGate → (entries : List PlainEntry) (before after : Files) → MayCommit (disk_of D.state commit.old) (ledger_of commit.old) (stage_of commit.old) entries (entry_of entry.new) first.now one.now second.now two.now before after
+        → LiesIn (disk_of D.state commit.new) (ledger_of commit.old) (entries ++ entry_of entry.new ∷ []) (entry_of entry.new) }
+    ensures later { D.faults commit.old.disk.now ≤ D.faults commit.new.disk.now }
+    ensures counts { OnOk result (D.faults commit.new.disk.now ≡ D.faults commit.old.disk.now) }
+    ensures wants { IsErrOf result Stopped.Memory → D.faults commit.new.disk.now ≡ D.faults commit.old.disk.now }
     ensures cause_before { IsErrOf result Stopped.BeforeGate → Unsettled D.state commit.old → Rose (D.faults commit.old.disk.now) (D.faults commit.new.disk.now) }
     ensures cause_behind { IsErrOf result Stopped.FromGate → (entries : List PlainEntry) (before after : Files) → MayCommit (disk_of D.state commit.old) (ledger_of commit.old) (stage_of commit.old) entries (entry_of entry.new) first.now one.now second.now two.now before after → Rose (D.faults commit.old.disk.now) (D.faults commit.new.disk.now) }
     ensures memory { IsErrOf result Stopped.Memory → Unsettled D.state commit.old → SettlesHeld D.state commit.old commit.new }
@@ -204,7 +211,7 @@ fn commit_texts<'d, D: Disk>(
 }
 
 /// A run over a disk: each image of each moment of all of it stands for what an image stood for before, or for the state
-/// with the entry; at Ok for the latter, and after a refusal before the gate for the former.
+/// with the entry; at Ok for the latter, after a refusal before the gate for the former, and from the gate on for either.
 pub fn commit_two_texts<D: Disk>(
     disk: &mut D,
     files: CommitFiles,
@@ -229,7 +236,13 @@ pub fn commit_two_texts<D: Disk>(
         → Keeps (D.state disk.new) files.ledger files.stage (entries ++ entry_of entry.new ∷ []) after) }
     ensures shown { OnOk result ((entries : List PlainEntry) (before after : Files) → MayCommit (D.state disk.old) files.ledger files.stage entries (entry_of entry.new) first.now one.now second.now two.now before after
         → ShowsFiles (D.state disk.new) files.ledger files.stage after) }
-    // It is refused for the disk only where that counted a fault.
+    // Behind the gate the entry lies whole in what a read gives.
+    ensures behind { IsErrOf result Stopped.FromGate → (entries : List PlainEntry) (before after : Files) → MayCommit (D.state disk.old) files.ledger files.stage entries (entry_of entry.new) first.now one.now second.now two.now before after
+        → LiesIn (D.state disk.new) files.ledger (entries ++ entry_of entry.new ∷ []) (entry_of entry.new) }
+    // It is refused for the disk only where that counted a fault, and for want of memory only where it counted none.
+    ensures later { D.faults disk.old ≤ D.faults disk.new }
+    ensures counts { OnOk result (D.faults disk.new ≡ D.faults disk.old) }
+    ensures wants { IsErrOf result Stopped.Memory → D.faults disk.new ≡ D.faults disk.old }
     ensures cause_before { IsErrOf result Stopped.BeforeGate → CanSettle (D.state disk.old) files.ledger files.stage → Rose (D.faults disk.old) (D.faults disk.new) }
     ensures cause_behind { IsErrOf result Stopped.FromGate → (entries : List PlainEntry) (before after : Files) → MayCommit (D.state disk.old) files.ledger files.stage entries (entry_of entry.new) first.now one.now second.now two.now before after → Rose (D.faults disk.old) (D.faults disk.new) }
     ensures memory { IsErrOf result Stopped.Memory → CanSettle (D.state disk.old) files.ledger files.stage → Settles (D.state disk.old) (D.state disk.new) files.ledger files.stage }

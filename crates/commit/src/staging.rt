@@ -1,5 +1,7 @@
 // A commit as a stage.
-ghost use Rattle.std.specs.Prelude.{◌≡◌, ◌%◌, ◌<◌, ◌≢◌, [], refl};
+ghost use Rattle.std.specs.Prelude.{◌≡◌, ◌%◌, ◌<◌, ◌≤◌, ◌≢◌, [], OnOk, OnErr, IsSomeAnd, refl};
+ghost use Rattle.lp_model.specs.Outside.{HasCause, Told, GainsSome};
+ghost use Rattle.lp_outside.specs.Gained.{Gained, SparesOthers, SparesLengths, SparesEnded};
 ghost use Rattle.commit.specs.StagedTexts.{one_read};
 
 use crate::{Commit, put};
@@ -7,7 +9,7 @@ use lp_outside::{Disk, Mark, Name, Stage, StageFailed};
 
 impl<'d, D: Disk> Stage for Commit<'d, D> {
     ghost use Rattle.std.specs.Bool.{⊤};
-    ghost use Rattle.commit.specs.Phases.{stage_state, Goes};
+    ghost use Rattle.commit.specs.Phases.{stage_state, staged_of, Goes};
     ghost use Rattle.commit.specs.Going.{goes_nowhere, goes_on};
 
     ghost state = { stage_state D.state };
@@ -33,7 +35,20 @@ impl<'d, D: Disk> Stage for Commit<'d, D> {
         _base: u64,
         mark: &mut Mark,
         bytes: &[u8],
-    ) -> Result<(), StageFailed> {
+    ) -> Result<(), StageFailed>
+        requires { mark.old.length % 4096 ≡ 0 }
+        ensures goes { Goes D.state self.old self.new }
+        ensures gained { OnOk result (Gained output _name.now _base mark.old mark.new bytes.now (stage_state D.state self.old) (stage_state D.state self.new)) }
+        ensures err { OnErr result (mark.new ≡ mark.old) }
+        // And so is the count of the stage's bytes.
+        ensures count { OnErr result (staged_of self.new ≡ staged_of self.old) }
+        ensures front { OnErr result (GainsSome (stage_state D.state self.old).written (stage_state D.state self.new).written bytes.now) }
+        ensures taken { OnErr result (Told (stage_state D.state self.old).taken (λ before. IsSomeAnd (stage_state D.state self.new).taken (λ now. before ≤ now))) }
+        ensures others { SparesOthers output _name.now (stage_state D.state self.old) (stage_state D.state self.new) }
+        ensures lengths { SparesLengths _name.now (stage_state D.state self.old) (stage_state D.state self.new) }
+        ensures ended { SparesEnded (λ commit name base mark. ⊤) _name.now self.old self.new }
+        ensures cause { HasCause (D.faults self.old.disk.now) (D.faults self.new.disk.now) result }
+    {
         match put(
             self.disk,
             &self.files.stage,

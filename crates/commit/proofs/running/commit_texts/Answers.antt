@@ -1,6 +1,6 @@
 use Rattle.std.proofs.Common.{Err, ap, [], ◌∷◌, ◌++◌}
 use Rattle.ledger.specs.Written.{entry_of}
-use Rattle.commit.proofs.Composing.{settles_on, only_settled, whole_on, same_on, good_on, done_on}
+use Rattle.commit.proofs.Composing.{settles_on, only_settled, whole_on, same_on, good_on, done_on, lies_on}
 use Rattle.commit.proofs.Causes.{rose_behind}
 use Rattle.commit.proofs.running.commit_texts.Goals as goal
 
@@ -98,5 +98,12 @@ pub returns-in-Err-conclude-clause-cause_behind : goal.returns-in-Err-conclude-c
 returns-in-Err-conclude-clause-cause_behind g c = λ is entries before after may.
     let settled = (c.in-Ok.ensures.settled may.can entries before may.recovers).0 in
     let sealed = c.in-Ok-prepare.ensures.sealed entries before after settled may.adds (good_on _ _ _ c.settle.ensures.same may.good) in
-    rose_behind _ _ _ _ c.in-Err-conclude.field-0 c.settle.ensures.reason.later c.prepare.ensures.later
+    rose_behind _ _ _ _ c.in-Err-conclude.field-0 c.settle.ensures.reason.later c.prepare.ensures.reason.later
     (λ part p e. c.in-Err-conclude.ensures.no_fault part p (ap (λ f. Err f) e) (entry_of c.prepare.new.entry) entries before after sealed) c.in-Err-conclude.ensures.reason.failed
+
+pub returns-in-Err-conclude-clause-behind : goal.returns-in-Err-conclude-clause-behind
+returns-in-Err-conclude-clause-behind g c = λ is entries before after may.
+    let settled = (c.in-Ok.ensures.settled may.can entries before may.recovers).0 in
+    let sealed = c.in-Ok-prepare.ensures.sealed entries before after settled may.adds (good_on _ _ _ c.settle.ensures.same may.good) in
+    let e = entry_of c.prepare.new.entry in
+    lies_on (g.D.Disk.state c.conclude.new.commit.disk.now) c.args.commit.now c.prepare.new.commit (entries ++ e ∷ []) e (same_on _ _ _ c.settle.ensures.same c.prepare.ensures.same) (c.conclude.ensures.lies e entries before after sealed)

@@ -20,3 +20,9 @@ returns-in-Ok-clause-done g c = λ entry entries files is.
 
 pub returns-in-Err-clause-no_fault : goal.returns-in-Err-clause-no_fault
 returns-in-Err-clause-no_fault g c = λ part p fault entry entries files is. c.in-Err.ensures.no_fault part p (handed_on _ c.in-Err.fault _ fault) entry entries files (size_between _ _ _ _ c.saturating_sub-size.ensures is.1) is.0
+
+pub returns-in-Ok-clause-lies : goal.returns-in-Ok-clause-lies
+returns-in-Ok-clause-lies g c = λ entry entries files is. c.in-Ok.ensures.lies entry entries files (size_between _ _ _ _ c.saturating_sub-size.ensures is.1) is.0
+
+pub returns-in-Err-clause-lies : goal.returns-in-Err-clause-lies
+returns-in-Err-clause-lies g c = λ entry entries files is. c.in-Err.ensures.lies entry entries files (size_between _ _ _ _ c.saturating_sub-size.ensures is.1) is.0

@@ -8,3 +8,6 @@ returns-clause-any_moment g c = λ entry entries before after is.
 
 pub returns-clause-opened : goal.returns-clause-opened
 returns-clause-opened g c = on_ok _ _ c.open_gate.result (λ opened entry entries before after is. (opened c.args.self.now.files.stage entry entries before after is.0, is.1)) c.open_gate.ensures.opened
+
+pub returns-clause-lies : goal.returns-clause-lies
+returns-clause-lies g c = λ entry entries before after is. c.open_gate.ensures.lies c.args.self.now.files.stage entry entries before after is.0
