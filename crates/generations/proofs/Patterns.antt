@@ -105,7 +105,7 @@ are_there folder stem front names numbers is found are = λ number. (
   }),
 )
 
-front_is : (stem pattern bytes front : List ℕ) → bytes ≡ pattern → pattern ≡ stem ++ behind → front ≡ take (length bytes - 1) bytes → front ≡ stem ++ 46 ∷ []
+pub front_is : (stem pattern bytes front : List ℕ) → bytes ≡ pattern → pattern ≡ stem ++ behind → front ≡ take (length bytes - 1) bytes → front ≡ stem ++ 46 ∷ []
 front_is stem pattern bytes front same is cut =
     let whole : bytes ≡ (stem ++ 46 ∷ []) ++ 42 ∷ [] = same ∙ (is ∙ sym (append_assoc stem (46 ∷ []) (42 ∷ []))) in
     let size : length bytes - 1 ≡ length (stem ++ 46 ∷ []) = omega (arith, ap length whole, length-append (stem ++ 46 ∷ []) (42 ∷ [])) in

@@ -10,8 +10,8 @@ mod range;
 mod stems;
 mod there;
 
-pub use listing::{ListedFile, ListedFiles, StemFault, add_rotated, list_files};
-pub use number::generation_of;
+pub use listing::{ListedFile, ListedFiles, StemFault, add_rotated, first_of, list_files};
+pub use number::{generation_of, known_generation_of};
 pub use range::{generation_name, last_of, least_of, missing_from};
-pub use stems::list_stem;
+pub use stems::{is_live, list_stem};
 pub use there::{Numbers, ThereFault, numbers_there};

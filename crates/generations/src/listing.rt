@@ -91,8 +91,8 @@ fn add_live(stem: &Name, number: u64, live: bool, files: &mut ListedFiles) -> Re
     }
 }
 
-// The first generation to read.
-fn first_of(numbers: &Numbers, known: Option<u64>) -> u64
+/// The first generation to read.
+pub fn first_of(numbers: &Numbers, known: Option<u64>) -> u64
     ensures { IsFirstOf numbers.now known result }
 {
     match known {

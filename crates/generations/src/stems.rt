@@ -1,5 +1,5 @@
 // The files of a stem, as the logs have them.
-ghost use Rattle.std.specs.Prelude.{◌≡◌, ◌≤◌, ◌<◌, ℕ, List, map, IfOk, IfErr, IfSome, IsErrOf};
+ghost use Rattle.std.specs.Prelude.{◌≡◌, ◌≤◌, ◌<◌, ℕ, List, map, OnOk, IfOk, IfErr, IfSome, IsErrOf};
 ghost use Rattle.lp_model.specs.Outside.{OnlyGrow, Rose, Told};
 ghost use Rattle.ledger_model.specs.Entries.{Entry};
 ghost use Rattle.run_model.specs.Listed.{ListsStem};
@@ -10,11 +10,12 @@ use crate::{ListedFiles, StemFault, ThereFault, list_files, numbers_there};
 use lp_outside::{Logs, LogsFailed, Name};
 use std::alloc::Global;
 
-// Whether a stem's own file is there.
-fn is_live<L: Logs>(logs: &mut L, stem: &Name) -> Result<bool, LogsFailed>
+/// Whether a stem's own file is there.
+pub fn is_live<L: Logs>(logs: &mut L, stem: &Name) -> Result<bool, LogsFailed>
     ensures grows { OnlyGrow (L.folder logs.old) (L.folder logs.new) }
     ensures given { L.given logs.new ≡ L.given logs.old }
     ensures later { L.faults logs.old ≤ L.faults logs.new }
+    ensures steady { OnOk result (L.faults logs.new ≡ L.faults logs.old) }
     ensures live { IfOk result (λ live. Told (L.folder logs.new) (λ folder. IsLiveAs folder stem.now live)) }
     ensures failed { IfErr result (λ _. Rose (L.faults logs.old) (L.faults logs.new)) }
 {

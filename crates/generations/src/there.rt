@@ -74,6 +74,7 @@ pub fn numbers_there<L: Logs>(
     ensures grows { OnlyGrow (L.folder logs.old) (L.folder logs.new) }
     ensures given { L.given logs.new ≡ L.given logs.old }
     ensures later { L.faults logs.old ≤ L.faults logs.new }
+    ensures steady { OnOk result (L.faults logs.new ≡ L.faults logs.old) }
     ensures ok { IfOk result (λ numbers. Told (L.folder logs.new) (λ folder. AreThere folder stem.now numbers)) }
     ensures bounded { IfOk result (λ numbers. (number : ℕ) → Has numbers number → (0 < number) × (number < 2 ^ 63)) }
     ensures unlisted { IfErr result (IsUnlisted stem.now) }

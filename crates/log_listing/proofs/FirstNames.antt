@@ -85,7 +85,7 @@ step_at x n ys false false among is =
     ∙ ap (λ b. cond b (x ∷ filter (other_than x) ys) ((x ∷ filter (other_than x) ys) ++ n ∷ [])) kept)
 
 -- one more name behind others
-firsts_push : (names : List Name) (name : Name) → firsts (names ++ name ∷ []) ≡ with_name (firsts names) name
+pub firsts_push : (names : List Name) (name : Name) → firsts (names ++ name ∷ []) ≡ with_name (firsts names) name
 firsts_push [] name = refl
 firsts_push (x ∷ xs) name = ap (λ ys. x ∷ filter (other_than x) ys) (firsts_push xs name) ∙ step_at x name (firsts xs) (is_among (firsts xs) name) (bytes_eq name x) refl refl
 

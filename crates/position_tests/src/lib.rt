@@ -9,4 +9,6 @@ mod listings;
 #[cfg(test)]
 mod loads;
 #[cfg(test)]
+mod runs;
+#[cfg(test)]
 mod spans;

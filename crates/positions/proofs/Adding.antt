@@ -37,14 +37,14 @@ front_length : (files : List ListedFile) (i : ℕ) → i < length files → leng
 front_length files i less = length-map (take i files) listed_of ∙ length-take-le i files (omega (arith, less))
 
 -- a length at some moment later is one from an earlier moment on
-length_earlier : (before mid now : Option Folder) (log : NameLength) → OnlyGrow before mid → IsLength mid now log → IsLength before now log
+pub length_earlier : (before mid now : Option Folder) (log : NameLength) → OnlyGrow before mid → IsLength mid now log → IsLength before now log
 length_earlier None mid now log grow is = record { least = tt; most = is.most; bounded = is.bounded }
 length_earlier (Some x) None now log grow is = absurd grow
 length_earlier (Some x) (Some y) now log grow is =
     let kept = length_grown x y log.name (length (bytes_in x log.name)) grow (omega arith) in
     record { least = omega (arith, kept, is.least); most = is.most; bounded = is.bounded }
 
-span_later : (places : Places) (before mid now : Option Folder) (file : Listed) (span : Span) → OnlyGrow mid now → IsSpanOf places before mid file span → IsSpanOf places before now file span
+pub span_later : (places : Places) (before mid now : Option Folder) (file : Listed) (span : Span) → OnlyGrow mid now → IsSpanOf places before mid file span → IsSpanOf places before now file span
 span_later places before mid now file span grow is = record {
   name_is = is.name_is;
   identity_is = is.identity_is;
@@ -54,7 +54,7 @@ span_later places before mid now file span grow is = record {
   forward = is.forward;
 }
 
-span_earlier : (places : Places) (before mid now : Option Folder) (file : Listed) (span : Span) → OnlyGrow before mid → IsSpanOf places mid now file span → IsSpanOf places before now file span
+pub span_earlier : (places : Places) (before mid now : Option Folder) (file : Listed) (span : Span) → OnlyGrow before mid → IsSpanOf places mid now file span → IsSpanOf places before now file span
 span_earlier places before mid now file span grow is = record {
   name_is = is.name_is;
   identity_is = is.identity_is;
@@ -64,13 +64,13 @@ span_earlier places before mid now file span grow is = record {
   forward = is.forward;
 }
 
-all_later : (places : Places) (before mid now : Option Folder) (files : List Listed) (spans : List Span) → OnlyGrow mid now → AllZip (IsSpanOf places before mid) files spans → AllZip (IsSpanOf places before now) files spans
+pub all_later : (places : Places) (before mid now : Option Folder) (files : List Listed) (spans : List Span) → OnlyGrow mid now → AllZip (IsSpanOf places before mid) files spans → AllZip (IsSpanOf places before now) files spans
 all_later places before mid now [] [] grow all = tt
 all_later places before mid now [] (span ∷ spans) grow all = absurd all
 all_later places before mid now (file ∷ files) [] grow all = absurd all
 all_later places before mid now (file ∷ files) (span ∷ spans) grow all = (span_later places before mid now file span grow all.0, all_later places before mid now files spans grow all.1)
 
-one_more : (places : Places) (before now : Option Folder) (files : List Listed) (spans : List Span) (file : Listed) (span : Span) → AllZip (IsSpanOf places before now) files spans → IsSpanOf places before now file span → AllZip (IsSpanOf places before now) (files ++ file ∷ []) (spans ++ span ∷ [])
+pub one_more : (places : Places) (before now : Option Folder) (files : List Listed) (spans : List Span) (file : Listed) (span : Span) → AllZip (IsSpanOf places before now) files spans → IsSpanOf places before now file span → AllZip (IsSpanOf places before now) (files ++ file ∷ []) (spans ++ span ∷ [])
 one_more places before now [] [] file span all is = (is, tt)
 one_more places before now [] (s ∷ spans) file span all is = absurd all
 one_more places before now (f ∷ files) [] file span all is = absurd all

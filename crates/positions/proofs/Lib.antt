@@ -9,3 +9,10 @@ pub mod Ledgers
 pub mod Leaving
 pub mod KeptPlaces
 pub mod Adding
+pub mod Backward
+pub mod PlainSpans
+pub mod StemSpans
+pub mod KnownPlaces
+pub mod Listings
+pub mod KnownMore
+pub mod ReadTo

@@ -4,3 +4,6 @@ pub mod Places
 pub mod Loads
 pub mod Advances
 pub mod Spans
+pub mod Spanning
+pub mod SpanSteps
+pub mod Listing

@@ -6,17 +6,21 @@
 #![tactic(auto, using(ledger::proofs::Resting::rests_then))]
 
 mod advancing;
+mod by_name;
+mod by_number;
 mod entries;
 mod fault;
 mod fields;
+mod known;
 mod laws;
 mod loading;
 mod place;
 mod places;
+mod span;
 mod spans;
 
 pub use fault::LoadFault;
-pub use laws::places_are_kept_places;
+pub use laws::{places_are_kept_places, spans_are_listed};
 pub use loading::Positions;
 pub use place::Place;
 pub use spans::{SpanFault, Spans};

@@ -3,7 +3,8 @@ ghost use Rattle.std.specs.Prelude.{◌≡◌, ◌≤◌, length, map, IfOk, IfE
 ghost use Rattle.lp_model.specs.Outside.{OnlyGrow, Rose};
 ghost use Rattle.generations.specs.Files.{listed_of};
 ghost use Rattle.positions.specs.Places.{place_in};
-ghost use Rattle.positions.specs.Spans.{start_of, IsSpanOf, IsRefusedFile, AddsSpans, StopsFiles, Agrees, IsChanged};
+ghost use Rattle.positions.specs.Spans.{start_of, IsSpanOf, IsRefusedFile, AddsSpans, StopsFile, StopsFiles, Agrees, IsChanged};
+ghost use Rattle.positions.specs.SpanSteps.{AddsSpan};
 ghost use Rattle.positions.specs.declared.spans.SpanFault.TheVariants as F;
 
 use crate::places::Places;
@@ -14,7 +15,7 @@ use line_input::Standing;
 use log_reading::Span;
 use lp_outside::{Logs, Name, NameFault};
 use lp_values::{Bytes, ListOf};
-use std::alloc::{AllocError, Global};
+use std::alloc::{AllocError, AllocFailed, Global};
 
 /// The most logs of a run.
 const MOST_LOGS: usize = 100_000;
@@ -47,6 +48,14 @@ impl From<AllocError> for SpanFault {
     ghost from_gives = { λ _ e. e ≡ F.Memory };
 
     fn from(_: AllocError) -> Self {
+        SpanFault::Memory
+    }
+}
+
+impl<T: Drop> From<AllocFailed<T>> for SpanFault {
+    ghost from_gives = { λ _ e. e ≡ F.Memory };
+
+    fn from(_: AllocFailed<T>) -> Self {
         SpanFault::Memory
     }
 }
@@ -89,6 +98,7 @@ fn span_of<L: Logs>(
     ensures grows { OnlyGrow (L.folder logs.old) (L.folder logs.new) }
     ensures given { L.given logs.new ≡ L.given logs.old }
     ensures later { L.faults logs.old ≤ L.faults logs.new }
+    ensures steady { OnOk result (L.faults logs.new ≡ L.faults logs.old) }
     ensures ok { IfOk result (IsSpanOf places.now.entries (L.folder logs.old) (L.folder logs.new) (listed_of file.now)) }
     ensures refused { IfErr result (IsRefusedFile places.now.entries (L.folder logs.new) (listed_of file.now)) }
     ensures failed { IsErrOf result F.LogsFault → Rose (L.faults logs.old) (L.faults logs.new) }
@@ -117,6 +127,32 @@ fn span_of<L: Logs>(
         listed,
         standing,
     })
+}
+
+/// Adds the span of a file behind others.
+pub(crate) fn add_span<L: Logs>(
+    alloc: Global,
+    logs: &mut L,
+    places: &Places,
+    file: &ListedFile,
+    spans: &mut Spans,
+) -> Result<(), SpanFault>
+    requires few { length spans.old ≤ 100000 }
+    ensures grows { OnlyGrow (L.folder logs.old) (L.folder logs.new) }
+    ensures given { L.given logs.new ≡ L.given logs.old }
+    ensures later { L.faults logs.old ≤ L.faults logs.new }
+    ensures steady { OnOk result (L.faults logs.new ≡ L.faults logs.old) }
+    ensures adds { OnOk result (AddsSpan places.now.entries (L.folder logs.old) (L.folder logs.new) (listed_of file.now) spans.old spans.new) }
+    ensures few { OnOk result (length spans.new ≤ 100000) }
+    ensures stopped { IfErr result (StopsFile places.now.entries (L.folder logs.new) (length spans.old) (listed_of file.now)) }
+    ensures failed { IsErrOf result F.LogsFault → Rose (L.faults logs.old) (L.faults logs.new) }
+{
+    if spans.len() >= MOST_LOGS {
+        return Err(SpanFault::TooManyLogs);
+    }
+    let span = span_of(alloc, logs, places, file)?;
+    spans.push(span)?;
+    Ok(())
 }
 
 // The spans of files that are listed, behind others.

@@ -4,8 +4,8 @@ use Rattle.generations.proofs.Numbers.{generation_behind, no_generation}
 use Rattle.generations.proofs.number.generation_of.Goals as goal
 
 pub returns-in-Some : goal.returns-in-Some
-returns-in-Some c = generation_behind c.args.front.now c.args.name.now c.as_bytes.result.now c.in-Some.text.now c.number_of.result (c.as_bytes.ensures.value ∙ c.as_str.ensures.text)
-    (strip_prefix_is (λ a b. search rules) c.as_bytes.result.now c.args.front.now (Some c.in-Some.text) c.in-Some.ensures.cases) c.number_of.ensures
+returns-in-Some c = generation_behind c.args.front.now c.args.name.now c.as_bytes.result.now c.in-Some.text.now c.rotated_number_of.result (c.as_bytes.ensures.value ∙ c.as_str.ensures.text)
+    (strip_prefix_is (λ a b. search rules) c.as_bytes.result.now c.args.front.now (Some c.in-Some.text) c.in-Some.ensures.cases) c.rotated_number_of.ensures
 
 pub returns-in-None : goal.returns-in-None
 returns-in-None c = no_generation c.args.front.now c.args.name.now c.as_bytes.result.now (c.as_bytes.ensures.value ∙ c.as_str.ensures.text)

@@ -1,4 +1,4 @@
-use Rattle.std.proofs.Common.{sym, ap, ◌∙◌, arith}
+use Rattle.std.proofs.Common.{rules, sym, ap, ◌∙◌, arith}
 use Rattle.std.specs.Fmt.{decimal}
 use Rattle.std.proofs.lemmas.Bool.{false≢true}
 use Rattle.generations.proofs.Numbers.{number_decimal, one_read, none_read, number_utf8, written}
@@ -7,11 +7,8 @@ use Rattle.generations.proofs.number.number_of.Goals as goal
 pub returns-then-number-eq0 : goal.returns-then-number-eq0
 returns-then-number-eq0 c = λ number is. let same = one_read c.args.text.now c.in-Ok.digits.now c.in-Ok-parse.number number c.parse.result c.in-Ok.ensures.cases.0 c.parse.ensures.value.0 c.in-Ok-parse.is is in omega (arith, same, is.some, c.if-number-eq0.true)
 
-pub returns-then-number-gt-MOST : goal.returns-then-number-gt-MOST
-returns-then-number-gt-MOST c = λ number is. let same = one_read c.args.text.now c.in-Ok.digits.now c.in-Ok-parse.number number c.parse.result c.in-Ok.ensures.cases.0 c.parse.ensures.value.0 c.in-Ok-parse.is is in omega (arith, same, is.small, c.if-number-gt-MOST.true)
-
 pub returns-then-writes : goal.returns-then-writes
-returns-then-writes c = written c.args.text.now c.in-Ok-parse.number (omega (arith, c.if-number-eq0.false)) (omega (arith, c.if-number-gt-MOST.false)) (c.writes.ensures.0 c.if-writes.true)
+returns-then-writes c = written c.args.text.now c.in-Ok-parse.number (omega (arith, c.if-number-eq0.false)) (search rules) (c.writes.ensures.0 c.if-writes.true)
 
 pub returns-else-writes : goal.returns-else-writes
 returns-else-writes c = λ number is.
