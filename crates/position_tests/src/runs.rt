@@ -9,24 +9,8 @@ use positions::{Positions, SpanFault, Spans};
 use std::alloc::{AllocError, Global};
 use std::test::Fail;
 
-/// A call: what earlier runs read, the files that are there, how rotated files are named, the names behind FROM.
-#[derive(Clone, Copy)]
-struct Call<'a> {
-    reads: &'a [Read<'a>],
-    files: &'a [(&'a str, &'a str)],
-    rotation: Rotation,
-    names: &'a [&'a str],
-}
-
-// How far a run read a log from its start.
-const fn read<'a>(identity: &'a str, to: u8, standing: &'a [u8]) -> Read<'a> {
-    Read {
-        identity,
-        from: 0,
-        to,
-        standing,
-    }
-}
+/// What earlier runs read, the files that are there, and the names behind FROM.
+type Call<'a> = (&'a [Read<'a>], &'a [(&'a str, &'a str)], &'a [&'a str]);
 
 fn positions_of(alloc: Global, reads: &[Read]) -> Result<Positions, Fail> {
     let runs: &[&[Read]] = if reads.is_empty() { &[] } else { &[reads] };
@@ -113,10 +97,11 @@ fn show_fault(alloc: Global, fault: &SpanFault) -> Result<String, Fail> {
     Ok(shown)
 }
 
-fn shown(alloc: Global, call: Call, format: &str) -> Result<String, Fail> {
-    let positions = positions_of(alloc, call.reads)?;
-    let mut logs = logs_with(alloc, call.files)?;
-    let sources = sources_of(alloc, call.names, call.rotation)?;
+fn shown(alloc: Global, call: Call, rotation: Rotation, format: &str) -> Result<String, Fail> {
+    let (reads, files, names) = call;
+    let positions = positions_of(alloc, reads)?;
+    let mut logs = logs_with(alloc, files)?;
+    let sources = sources_of(alloc, names, rotation)?;
     let input = input_of(alloc, format)?;
     match positions.span(alloc, &mut logs, &sources, &input) {
         Ok(spans) => show(alloc, &spans),
@@ -124,35 +109,19 @@ fn shown(alloc: Global, call: Call, format: &str) -> Result<String, Fail> {
     }
 }
 
-const fn by_name<'a>(
-    reads: &'a [Read<'a>],
-    files: &'a [(&'a str, &'a str)],
-    names: &'a [&'a str],
-) -> Call<'a> {
-    Call {
-        reads,
-        files,
-        rotation: Rotation::Names,
-        names,
-    }
-}
+const A3: [Read<'static>; 1] = [Read {
+    identity: "a.log",
+    from: 0,
+    to: 3,
+    standing: ONE,
+}];
 
-const fn by_number<'a>(
-    reads: &'a [Read<'a>],
-    files: &'a [(&'a str, &'a str)],
-    names: &'a [&'a str],
-) -> Call<'a> {
-    Call {
-        reads,
-        files,
-        rotation: Rotation::Numbers,
-        names,
-    }
-}
-
-const A3: &[Read<'static>] = &[read("a.log", 3, ONE)];
-
-const W: &[Read<'static>] = &[read("w.log", 4, COLUMNS)];
+const W: [Read<'static>; 1] = [Read {
+    identity: "w.log",
+    from: 0,
+    to: 4,
+    standing: COLUMNS,
+}];
 
 // Under names: each log from where it was left, with the columns in force there; a log that comes again at its first place;
 // the first name that can't be read is told, and its files in order.
@@ -160,45 +129,121 @@ const W: &[Read<'static>] = &[read("w.log", 4, COLUMNS)];
 fn names_are_read_one_after_another(rt: HostRuntime) -> Result<(), Fail> {
     let alloc = rt.alloc();
     let rows: [(Call, &str); 12] = [
-        (by_name(&[], &[("a.log", "a\r\nb")], &["a.log"]), "a.log a.log 0-4 0 0;"),
-        (by_name(A3, &[("a.log", "a\r\nb\n")], &["a.log"]), "a.log a.log 3-5 1 0;"),
-        (by_name(W, &[("w.log", "#F a\nx\n")], &["w.log"]), "w.log w.log 4-7 2 2;"),
         (
-            by_name(A3, &[("b.log", "bb"), ("a.log", "aaaa")], &["?.log", "a.log"]),
+            (&[], &[("a.log", "a\r\nb")], &["a.log"]),
+            "a.log a.log 0-4 0 0;",
+        ),
+        (
+            (&A3, &[("a.log", "a\r\nb\n")], &["a.log"]),
+            "a.log a.log 3-5 1 0;",
+        ),
+        (
+            (&W, &[("w.log", "#F a\nx\n")], &["w.log"]),
+            "w.log w.log 4-7 2 2;",
+        ),
+        (
+            (
+                &A3,
+                &[("b.log", "bb"), ("a.log", "aaaa")],
+                &["?.log", "a.log"],
+            ),
             "a.log a.log 3-4 1 0;b.log b.log 0-2 0 0;",
         ),
         (
-            by_name(&[], &[("b.log", "bb"), ("a.log", "a")], &["b.log", "*.log"]),
+            (&[], &[("b.log", "bb"), ("a.log", "a")], &["b.log", "*.log"]),
             "b.log b.log 0-2 0 0;a.log a.log 0-1 0 0;",
         ),
-        (by_name(A3, &[("a.log", "x\n")], &["a.log"]), "a.log is 2 bytes, 3 were read"),
-        (by_name(A3, &[("a.log", "x\n")], &["a.log", "b.log"]), "a.log is 2 bytes, 3 were read"),
-        (by_name(A3, &[("a.log", "x\n")], &["b.log", "a.log"]), "no such log b.log"),
-        (by_name(A3, &[("a.log", "abc")], &["a.log", "c*"]), "no such log c*"),
-        (by_name(A3, &[("a.log", "abc")], &["x//y", "c.log"]), "bad name"),
-        (by_name(A3, &[("a.log", "abc")], &["c.log", "x//y"]), "no such log c.log"),
-        (by_name(&[], &[], &[]), ""),
+        (
+            (&A3, &[("a.log", "x\n")], &["a.log"]),
+            "a.log is 2 bytes, 3 were read",
+        ),
+        (
+            (&A3, &[("a.log", "x\n")], &["a.log", "b.log"]),
+            "a.log is 2 bytes, 3 were read",
+        ),
+        (
+            (&A3, &[("a.log", "x\n")], &["b.log", "a.log"]),
+            "no such log b.log",
+        ),
+        (
+            (&A3, &[("a.log", "abc")], &["a.log", "c*"]),
+            "no such log c*",
+        ),
+        ((&A3, &[("a.log", "abc")], &["x//y", "c.log"]), "bad name"),
+        (
+            (&A3, &[("a.log", "abc")], &["c.log", "x//y"]),
+            "no such log c.log",
+        ),
+        ((&[], &[], &[]), ""),
     ];
     for (call, wanted) in rows {
-        assert_eq!(rt; shown(alloc, call, "TEXTLINE")?.as_str(), wanted, "{:?}", call.names);
+        assert_eq!(rt;
+            shown(alloc, call, Rotation::Names, "TEXTLINE")?.as_str(),
+            wanted
+        );
     }
     Ok(())
 }
 
-const FIRST: &[Read<'static>] = &[read("acc.log.1", 2, ONE)];
+const FIRST: [Read<'static>; 1] = [Read {
+    identity: "acc.log.1",
+    from: 0,
+    to: 2,
+    standing: ONE,
+}];
 
-const THIRD: &[Read<'static>] = &[
-    read("acc.log.2", 4, TWO),
-    read("acc.log.3", 2, ONE),
-    read("acc.log.30x", 9, ONE),
-    read("acc.log", 1, ONE),
+const THIRD: [Read<'static>; 4] = [
+    Read {
+        identity: "acc.log.2",
+        from: 0,
+        to: 4,
+        standing: TWO,
+    },
+    Read {
+        identity: "acc.log.3",
+        from: 0,
+        to: 2,
+        standing: ONE,
+    },
+    Read {
+        identity: "acc.log.30x",
+        from: 0,
+        to: 9,
+        standing: ONE,
+    },
+    Read {
+        identity: "acc.log",
+        from: 0,
+        to: 1,
+        standing: ONE,
+    },
 ];
 
-const MANY: &[Read<'static>] = &[
-    read("a.9", 1, ONE),
-    read("a.10", 1, ONE),
-    read("a.1.7", 1, ONE),
-    read("b.12", 1, ONE),
+const MANY: [Read<'static>; 4] = [
+    Read {
+        identity: "a.9",
+        from: 0,
+        to: 1,
+        standing: ONE,
+    },
+    Read {
+        identity: "a.10",
+        from: 0,
+        to: 1,
+        standing: ONE,
+    },
+    Read {
+        identity: "a.1.7",
+        from: 0,
+        to: 1,
+        standing: ONE,
+    },
+    Read {
+        identity: "b.12",
+        from: 0,
+        to: 1,
+        standing: ONE,
+    },
 ];
 
 // Under numbers: from the latest generation that the ledger knows, or else the oldest that is there, generation by
@@ -208,75 +253,140 @@ fn stems_are_read_generation_by_generation(rt: HostRuntime) -> Result<(), Fail> 
     let alloc = rt.alloc();
     let rows: [(Call, &str); 24] = [
         // Never rotated, and rotated twice since it was read.
-        (by_number(&[], &[("acc.log", "a\n")], &["acc.log"]), "acc.log acc.log.1 0-2 0 0;"),
-        (by_number(FIRST, &[("acc.log", "a\nb\n")], &["acc.log"]), "acc.log acc.log.1 2-4 1 0;"),
         (
-            by_number(
-                FIRST,
-                &[("acc.log.1", "a\nb\n"), ("acc.log.2", "c\n"), ("acc.log", "d\n")],
+            (&[], &[("acc.log", "a\n")], &["acc.log"]),
+            "acc.log acc.log.1 0-2 0 0;",
+        ),
+        (
+            (&FIRST, &[("acc.log", "a\nb\n")], &["acc.log"]),
+            "acc.log acc.log.1 2-4 1 0;",
+        ),
+        (
+            (
+                &FIRST,
+                &[
+                    ("acc.log.1", "a\nb\n"),
+                    ("acc.log.2", "c\n"),
+                    ("acc.log", "d\n"),
+                ],
                 &["acc.log"],
             ),
             "acc.log.1 acc.log.1 2-4 1 0;acc.log.2 acc.log.2 0-2 0 0;acc.log acc.log.3 0-2 0 0;",
         ),
         // What has to be read is gone, and what was passed may be.
         (
-            by_number(FIRST, &[("acc.log.2", "c\n"), ("acc.log", "d\n")], &["acc.log"]),
+            (
+                &FIRST,
+                &[("acc.log.2", "c\n"), ("acc.log", "d\n")],
+                &["acc.log"],
+            ),
             "lost log acc.log.1",
         ),
         (
-            by_number(THIRD, &[("acc.log.3", "c\n"), ("acc.log", "d\n")], &["acc.log"]),
+            (
+                &THIRD,
+                &[("acc.log.3", "c\n"), ("acc.log", "d\n")],
+                &["acc.log"],
+            ),
             "acc.log.3 acc.log.3 2-2 1 0;acc.log acc.log.4 0-2 0 0;",
         ),
-        (by_number(THIRD, &[("acc.log", "d\n")], &["acc.log"]), "acc.log acc.log.3 2-2 1 0;"),
         (
-            by_number(THIRD, &[("acc.log.1", "a"), ("acc.log", "d\n")], &["acc.log"]),
+            (&THIRD, &[("acc.log", "d\n")], &["acc.log"]),
+            "acc.log acc.log.3 2-2 1 0;",
+        ),
+        (
+            (
+                &THIRD,
+                &[("acc.log.1", "a"), ("acc.log", "d\n")],
+                &["acc.log"],
+            ),
             "acc.log acc.log.3 2-2 1 0;",
         ),
         // A gap, and the stem's own file missing.
         (
-            by_number(&[], &[("a.1", "x"), ("a.3", "x"), ("a", "x")], &["a"]),
+            (&[], &[("a.1", "x"), ("a.3", "x"), ("a", "x")], &["a"]),
             "lost log a.2",
         ),
-        (by_number(&[], &[("a.2", "x"), ("a.3", "")], &["a"]), "a.2 a.2 0-1 0 0;a.3 a.3 0-0 0 0;"),
-        (by_number(THIRD, &[("acc.log.2", "abcd")], &["acc.log"]), "lost log acc.log.3"),
-        (by_number(THIRD, &[], &["acc.log"]), "lost log acc.log.3"),
-        (by_number(THIRD, &[("acc.log.3", "abc")], &["acc.log"]), "acc.log.3 acc.log.3 2-3 1 0;"),
-        (by_number(&[], &[("b", "x")], &["a"]), "no such log a"),
+        (
+            (&[], &[("a.2", "x"), ("a.3", "")], &["a"]),
+            "a.2 a.2 0-1 0 0;a.3 a.3 0-0 0 0;",
+        ),
+        (
+            (&THIRD, &[("acc.log.2", "abcd")], &["acc.log"]),
+            "lost log acc.log.3",
+        ),
+        ((&THIRD, &[], &["acc.log"]), "lost log acc.log.3"),
+        (
+            (&THIRD, &[("acc.log.3", "abc")], &["acc.log"]),
+            "acc.log.3 acc.log.3 2-3 1 0;",
+        ),
+        ((&[], &[("b", "x")], &["a"]), "no such log a"),
         // Names that only look like those of generations.
         (
-            by_number(
+            (
                 &[],
-                &[("a", "x"), ("a.01", ""), ("a.1.gz", ""), ("a.+2", ""), ("a.0", ""), ("xa.1", "")],
+                &[
+                    ("a", "x"),
+                    ("a.01", ""),
+                    ("a.1.gz", ""),
+                    ("a.+2", ""),
+                    ("a.0", ""),
+                    ("xa.1", ""),
+                ],
                 &["a"],
             ),
             "a a.1 0-1 0 0;",
         ),
-        (by_number(&[], &[("a", "x"), ("a.9223372036854775808", "")], &["a"]), "a a.1 0-1 0 0;"),
+        (
+            (&[], &[("a", "x"), ("a.9223372036854775808", "")], &["a"]),
+            "a a.1 0-1 0 0;",
+        ),
         // The greatest number counts and not the last name, and only those of the stem.
-        (by_number(MANY, &[("a", "xyz")], &["a"]), "a a.10 1-3 1 0;"),
-        (by_number(MANY, &[("a.1", "xyz")], &["a.1"]), "a.1 a.1.7 1-3 1 0;"),
-        (by_number(MANY, &[("a.10", "x"), ("a", "yz")], &["a"]), "a.10 a.10 1-1 1 0;a a.11 0-2 0 0;"),
+        ((&MANY, &[("a", "xyz")], &["a"]), "a a.10 1-3 1 0;"),
+        ((&MANY, &[("a.1", "xyz")], &["a.1"]), "a.1 a.1.7 1-3 1 0;"),
+        (
+            (&MANY, &[("a.10", "x"), ("a", "yz")], &["a"]),
+            "a.10 a.10 1-1 1 0;a a.11 0-2 0 0;",
+        ),
         // Several stems, one of them twice; the first that can't be read is told.
         (
-            by_number(MANY, &[("a", "xy"), ("b", "x"), ("c", "z")], &["c", "a", "c", "b"]),
+            (
+                &MANY,
+                &[("a", "xy"), ("b", "x"), ("c", "z")],
+                &["c", "a", "c", "b"],
+            ),
             "c c.1 0-1 0 0;a a.10 1-2 1 0;b b.12 1-1 1 0;",
         ),
-        (by_number(MANY, &[("a", ""), ("b", "x")], &["a", "d"]), "a is 0 bytes, 1 were read"),
+        (
+            (&MANY, &[("a", ""), ("b", "x")], &["a", "d"]),
+            "a is 0 bytes, 1 were read",
+        ),
         // A file that is too short comes before a later one that is gone.
         (
-            by_number(FIRST, &[("acc.log.1", "a"), ("acc.log.3", "")], &["acc.log"]),
+            (
+                &FIRST,
+                &[("acc.log.1", "a"), ("acc.log.3", "")],
+                &["acc.log"],
+            ),
             "acc.log.1 is 1 bytes, 2 were read",
         ),
         (
-            by_number(FIRST, &[("acc.log.1", "ab"), ("acc.log.3", "")], &["acc.log"]),
+            (
+                &FIRST,
+                &[("acc.log.1", "ab"), ("acc.log.3", "")],
+                &["acc.log"],
+            ),
             "lost log acc.log.2",
         ),
         // Names that are no stems.
-        (by_number(&[], &[("a", "x")], &["a*", "x//y"]), "stars"),
-        (by_number(&[], &[("a", "x")], &["x//y", "a?"]), "bad name"),
+        ((&[], &[("a", "x")], &["a*", "x//y"]), "stars"),
+        ((&[], &[("a", "x")], &["x//y", "a?"]), "bad name"),
     ];
     for (call, wanted) in rows {
-        assert_eq!(rt; shown(alloc, call, "TEXTLINE")?.as_str(), wanted, "{:?} {:?}", call.names, call.files);
+        assert_eq!(rt;
+            shown(alloc, call, Rotation::Numbers, "TEXTLINE")?.as_str(),
+            wanted
+        );
     }
     Ok(())
 }
@@ -285,13 +395,35 @@ fn stems_are_read_generation_by_generation(rt: HostRuntime) -> Result<(), Fail> 
 #[test]
 fn another_input_text_is_told_first(rt: HostRuntime) -> Result<(), Fail> {
     let alloc = rt.alloc();
-    let missing = by_name(A3, &[], &["b.log"]);
-    assert_eq!(rt; shown(alloc, missing, "TEXTWORD")?.as_str(), "changed");
-    assert_eq!(rt; shown(alloc, missing, "TEXTLINE")?.as_str(), "no such log b.log");
-    let none = by_name(&[], &[], &["b.log"]);
-    assert_eq!(rt; shown(alloc, none, "TEXTWORD")?.as_str(), "no such log b.log");
-    let stars = by_number(A3, &[], &["b*"]);
-    assert_eq!(rt; shown(alloc, stars, "TEXTWORD")?.as_str(), "changed");
+    let rows: [(Call, Rotation, &str, &str); 4] = [
+        (
+            (&A3, &[], &["b.log"]),
+            Rotation::Names,
+            "TEXTWORD",
+            "changed",
+        ),
+        (
+            (&A3, &[], &["b.log"]),
+            Rotation::Names,
+            "TEXTLINE",
+            "no such log b.log",
+        ),
+        (
+            (&[], &[], &["b.log"]),
+            Rotation::Names,
+            "TEXTWORD",
+            "no such log b.log",
+        ),
+        (
+            (&A3, &[], &["b*"]),
+            Rotation::Numbers,
+            "TEXTWORD",
+            "changed",
+        ),
+    ];
+    for (call, rotation, format, wanted) in rows {
+        assert_eq!(rt; shown(alloc, call, rotation, format)?.as_str(), wanted);
+    }
     Ok(())
 }
 
@@ -302,7 +434,7 @@ fn each_call_of_the_logs_may_fail(rt: HostRuntime) -> Result<(), Fail> {
     let input = input_of(alloc, "TEXTLINE")?;
     for rotation in [Rotation::Names, Rotation::Numbers] {
         let sources = sources_of(alloc, &["a", "b"], rotation)?;
-        let positions = positions_of(alloc, FIRST)?;
+        let positions = positions_of(alloc, &FIRST)?;
         let mut failed: u64 = 0;
         for call in 0..20 {
             let mut logs = logs_with(alloc, &[("a", "x"), ("b", "x"), ("b.1", "y")])?;
