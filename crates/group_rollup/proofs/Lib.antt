@@ -1,0 +1,9 @@
+pub mod ColumnLemmas
+pub mod FirstsLemmas
+pub mod HandingLemmas
+pub mod Places
+pub mod RegroupLemmas
+pub mod RollupLemmas
+pub mod RoomLemmas
+pub mod TableLemmas
+pub mod TallyLemmas

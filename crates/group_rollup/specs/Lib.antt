@@ -1,0 +1,4 @@
+pub mod Columns
+pub mod Groups
+pub mod HandedOut
+pub mod Tables
