@@ -1,0 +1,4 @@
+pub mod Names
+pub mod Standing
+pub mod Distinct
+pub mod Splits
