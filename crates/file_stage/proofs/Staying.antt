@@ -1,7 +1,8 @@
 -- What a write and a cut leave of texts.
-use Rattle.std.proofs.Common.{◌≡◌, ℕ, zero, suc, ◌+◌, ◌-◌, ◌≤◌, ◌<◌, List, ◌++◌, length, take, drop, replicate, refl, sym, ◌∙◌, ap, subst, arith, length-append, take-append-drop}
+use Rattle.std.proofs.Common.{◌≡◌, ◌≢◌, ⊎_elim, ℕ, zero, suc, ◌+◌, ◌-◌, ◌≤◌, ◌<◌, List, ◌++◌, length, take, drop, replicate, refl, sym, ◌∙◌, ap, subst, arith, length-append, take-append-drop}
 use Rattle.std.proofs.lemmas.List.{take-take, length-take, take_at, take_all, drop-take, drop-append-le, take-append-le, length-drop}
 use Rattle.disk_model.specs.Disk.{DiskState, Shows, At, Nothing, Torn, Shortened, overwritten, start_of}
+use Rattle.disk_model.proofs.DiskSteps.{same_or_not}
 use Rattle.disk_changes.specs.Changes.{KeepsFront}
 use Rattle.disk_changes.proofs.Fronts.{filled, torn_keeps, cut_keeps, KeepsFront-joins}
 use Rattle.file_stage.specs.FileTexts.{IsThere}
@@ -89,3 +90,36 @@ pub whole_file : (old new : List ℕ) (base size : ℕ) (text : List ℕ) → ba
 whole_file old new base size text within keeps there short =
     let all : drop base new ≡ text = sym (take_all size (drop base new) (omega (arith, short, length-drop base new))) ∙ sym there.same in
     sym (take-append-drop base new) ∙ ap (λ (l : List ℕ). l ++ drop base new) (keeps within).1 ∙ ap (λ (l : List ℕ). take base old ++ l) all
+
+-- a text of a file stays where the bytes up to its end do
+front_text : (old new : List ℕ) (base start size : ℕ) (text : List ℕ) → start + size ≤ base → (start + size ≤ length old → KeepsFront (start + size) old new) → IsThere old start size text → IsThere new start size text
+front_text old new base start zero text le keeps there = record { whole = there.whole; same = there.same }
+front_text old new base start (suc n) text le keeps there =
+    let long : start + suc n ≤ length old = reaches old start (suc n) text there (omega arith) in
+    let kept : take (start + suc n) new ≡ take (start + suc n) old = (keeps long long).1 in
+    record { whole = there.whole; same = there.same ∙ sym (drop-take start (suc n) old) ∙ ap (drop start) (sym kept) ∙ drop-take start (suc n) new }
+
+-- a write from the base on leaves the texts before it, in each file
+pub write_leaves_fronts : (old new : DiskState) (called : List ℕ) (base place to : ℕ) → base ≤ place → Shows (At called (Torn (start_of (old.seen called) place) to)) old new
+    → (name : List ℕ) (start size : ℕ) (text : List ℕ) → start + size ≤ base → IsThere (old.seen name) start size text → IsThere (new.seen name) start size text
+write_leaves_fronts old new called base place to le shows name start size text before there = ⊎_elim here away (same_or_not name called)
+  where
+    here : name ≡ called → IsThere (new.seen name) start size text
+    here is =
+        let same : length (old.seen called) ≡ length (old.seen name) = ap (λ (n : List ℕ). length (old.seen n)) (sym is) in
+        front_text (old.seen name) (new.seen name) base start size text before
+        (λ long. torn_keeps (start + size) (start_of (old.seen called) place) to (old.seen name) (new.seen name) (omega (arith, le, before, long, same)) ((shows.seen name).here is)) there
+
+    away : name ≢ called → IsThere (new.seen name) start size text
+    away off = subst (λ (l : List ℕ). IsThere l start size text) (sym ((shows.seen name).elsewhere off)) there
+
+-- and so does a cut behind it
+pub cut_leaves_fronts : (old new : DiskState) (called : List ℕ) (base to : ℕ) → base ≤ to → Shows (At called (Shortened to)) old new
+    → (name : List ℕ) (start size : ℕ) (text : List ℕ) → start + size ≤ base → IsThere (old.seen name) start size text → IsThere (new.seen name) start size text
+cut_leaves_fronts old new called base to le shows name start size text before there = ⊎_elim here away (same_or_not name called)
+  where
+    here : name ≡ called → IsThere (new.seen name) start size text
+    here is = cut_leaves (old.seen name) (new.seen name) start size to text (omega (arith, le, before)) ((shows.seen name).here is) there
+
+    away : name ≢ called → IsThere (new.seen name) start size text
+    away off = subst (λ (l : List ℕ). IsThere l start size text) (sym ((shows.seen name).elsewhere off)) there

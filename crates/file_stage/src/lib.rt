@@ -6,8 +6,10 @@
 //! holds behind the bytes that it held. `specs` has the definitions.
 #![tactic(auto)]
 
+mod laws;
 mod putting;
 mod writing;
 
+pub use laws::files_hold_texts;
 pub use putting::FileStage;
 pub use writing::write_file;

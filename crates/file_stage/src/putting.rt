@@ -1,11 +1,11 @@
 // Files of a disk as a stage.
 ghost use Rattle.std.specs.Prelude.{◌≡◌, ◌≤◌, ◌+◌, ◌%◌, ◌^◌, ℕ, List, take, length, OnOk, OnErr, IfOk, IsSomeAnd};
-ghost use Rattle.disk_model.specs.Disk.{Shows, At, Nothing};
+ghost use Rattle.disk_model.specs.Disk.{Shows, At, Nothing, Shortened};
 ghost use Rattle.disk_changes.specs.Changes.{KeepsFront};
 ghost use Rattle.lp_model.specs.Outside.{HasCause, Told, GainsSome};
 ghost use Rattle.lp_outside.specs.declared.stage.Mark.{Mark};
 ghost use Rattle.lp_outside.specs.Stages.{KeepsAll, KeepsClosed};
-ghost use Rattle.lp_outside.specs.Gained.{Gained, SparesOthers, SparesLengths, KeepsLengths, SparesEnded, KeepsEnded};
+ghost use Rattle.lp_outside.specs.Gained.{Gained, SparesOthers, SparesFronts, SparesLengths, KeepsLengths, SparesEnded, KeepsEnded};
 
 use lp_outside::{Disk, DiskFailed, Mark, Name, Stage, StageFailed};
 
@@ -74,6 +74,7 @@ impl<'d, D: Disk> Stage for FileStage<'d, D> {
         ensures front { OnErr result (GainsSome (file_state D.state self.old).written (file_state D.state self.new).written bytes.now) }
         ensures taken { OnErr result (Told (file_state D.state self.old).taken (λ before. IsSomeAnd (file_state D.state self.new).taken (λ now. before ≤ now))) }
         ensures others { SparesOthers output name.now (file_state D.state self.old) (file_state D.state self.new) }
+        ensures fronts { SparesFronts base (file_state D.state self.old) (file_state D.state self.new) }
         ensures lengths { SparesLengths name.now (file_state D.state self.old) (file_state D.state self.new) }
         ensures ended { SparesEnded (EndsBy D.state) name.now self.old self.new }
         ensures cause { HasCause (D.faults self.old.disk.now) (D.faults self.new.disk.now) result }
@@ -95,6 +96,7 @@ impl<'d, D: Disk> Stage for FileStage<'d, D> {
         ensures goes { Goes D.state self.old self.new }
         ensures kept { (file_state D.state self.old).tells → KeepsClosed name.now base mark.now (file_state D.state self.old) (file_state D.state self.new) }
         ensures tells { OnOk result ((file_state D.state self.old).tells → (file_state D.state self.new).tells) }
+        ensures fronts { SparesFronts base (file_state D.state self.old) (file_state D.state self.new) }
         ensures lengths { SparesLengths name.now (file_state D.state self.old) (file_state D.state self.new) }
         ensures ended { SparesEnded (EndsBy D.state) name.now self.old self.new }
         ensures closed { OnOk result (EndsBy D.state self.new name.now base mark.now) }
@@ -103,12 +105,7 @@ impl<'d, D: Disk> Stage for FileStage<'d, D> {
         // No other file changes, and no byte before the base, at a refusal too.
         ensures changes { (disk_of D.state self.old).tells → Shows (At name.now (KeepsFront base)) (disk_of D.state self.old) (disk_of D.state self.new) }
     {
-        let done = match base.checked_add(mark.length) {
-            Some(end) => self.disk.cut(name, end),
-            // No file is so long; only its length has to be asked for.
-            None => length_only(self.disk, name),
-        };
-        match done {
+        match cut_behind(self.disk, name, base, mark) {
             Ok(()) => Ok(()),
             Err(_) => Err(StageFailed),
         }
@@ -123,13 +120,18 @@ impl<'d, D: Disk> Stage for FileStage<'d, D> {
     ghost one = { λ stage tells output name base mark text other a b. one_text ((disk_of D.state stage).seen name) base mark.length text other a b };
 }
 
-// Asks for a file's length alone.
-fn length_only<D: Disk>(disk: &mut D, name: &Name) -> Result<(), DiskFailed>
-    ensures shows { (D.state disk.old).tells → Shows Nothing (D.state disk.old) (D.state disk.new) }
+// Cuts a file where a text ends. No file reaches a place past the end of its type; only its length has to be asked for then.
+fn cut_behind<D: Disk>(disk: &mut D, name: &Name, base: u64, mark: &Mark) -> Result<(), DiskFailed>
+    ensures shows { (D.state disk.old).tells → Shows (At name.now (Shortened (base + mark.now.length))) (D.state disk.old) (D.state disk.new) }
     ensures honest { (D.state disk.old).honest → (D.state disk.new).honest }
-    ensures bound { OnOk result ((D.state disk.old).tells → length ((D.state disk.old).seen name.now) ≤ 2 ^ 62) }
+    ensures ends { OnOk result ((D.state disk.old).tells → length ((D.state disk.new).seen name.now) ≤ base + mark.now.length) }
     ensures cause { HasCause (D.faults disk.old) (D.faults disk.new) result }
 {
-    disk.length(name)?;
-    Ok(())
+    match base.checked_add(mark.length) {
+        Some(end) => disk.cut(name, end),
+        None => {
+            disk.length(name)?;
+            Ok(())
+        }
+    }
 }

@@ -32,6 +32,11 @@ abbrev pub SparesOthers : ℕ → List ℕ → StageState → StageState → Typ
 SparesOthers index called before now = before.tells → (output : ℕ) (name : List ℕ) (base : ℕ) (mark : Mark) (text : List ℕ) → output ≢ index → name ≢ called
     → before.is_text output name base mark text → now.is_text output name base mark text
 
+-- the texts of files that end at a base or before it stay
+abbrev pub SparesFronts : ℕ → StageState → StageState → Type 0
+SparesFronts base before now = before.tells → (output : ℕ) (name : List ℕ) (start : ℕ) (mark : Mark) (text : List ℕ) → start + mark.length ≤ base
+    → before.is_text output name start mark text → now.is_text output name start mark text
+
 -- the lengths of all other outputs' files stay
 abbrev pub SparesLengths : List ℕ → StageState → StageState → Type 0
 SparesLengths called before now = before.tells → (name : List ℕ) (bytes : ℕ) → name ≢ called → (before.is_length name bytes → now.is_length name bytes) × (now.is_length name bytes → before.is_length name bytes)

@@ -3,7 +3,7 @@ ghost use Rattle.std.specs.Prelude.{◌≡◌, ◌≢◌, ◌+◌, ◌<◌, ◌�
 ghost use Rattle.lp_model.specs.Outside.{HasCause};
 ghost use Rattle.lp_outside.specs.declared.stage.Mark.{Mark};
 ghost use Rattle.lp_outside.specs.Stages.{no_mark};
-ghost use Rattle.lp_outside.specs.Gained.{Gained, GainedSome, HasText, SparesOthers, SparesLengths, SparesEnded};
+ghost use Rattle.lp_outside.specs.Gained.{Gained, GainedSome, HasText, SparesOthers, SparesFronts, SparesLengths, SparesEnded};
 
 use crate::{Mark, Name, Stage, StageFailed};
 
@@ -30,6 +30,7 @@ pub fn place_text<G: Stage>(
     ensures ended { IfOk result (λ placed. G.ended stage.new name.now placed.base placed.mark) }
     ensures others_ended { SparesEnded G.ended name.now stage.old stage.new }
     ensures others { IfOk result (λ placed. SparesOthers output name.now (G.state stage.old) (G.state stage.new)) }
+    ensures fronts { IfOk result (λ placed. SparesFronts placed.base (G.state stage.old) (G.state stage.new)) }
     ensures lengths { SparesLengths name.now (G.state stage.old) (G.state stage.new) }
     ensures front { OnErr result (GainedSome name.now text.now (G.state stage.old) (G.state stage.new)) }
     ensures cause { HasCause (G.faults stage.old) (G.faults stage.new) result }

@@ -3,7 +3,7 @@ ghost use Rattle.std.specs.Prelude.{◌≡◌, ◌+◌, ◌%◌, ◌^◌, ◌≤
 ghost use Rattle.lp_model.specs.Outside.{HasCause, Told, GainsSome};
 ghost use Rattle.lp_outside.specs.declared.stage.Mark.{Mark};
 ghost use Rattle.lp_outside.specs.Stages.{StageState, no_mark, KeepsAll, KeepsClosed};
-ghost use Rattle.lp_outside.specs.Gained.{Gained, SparesOthers, SparesLengths, KeepsLengths, SparesEnded, KeepsEnded};
+ghost use Rattle.lp_outside.specs.Gained.{Gained, SparesOthers, SparesFronts, SparesLengths, KeepsLengths, SparesEnded, KeepsEnded};
 
 use crate::Name;
 use thiserror::Error;
@@ -78,6 +78,7 @@ pub trait Stage {
         ensures front { OnErr result (GainsSome (state self.old).written (state self.new).written bytes.now) }
         ensures taken { OnErr result (Told (state self.old).taken (λ before. IsSomeAnd (state self.new).taken (λ now. before ≤ now))) }
         ensures others { SparesOthers output name.now (state self.old) (state self.new) }
+        ensures fronts { SparesFronts base (state self.old) (state self.new) }
         ensures lengths { SparesLengths name.now (state self.old) (state self.new) }
         ensures ended { SparesEnded ended name.now self.old self.new }
         ensures cause { HasCause (faults self.old) (faults self.new) result };
@@ -87,6 +88,7 @@ pub trait Stage {
         ensures goes { goes self.old self.new }
         ensures kept { (state self.old).tells → KeepsClosed name.now base mark.now (state self.old) (state self.new) }
         ensures tells { OnOk result ((state self.old).tells → (state self.new).tells) }
+        ensures fronts { SparesFronts base (state self.old) (state self.new) }
         ensures written { (state self.new).written ≡ (state self.old).written }
         ensures taken { (state self.new).taken ≡ (state self.old).taken }
         ensures lengths { SparesLengths name.now (state self.old) (state self.new) }

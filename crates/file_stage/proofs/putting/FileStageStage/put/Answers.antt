@@ -1,6 +1,6 @@
 use Rattle.std.proofs.Common.{◌≡◌, ◌+◌, ◌%◌, ◌^◌, ℕ, List, length, take, drop, refl, sym, ◌∙◌, ap, arith}
 use Rattle.disk_model.specs.Disk.{overwritten}
-use Rattle.file_stage.proofs.Staying.{overwrite_behind, write_keeps_front}
+use Rattle.file_stage.proofs.Staying.{overwrite_behind, write_keeps_front, write_leaves_fronts}
 use Rattle.file_stage.proofs.putting.FileStageStage.put.Goals as goal
 
 pub returns-in-Ok-clause-gained : goal.returns-in-Ok-clause-gained
@@ -29,3 +29,9 @@ returns-in-Ok-clause-changes g c = λ tells. write_keeps_front _ _ c.args.name.n
 
 pub returns-in-Err-clause-changes : goal.returns-in-Err-clause-changes
 returns-in-Err-clause-changes g c = λ tells. write_keeps_front _ _ c.args.name.now c.args.base c.saturating_add-place.result _ (omega (arith, c.saturating_add-place.ensures, c.ranges.base)) (c.write_at.ensures.shows tells)
+
+pub returns-in-Ok-clause-fronts : goal.returns-in-Ok-clause-fronts
+returns-in-Ok-clause-fronts g c = λ tells output name start mark text before there. write_leaves_fronts _ _ c.args.name.now c.args.base c.saturating_add-place.result _ (omega (arith, c.saturating_add-place.ensures, c.ranges.base)) (c.write_at.ensures.shows tells) name start mark.length text before there
+
+pub returns-in-Err-clause-fronts : goal.returns-in-Err-clause-fronts
+returns-in-Err-clause-fronts g c = λ tells output name start mark text before there. write_leaves_fronts _ _ c.args.name.now c.args.base c.saturating_add-place.result _ (omega (arith, c.saturating_add-place.ensures, c.ranges.base)) (c.write_at.ensures.shows tells) name start mark.length text before there
