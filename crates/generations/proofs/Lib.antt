@@ -2,4 +2,3 @@ pub mod Numbers
 pub mod Sets
 pub mod Patterns
 pub mod Rotated
-pub mod Live

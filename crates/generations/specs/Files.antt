@@ -1,28 +1,16 @@
 -- The files of a stem, as the code has them.
-use Rattle.std.specs.Prelude.{◌≡◌, ◌⊎◌, ℕ, ◌<◌, Bool, true, false, List, [], ◌∷◌, Option, Some, None, IsSome}
+use Rattle.std.specs.Prelude.{◌≡◌, ℕ, Bool, true, false, List, [], ◌∷◌, Option, Some, None, IsSome}
 use Rattle.std.specs.BTreeSet.{BTreeSet}
 use Rattle.lp_model.specs.Outside.{Folder}
 use Rattle.ledger_model.specs.Entries.{Entry}
 use Rattle.run_model.specs.Kept.{Knows}
 use Rattle.generations.specs.Ranges.{IsLeast}
-use Rattle.std.specs.Bool.{⊤}
-use Rattle.lp_outside.specs.NameFault.{name_fault}
 use Rattle.run_model.specs.Logs.{generation_name}
-use Rattle.run_model.specs.Listed.{Listed, IsGreatest, IsThereAt}
+use Rattle.run_model.specs.Listed.{Listed, IsGreatest}
 use Rattle.generations.specs.declared.listing.ListedFile.{ListedFile}
-use Rattle.generations.specs.declared.listing.StemFault.{StemFault}
-use Rattle.generations.specs.declared.listing.StemFault.TheVariants as F
 
 abbrev pub listed_of : ListedFile → Listed
 listed_of file = record { name = file.name; identity = file.identity }
-
--- some generation of the stem has no name that a file may have
-abbrev pub IsUnnamed : List ℕ → StemFault → Type 0
-IsUnnamed stem (F.BadName fault) = (number : ℕ) × (name_fault (generation_name stem number) ≡ Some fault)
-IsUnnamed stem F.NoSuchLog = ⊥
-IsUnnamed stem (F.LostLog number) = ⊥
-IsUnnamed stem F.Logs = ⊥
-IsUnnamed stem F.Memory = ⊤
 
 -- the greatest generation of a stem that the entries know, or none
 abbrev pub IsKnownAs : List Entry → List ℕ → Option ℕ → Type 0
@@ -43,16 +31,3 @@ IsLiveAs folder stem true = IsSome (folder stem)
 abbrev pub live_part : Bool → List ℕ → ℕ → List Listed
 live_part false stem number = []
 live_part true stem number = record { name = stem; identity = generation_name stem number } ∷ []
-
--- a generation is gone: one of the range, or the known one where its file isn't there under either name
-pub record IsLost (folder : Folder) (stem : List ℕ) (known : Option ℕ) (number : ℕ) : Type 0 where
-  pub gone : IsThereAt folder stem number → ⊥
-  pub wanted : ((later : ℕ) × (number < later) × IsThereAt folder stem later) ⊎ ((known ≡ Some number) × (folder stem ≡ None))
-
--- why the files of a stem aren't listed
-abbrev pub IsRefusedStem : Folder → List ℕ → Option ℕ → StemFault → Type 0
-IsRefusedStem folder stem known (F.BadName fault) = ⊤
-IsRefusedStem folder stem known F.NoSuchLog = (known ≡ None) × (folder stem ≡ None) × ((number : ℕ) → IsThereAt folder stem number → ⊥)
-IsRefusedStem folder stem known (F.LostLog number) = IsLost folder stem known number
-IsRefusedStem folder stem known F.Logs = ⊤
-IsRefusedStem folder stem known F.Memory = ⊤

@@ -1,5 +1,5 @@
 -- The range of a stem's rotated files.
-use Rattle.std.specs.Prelude.{◌≡◌, ◌⊎◌, ℕ, ◌<◌, ◌≤◌, true, false}
+use Rattle.std.specs.Prelude.{◌≡◌, ◌⊎◌, ℕ, ◌<◌, ◌≤◌, true}
 use Rattle.std.specs.BTreeSet.{BTreeSet, contains}
 use Rattle.std.specs.Ordering.{nat_cmp}
 
@@ -19,10 +19,3 @@ pub record IsLeast (numbers : BTreeSet ℕ) (number : ℕ) : Type 0 where
 -- all from one up to another are among them
 abbrev pub HasAll : BTreeSet ℕ → ℕ → ℕ → Type 0
 HasAll numbers first last = (number : ℕ) → first ≤ number → number ≤ last → Has numbers number
-
--- this is the first one from there up to another that isn't
-pub record IsMissing (numbers : BTreeSet ℕ) (first last number : ℕ) : Type 0 where
-  pub low : first ≤ number
-  pub high : number ≤ last
-  pub missing : contains nat_cmp numbers number ≡ false
-  pub before : (other : ℕ) → first ≤ other → other < number → Has numbers other

@@ -1,8 +1,9 @@
 // The range of a stem's rotated files.
-ghost use Rattle.std.specs.Prelude.{◌<◌, ◌≤◌, ◌^◌, MatchOption};
+ghost use Rattle.std.specs.Prelude.{◌<◌};
 ghost use Rattle.lp_outside.specs.NameFault.{IsRead};
 ghost use Rattle.run_model.specs.Logs.{generation_name};
-ghost use Rattle.generations.specs.Ranges.{IsLast, IsLeast, HasAll, IsMissing};
+ghost use Rattle.generations.specs.Ranges.{IsLast, IsLeast};
+ghost use Rattle.generations.specs.Files.{IsFirstOf};
 
 use crate::Numbers;
 use arrayvec::ArrayString;
@@ -46,15 +47,12 @@ pub fn least_of(numbers: &Numbers) -> u64
     }
 }
 
-/// The first number from one up to another that isn't there.
-pub fn missing_from(numbers: &Numbers, first: u64, last: u64) -> Option<u64>
-    requires small { last < 2 ^ 63 }
-    ensures { MatchOption result (HasAll numbers.now first last) (IsMissing numbers.now first last) }
+/// The first generation to read.
+pub fn first_of(numbers: &Numbers, known: Option<u64>) -> u64
+    ensures { IsFirstOf numbers.now known result }
 {
-    for number in first..last + 1 {
-        if !numbers.contains(&number) {
-            return Some(number);
-        }
+    match known {
+        Some(number) => number,
+        None => least_of(numbers),
     }
-    None
 }

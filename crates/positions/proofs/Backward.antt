@@ -1,10 +1,9 @@
 -- What logs tell of their files at the end of a call they told at its start.
-use Rattle.std.proofs.Common.{◌≡◌, ℕ, Bool, true, false, List, [], ◌∷◌, Option, Some, None, IsSome, IsSomeAnd, MatchOption, refl}
-use Rattle.std.specs.List.{AllZip}
+use Rattle.std.proofs.Common.{◌≡◌, ℕ, Bool, true, false, List, [], Option, Some, None, IsSome, refl}
 use Rattle.std.specs.BTreeSet.{BTreeSet}
 use Rattle.std.proofs.lemmas.Bool.{false≢true}
-use Rattle.lp_model.specs.Outside.{Folder, Begins, Grows, OnlyGrow, Told}
-use Rattle.lp_model.proofs.Growing.{Kept, there_still, gone_still}
+use Rattle.lp_model.specs.Outside.{Folder, Grows, OnlyGrow, Told}
+use Rattle.lp_model.proofs.Growing.{Kept, there_still}
 use Rattle.lp_outside.specs.Matching.{AreMatches}
 use Rattle.log_listing.specs.Listed.{Gives, Adds, IsMissing}
 use Rattle.run_model.specs.Logs.{generation_name}
@@ -56,9 +55,9 @@ missing_back before now text name grow m = record {
 pub there_back : (before now : Option Folder) (stem : List ℕ) (numbers : BTreeSet ℕ) → OnlyGrow before now → Told now (λ folder. AreThere folder stem numbers) → Told before (λ folder. AreThere folder stem numbers)
 there_back before now stem numbers grow there = told_back before now (λ folder. AreThere folder stem numbers)
     (λ x y grows are number. (
-    (λ has. let at = (are number).0 has in (at.0, at.1, was_there (x (generation_name stem number)) (y (generation_name stem number)) (grows (generation_name stem number)) at.2)),
-    (λ at. (are number).1 (at.0, at.1, there_still (x (generation_name stem number)) (y (generation_name stem number)) (grows (generation_name stem number)) at.2)),
-  )) grow there
+      (λ has. let at = (are number).0 has in (at.0, at.1, was_there (x (generation_name stem number)) (y (generation_name stem number)) (grows (generation_name stem number)) at.2)),
+      (λ at. (are number).1 (at.0, at.1, there_still (x (generation_name stem number)) (y (generation_name stem number)) (grows (generation_name stem number)) at.2)),
+    )) grow there
 
 live_at : (x y : Folder) (stem : List ℕ) (live : Bool) → Grows x y → IsLiveAs y stem live → IsLiveAs x stem live
 live_at x y stem true grow is = was_there (x stem) (y stem) (grow stem) is

@@ -1,8 +1,7 @@
 -- The generations that kept places know.
-use Rattle.std.proofs.Common.{◌≡◌, ◌≢◌, ◌⊎◌, ℕ, ◌+◌, ◌<◌, ◌≤◌, Bool, true, false, List, [], ◌∷◌, ◌++◌, length, map, filter, cond, Contains, All, Option, Some, None, IsSome, IfSome, is_some, refl, sym, ◌∙◌, ap, subst, inl, inr, ⊎_elim, arith, append_assoc}
-use Rattle.std.specs.Prelude.{if◌then◌else◌, bytes_eq}
-use Rattle.std.specs.BTreeMap.{BTreeMap, is_at, get}
-use Rattle.std.specs.BTreeMap.Range.{range_contains, entries_between, IsInRange, IsRangeOf, IsEntryInRange}
+use Rattle.std.proofs.Common.{◌≡◌, ◌≢◌, ℕ, ◌+◌, ◌<◌, ◌≤◌, true, List, [], ◌∷◌, ◌++◌, map, All, Option, Some, None, IsSome, IfSome, is_some, refl, sym, ◌∙◌, ap, subst, arith, append_assoc}
+use Rattle.std.specs.BTreeMap.{BTreeMap, is_at}
+use Rattle.std.specs.BTreeMap.Range.{range_contains, entries_between, IsInRange, IsEntryInRange}
 use Rattle.std.specs.declared.ops.Bound.TheVariants.{Included, Excluded}
 use Rattle.std.specs.Map.{lookup}
 use Rattle.std.specs.Ordering.{nat_cmp, is_eq, is_gt, ordering_then}
@@ -18,7 +17,6 @@ use Rattle.std.proofs.lemmas.Map.Views.{Contains-from_lookup, range_contains-fro
 use Rattle.std.proofs.lemmas.Map.Text.{is_eq-slice_cmp}
 use Rattle.std.proofs.lemmas.Slice.Eq.{bytes_eq-Decides}
 use Rattle.run_model.specs.Logs.{number_text, generation_name}
-use Rattle.generations.specs.Numbers.{IsIdentityOf}
 use Rattle.positions.specs.declared.place.Place.{Place}
 use Rattle.positions.specs.Places.{Places, place_in}
 use Rattle.positions.specs.Places.{joined as joined_place}

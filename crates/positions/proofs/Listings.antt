@@ -1,6 +1,6 @@
 -- What is read of all texts.
-use Rattle.std.proofs.Common.{◌≡◌, ◌≢◌, ◌⊎◌, ℕ, ◌+◌, ◌<◌, ◌≤◌, max, Bool, true, false, not, cond, List, [], ◌∷◌, ◌++◌, length, take, drop, get_or, map, Option, Some, None, Result, Ok, Err, IfOk, IfErr, IsSome, is_some, refl, sym, ◌∙◌, ap, subst, inl, inr, ⊎_elim, arith, append_assoc}
-use Rattle.std.specs.Prelude.{if◌then◌else◌, bytes_eq}
+use Rattle.std.proofs.Common.{◌≡◌, ◌⊎◌, ℕ, ◌+◌, ◌<◌, ◌≤◌, Bool, true, false, not, cond, List, [], ◌∷◌, ◌++◌, length, take, drop, get_or, map, Option, Some, None, Result, Ok, Err, IfOk, IfErr, IsSome, refl, sym, ◌∙◌, ap, subst, inl, inr, ⊎_elim, append_assoc}
+use Rattle.std.specs.Prelude.{if◌then◌else◌}
 use Rattle.std.specs.List.{AllZip, AllByRecursion}
 use Rattle.std.specs.BTreeSet.{BTreeSet, contains}
 use Rattle.std.specs.Ordering.{nat_cmp, is_eq}
@@ -26,14 +26,14 @@ use Rattle.log_reading.specs.declared.span.Span.{Span}
 use Rattle.positions.specs.declared.place.Place.{Place}
 use Rattle.positions.specs.declared.spans.SpanFault.{SpanFault}
 use Rattle.positions.specs.declared.spans.SpanFault.TheVariants as F
-use Rattle.positions.specs.Places.{Places, Kept, Keeps, last_from, last_of, IsPlaceOf, IsEndOf, place_in, Remembers}
+use Rattle.positions.specs.Places.{Places, Kept, last_from, last_of, IsPlaceOf, place_in}
 use Rattle.positions.specs.Spans.{IsSpanOf, AddsSpans, Agrees}
-use Rattle.positions.specs.Spanning.{plain_file, IsStem, KnowsNumbers, AreOf, AreSpansOf, StopsName, StopsStem, Stops, IsStopped, IsJudged}
-use Rattle.positions.specs.SpanSteps.{identities_of, ArePlain, AddsPlain, StopsNames, IsKept, IsKnownIn, Tells, AddsStem, AreStemSpans, AddsText, StopsStems, IsOther}
-use Rattle.positions.proofs.Adding.{all_later, one_more}
+use Rattle.positions.specs.Spanning.{plain_file, IsStem, AreOf, AreSpansOf, StopsName, StopsStem, Stops, IsStopped, IsJudged}
+use Rattle.positions.specs.SpanSteps.{identities_of, ArePlain, StopsNames, IsKept, IsKnownIn, Tells, AddsStem, AreStemSpans, AddsText, StopsStems, IsOther}
+use Rattle.positions.proofs.Adding.{all_later}
 use Rattle.positions.proofs.Backward.{adds_back}
 use Rattle.positions.proofs.PlainSpans.{plain_zip, plain_later}
-use Rattle.positions.proofs.StemSpans.{zip_append, adds_then}
+use Rattle.positions.proofs.StemSpans.{adds_then}
 
 told_all : {T : Type 0} (told : Option T) (P : T → Type 0) → ((x : T) → P x) → Told told P
 told_all None P all = tt

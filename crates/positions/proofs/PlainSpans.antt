@@ -1,7 +1,7 @@
 -- Spans of logs that are told apart by their names.
-use Rattle.std.proofs.Common.{◌≡◌, ℕ, ◌<◌, ◌≤◌, ◌+◌, Bool, true, false, List, [], ◌∷◌, ◌++◌, length, take, drop, get_or, map, Option, Some, None, IsSome, Contains, refl, sym, ◌∙◌, ap, subst, inl, inr, arith}
-use Rattle.std.specs.List.{AllZip, AllByRecursion}
-use Rattle.std.proofs.lemmas.List.{map-append, take-append-drop, drop_more, append-nil}
+use Rattle.std.proofs.Common.{◌≡◌, ℕ, ◌<◌, ◌+◌, false, List, [], ◌∷◌, ◌++◌, length, take, drop, get_or, map, Option, Some, None, IsSome, Contains, refl, sym, ◌∙◌, ap, subst, inr, arith}
+use Rattle.std.specs.List.{AllZip}
+use Rattle.std.proofs.lemmas.List.{map-append, take-append-drop, drop_more}
 use Rattle.std.proofs.lemmas.List.Elements.{Contains-append_right}
 use Rattle.std.proofs.lemmas.List.Sums.{fold_more}
 use Rattle.lp_model.specs.Outside.{Folder, OnlyGrow, Told}
@@ -10,8 +10,7 @@ use Rattle.lp_outside.specs.Matching.{AreMatches}
 use Rattle.lp_outside.specs.NameFault.{name_fault}
 use Rattle.run_model.specs.Listed.{Listed}
 use Rattle.log_listing.specs.Firsts.{with_name, with_names, is_among}
-use Rattle.log_listing.specs.Listed.{Gives, Lists, Adds, IsMissing, most_logs}
-use Rattle.log_listing.proofs.FirstNames.{with_name-new}
+use Rattle.log_listing.specs.Listed.{Gives, IsMissing}
 use Rattle.log_reading.specs.declared.span.Span.{Span}
 use Rattle.positions.specs.declared.spans.SpanFault.{SpanFault}
 use Rattle.positions.specs.declared.spans.SpanFault.TheVariants as F

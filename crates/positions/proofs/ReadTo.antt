@@ -1,15 +1,14 @@
 -- Spans that were read are those of the files that are listed.
-use Rattle.std.proofs.Common.{◌≡◌, ℕ, max, List, [], ◌∷◌, take, Option, Some, None, refl, sym, ◌∙◌, ap, subst}
+use Rattle.std.proofs.Common.{ℕ, max, List, [], ◌∷◌, take, Some, sym, ◌∙◌, ap, subst}
 use Rattle.std.specs.List.{AllZip}
 use Rattle.lp_model.specs.Outside.{Folder, bytes_in}
 use Rattle.ledger_model.specs.Entries.{Entry}
 use Rattle.ledger_model.specs.Entries.{Span as EntrySpan}
 use Rattle.run_model.specs.Logs.{Rotation, IsLastEnd}
-use Rattle.run_model.specs.Kept.{kept_place}
 use Rattle.run_model.specs.Listed.{Listed, IsReadTo, AreListed}
 use Rattle.log_reading.specs.declared.span.Span.{Span}
-use Rattle.positions.specs.Places.{Places, Kept, Keeps, place_in}
-use Rattle.positions.specs.Spans.{start_of, IsSpanOf}
+use Rattle.positions.specs.Places.{Kept, Keeps}
+use Rattle.positions.specs.Spans.{IsSpanOf}
 use Rattle.positions.specs.Spanning.{AreOf, AreSpansOf}
 use Rattle.positions.specs.Listing.{IsTaken}
 use Rattle.positions.proofs.KeptPlaces.{place_kept}

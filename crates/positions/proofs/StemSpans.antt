@@ -1,15 +1,14 @@
 -- Spans of the files of stems.
-use Rattle.std.proofs.Common.{◌≡◌, ◌⊎◌, ℕ, zero, suc, ◌+◌, ◌-◌, ◌<◌, ◌≤◌, max, Bool, true, false, List, [], ◌∷◌, ◌++◌, length, take, drop, get_or, map, Option, Some, None, IsSome, is_some, refl, sym, ◌∙◌, ap, subst, inl, inr, ⊎_elim, arith, append_assoc, length-append}
-use Rattle.std.specs.List.{AllZip, AllByRecursion}
+use Rattle.std.proofs.Common.{◌≡◌, ◌⊎◌, ℕ, zero, suc, ◌+◌, ◌-◌, ◌<◌, ◌≤◌, max, Bool, true, false, List, [], ◌∷◌, ◌++◌, length, Option, Some, None, IsSome, is_some, refl, sym, ◌∙◌, ap, subst, inl, inr, ⊎_elim, arith, append_assoc, length-append}
+use Rattle.std.specs.List.{AllZip}
 use Rattle.std.specs.BTreeSet.{BTreeSet, contains}
 use Rattle.std.specs.Ordering.{nat_cmp}
 use Rattle.std.proofs.lemmas.Bool.{cases_order, false≢true}
 use Rattle.std.proofs.lemmas.List.{append-nil}
 use Rattle.lp_model.specs.Outside.{Folder, OnlyGrow, Told}
-use Rattle.lp_model.proofs.Growing.{OnlyGrow-trans, told_grown}
 use Rattle.ledger_model.specs.Entries.{Entry}
 use Rattle.run_model.specs.Logs.{generation_name}
-use Rattle.run_model.specs.Listed.{Listed, rotated_files, live_files, joined, ListsStem, IsThereAt, IsNewest, IsOldest, IsFirst, IsGreatest}
+use Rattle.run_model.specs.Listed.{Listed, rotated_files, live_files, ListsStem, IsThereAt, IsNewest, IsOldest, IsFirst, IsGreatest}
 use Rattle.generations.specs.Ranges.{Has, HasAll, IsLast, IsLeast}
 use Rattle.generations.specs.There.{AreThere}
 use Rattle.generations.specs.Files.{IsFirstOf, IsKnownAs, IsLiveAs, live_part}
@@ -18,11 +17,11 @@ use Rattle.log_reading.specs.declared.span.Span.{Span}
 use Rattle.positions.specs.declared.spans.SpanFault.{SpanFault}
 use Rattle.positions.specs.declared.spans.SpanFault.TheVariants as F
 use Rattle.positions.specs.Places.{Places}
-use Rattle.positions.specs.Spans.{IsSpanOf, AddsSpans, StopsFile}
+use Rattle.positions.specs.Spans.{IsSpanOf, AddsSpans}
 use Rattle.log_listing.specs.Firsts.{is_among}
 use Rattle.positions.specs.Spanning.{Wants, StopsWanted, StopsGeneration, StopsStem, HasNone, IsBehind}
 use Rattle.positions.specs.SpanSteps.{Tells, AddsSpan, AddsFiles, AddsStem, StopsListed, StopsNumber, StopsRotated, IsOther, file_of, live_file}
-use Rattle.positions.proofs.Adding.{span_later, span_earlier, all_later, one_more}
+use Rattle.positions.proofs.Adding.{span_earlier, all_later}
 use Rattle.positions.proofs.Backward.{untold, there_back, live_back}
 
 all_earlier : (places : Places) (before mid now : Option Folder) (files : List Listed) (spans : List Span) → OnlyGrow before mid → AllZip (IsSpanOf places mid now) files spans → AllZip (IsSpanOf places before now) files spans

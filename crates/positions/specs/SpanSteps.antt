@@ -1,5 +1,5 @@
 -- Steps towards the spans of a run.
-use Rattle.std.specs.Prelude.{◌≡◌, ◌⊎◌, ℕ, ◌+◌, ◌-◌, ◌<◌, ◌≤◌, ◌^◌, Bool, true, false, List, [], ◌∷◌, ◌++◌, length, map, Contains, Option, Some, None, IsSome}
+use Rattle.std.specs.Prelude.{◌≡◌, ◌⊎◌, ℕ, ◌-◌, ◌<◌, ◌≤◌, ◌^◌, Bool, true, false, List, [], ◌∷◌, ◌++◌, length, map, Contains, Option, Some, None, IsSome}
 use Rattle.std.specs.Bool.{⊤}
 use Rattle.std.specs.List.{AllZip, AllByRecursion}
 use Rattle.std.specs.BTreeSet.{BTreeSet, contains}

@@ -1,5 +1,5 @@
 -- What a run reads of its logs.
-use Rattle.std.specs.Prelude.{◌≡◌, ℕ, ◌+◌, ◌<◌, ◌≤◌, List, ◌∷◌, ◌++◌, length, Option, Some, None}
+use Rattle.std.specs.Prelude.{◌≡◌, ℕ, ◌<◌, ◌≤◌, List, ◌++◌, Option, Some, None}
 use Rattle.std.specs.Bool.{⊤}
 use Rattle.std.specs.List.{AllZip}
 use Rattle.lp_model.specs.Outside.{Folder, Told}
@@ -75,11 +75,3 @@ StopsFile places now count file F.TooManyLogs = most_logs ≤ count
 StopsFile places now count file F.LogsFault = ⊤
 StopsFile places now count file (F.BadName fault) = ⊥
 StopsFile places now count file F.Memory = ⊤
-
--- the first file that has none
-pub record StopsFiles (places : Places) (now : Option Folder) (count : ℕ) (files : List Listed) (fault : SpanFault) : Type 0 where
-  pub front : List Listed
-  pub file : Listed
-  pub back : List Listed
-  pub split : files ≡ front ++ file ∷ back
-  pub stops : StopsFile places now (count + length front) file fault

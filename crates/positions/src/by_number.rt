@@ -167,7 +167,15 @@ fn add_files<L: Logs>(
         };
     }
     add_rotated(alloc, logs, places, stem, numbers, first, newest, spans)?;
-    add_live(alloc, logs, places, stem, live, (newest + 1).max(first), spans)
+    add_live(
+        alloc,
+        logs,
+        places,
+        stem,
+        live,
+        (newest + 1).max(first),
+        spans,
+    )
 }
 
 // The spans of a stem. However many generations there are, their names are asked for once.

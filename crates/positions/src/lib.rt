@@ -1,8 +1,9 @@
 //! Where runs left their logs.
 //!
 //! To the crates above: [`Positions::load`], the kept places of a ledger, with its input text; [`Positions::advance`],
-//! those with an entry more; and [`Positions::add_spans`], what a run reads of files that are listed. `specs` says what
-//! places entries keep.
+//! those with an entry more; and [`Positions::span`], what a run reads of the logs behind FROM, from their kept places on,
+//! or why it can't. `specs` says what places entries keep (`Places`), and which logs and which faults there are
+//! (`Spanning`).
 #![tactic(auto, using(ledger::proofs::Resting::rests_then))]
 
 mod advancing;

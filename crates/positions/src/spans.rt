@@ -1,15 +1,15 @@
 // What a run reads of its logs.
-ghost use Rattle.std.specs.Prelude.{◌≡◌, ◌≤◌, length, map, IfOk, IfErr, OnOk, IsErrOf};
+ghost use Rattle.std.specs.Prelude.{◌≡◌, ◌≤◌, length, IfOk, IfErr, OnOk, IsErrOf};
 ghost use Rattle.lp_model.specs.Outside.{OnlyGrow, Rose};
 ghost use Rattle.generations.specs.Files.{listed_of};
 ghost use Rattle.positions.specs.Places.{place_in};
-ghost use Rattle.positions.specs.Spans.{start_of, IsSpanOf, IsRefusedFile, AddsSpans, StopsFile, StopsFiles, Agrees, IsChanged};
+ghost use Rattle.positions.specs.Spans.{start_of, IsSpanOf, IsRefusedFile, StopsFile, Agrees, IsChanged};
 ghost use Rattle.positions.specs.SpanSteps.{AddsSpan};
 ghost use Rattle.positions.specs.declared.spans.SpanFault.TheVariants as F;
 
 use crate::places::Places;
 use crate::{Place, Positions};
-use generations::{ListedFile, ListedFiles};
+use generations::ListedFile;
 use ledger::InputText;
 use line_input::Standing;
 use log_reading::Span;
@@ -155,33 +155,6 @@ pub(crate) fn add_span<L: Logs>(
     Ok(())
 }
 
-// The spans of files that are listed, behind others.
-fn add_spans<L: Logs>(
-    alloc: Global,
-    logs: &mut L,
-    places: &Places,
-    files: &[ListedFile],
-    spans: &mut Spans,
-) -> Result<(), SpanFault>
-    requires few { length spans.old ≤ 100000 }
-    ensures grows { OnlyGrow (L.folder logs.old) (L.folder logs.new) }
-    ensures given { L.given logs.new ≡ L.given logs.old }
-    ensures later { L.faults logs.old ≤ L.faults logs.new }
-    ensures ok { OnOk result (AddsSpans places.now.entries (L.folder logs.old) (L.folder logs.new) (map listed_of files.now) spans.old spans.new) }
-    ensures few { OnOk result (length spans.new ≤ 100000) }
-    ensures refused { IfErr result (StopsFiles places.now.entries (L.folder logs.new) (length spans.old) (map listed_of files.now)) }
-    ensures failed { IsErrOf result F.LogsFault → Rose (L.faults logs.old) (L.faults logs.new) }
-{
-    for file in files {
-        if spans.len() >= MOST_LOGS {
-            return Err(SpanFault::TooManyLogs);
-        }
-        let span = span_of(alloc, logs, places, file)?;
-        spans.push(span)?;
-    }
-    Ok(())
-}
-
 impl Positions {
     /// Whether a run reads its logs as the ledger's first run did.
     pub fn check_input(&self, alloc: Global, input: &InputText) -> Result<(), SpanFault>
@@ -201,43 +174,5 @@ impl Positions {
                 })
             }
         }
-    }
-
-    /// What a run reads of a file that is listed: from where the log was left, with the standing there, up to its length.
-    pub fn span_of<L: Logs>(
-        &self,
-        alloc: Global,
-        logs: &mut L,
-        file: &ListedFile,
-    ) -> Result<Span, SpanFault>
-        ensures grows { OnlyGrow (L.folder logs.old) (L.folder logs.new) }
-        ensures given { L.given logs.new ≡ L.given logs.old }
-        ensures later { L.faults logs.old ≤ L.faults logs.new }
-        ensures ok { IfOk result (IsSpanOf self.now.places (L.folder logs.old) (L.folder logs.new) (listed_of file.now)) }
-        ensures refused { IfErr result (IsRefusedFile self.now.places (L.folder logs.new) (listed_of file.now)) }
-        ensures failed { IsErrOf result F.LogsFault → Rose (L.faults logs.old) (L.faults logs.new) }
-    {
-        span_of(alloc, logs, &self.places, file)
-    }
-
-    /// What a run reads of files that are listed, in their order and behind other spans: at most 100,000 in all. After an
-    /// `Err` the spans of some of the first files may stand there.
-    pub fn add_spans<L: Logs>(
-        &self,
-        alloc: Global,
-        logs: &mut L,
-        files: &ListedFiles,
-        spans: &mut Spans,
-    ) -> Result<(), SpanFault>
-        requires few { length spans.old ≤ 100000 }
-        ensures grows { OnlyGrow (L.folder logs.old) (L.folder logs.new) }
-        ensures given { L.given logs.new ≡ L.given logs.old }
-        ensures later { L.faults logs.old ≤ L.faults logs.new }
-        ensures ok { OnOk result (AddsSpans self.now.places (L.folder logs.old) (L.folder logs.new) (map listed_of files.now) spans.old spans.new) }
-        ensures few { OnOk result (length spans.new ≤ 100000) }
-        ensures refused { IfErr result (StopsFiles self.now.places (L.folder logs.new) (length spans.old) (map listed_of files.now)) }
-        ensures failed { IsErrOf result F.LogsFault → Rose (L.faults logs.old) (L.faults logs.new) }
-    {
-        add_spans(alloc, logs, &self.places, files.as_slice(), spans)
     }
 }

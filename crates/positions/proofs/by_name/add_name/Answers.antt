@@ -1,4 +1,4 @@
-use Rattle.std.proofs.Common.{◌∙◌, ◌<◌, length, sym, inl, arith, List, ℕ}
+use Rattle.std.proofs.Common.{◌∙◌, ◌<◌, length, sym, inl, arith}
 use Rattle.std.proofs.lemmas.Result.{on_ok_weaker, IfErr-weaker}
 use Rattle.lp_model.proofs.Growing.{OnlyGrow-trans}
 use Rattle.positions.proofs.PlainSpans.{missing_of, gives_of, adds_plain_earlier, plain_later, name_stops}

@@ -2,7 +2,6 @@ use Rattle.std.proofs.Common.{◌∙◌, List, ℕ, subst, arith}
 use Rattle.lp_model.proofs.Growing.{OnlyGrow-trans}
 use Rattle.positions.specs.SpanSteps.{identities_of, StopsNames}
 use Rattle.positions.proofs.Adding.{handed_on}
-use Rattle.positions.proofs.PlainSpans.{plain_later}
 use Rattle.positions.proofs.Listings.{names_turn, stops_at_name}
 use Rattle.positions.proofs.by_name.spans_of_names.Goals as goal
 

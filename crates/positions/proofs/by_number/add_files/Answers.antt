@@ -1,7 +1,6 @@
-use Rattle.std.proofs.Common.{◌≡◌, ◌∙◌, ◌+◌, max, sym, subst, ap, ℕ, List}
+use Rattle.std.proofs.Common.{◌≡◌, ◌+◌, max, subst, ℕ}
 use Rattle.std.proofs.lemmas.Result.{on_ok_weaker, IfErr-weaker}
 use Rattle.lp_model.proofs.Growing.{OnlyGrow-trans}
-use Rattle.run_model.specs.Listed.{Listed, rotated_files}
 use Rattle.generations.specs.Files.{live_part}
 use Rattle.positions.specs.Spans.{AddsSpans}
 use Rattle.positions.proofs.Adding.{handed_on}

@@ -1,4 +1,3 @@
-use Rattle.std.proofs.Common.{◌∙◌}
 use Rattle.std.proofs.lemmas.Result.{on_ok_weaker, IfErr-weaker}
 use Rattle.lp_model.proofs.Growing.{OnlyGrow-trans}
 use Rattle.positions.proofs.StemSpans.{adds_stem}

@@ -1,4 +1,4 @@
-use Rattle.std.proofs.Common.{◌≡◌, ◌≤◌, ℕ, List, length, take}
+use Rattle.std.proofs.Common.{◌≡◌, ◌≤◌, List, length, take}
 use Rattle.lp_model.specs.Outside.{OnlyGrow}
 use Rattle.ledger_model.specs.Entries.{Entry}
 use Rattle.log_listing.specs.Firsts.{Knows, firsts}

@@ -1,4 +1,4 @@
-use Rattle.std.proofs.Common.{rules, List, ℕ, [], ◌∷◌, ◌++◌, ◌≡◌, All, map, ap, sym, subst, ◌∙◌, nat_cmp, is_gt}
+use Rattle.std.proofs.Common.{rules, List, ℕ, [], ◌∷◌, ◌≡◌, All, map, ap, sym, subst, ◌∙◌, nat_cmp, is_gt}
 use Rattle.std.specs.Cmp.Lexicographic.{slice_cmp}
 use Rattle.std.specs.BTreeMap.Range.{entries_between, IsEntryInRange}
 use Rattle.std.specs.declared.ops.Bound.TheVariants.{Included, Excluded}
@@ -8,7 +8,7 @@ use Rattle.std.proofs.lemmas.Map.Iter.{iter_end}
 use Rattle.generations.proofs.Patterns.{front_is}
 use Rattle.positions.specs.Places.{Places}
 use Rattle.positions.specs.SpanSteps.{IsKnownAmong}
-use Rattle.positions.proofs.KnownPlaces.{low_of, high_of, forward, known_in, known_some}
+use Rattle.positions.proofs.KnownPlaces.{high_of, forward, known_in, known_some}
 use Rattle.positions.proofs.known.known_of.Goals as goal
 
 pub range-identity-items-requires : goal.range-identity-items-requires

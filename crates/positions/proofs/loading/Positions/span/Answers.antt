@@ -1,4 +1,4 @@
-use Rattle.std.proofs.Common.{rules, ap}
+use Rattle.std.proofs.Common.{ap}
 use Rattle.positions.specs.Places.{Kept}
 use Rattle.positions.specs.Spanning.{rule_of}
 use Rattle.positions.proofs.Listings.{names_ok, names_err, stems_ok, stems_err, judged}
