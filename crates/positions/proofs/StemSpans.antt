@@ -19,7 +19,7 @@ use Rattle.positions.specs.declared.spans.SpanFault.TheVariants as F
 use Rattle.positions.specs.Places.{Places}
 use Rattle.positions.specs.Spans.{IsSpanOf, AddsSpans}
 use Rattle.log_listing.specs.Firsts.{is_among}
-use Rattle.positions.specs.Spanning.{Wants, StopsWanted, StopsGeneration, StopsStem, HasNone, IsBehind}
+use Rattle.positions.specs.Spanning.{AreHere, Wants, StopsWanted, StopsGeneration, StopsStem, HasNone, IsBehind}
 use Rattle.positions.specs.SpanSteps.{Tells, AddsSpan, AddsFiles, AddsStem, StopsListed, StopsNumber, StopsRotated, IsOther, file_of, live_file}
 use Rattle.positions.proofs.Adding.{span_earlier, all_later}
 use Rattle.positions.proofs.Backward.{untold, there_back, live_back}
@@ -72,12 +72,13 @@ rotated_step places before mid now stem first number old held new low begins lat
     ap (λ (n : ℕ). rotated_files stem first (number - first) ++ file_of stem n ∷ []) (sym last) ∙ (sym (rotated_more stem first (number - first)) ∙ ap (rotated_files stem first) count) in
     subst (λ (l : List Listed). AddsSpans places before now l old new) files (adds_then places before mid now (rotated_files stem first (number - first)) (file_of stem number ∷ []) old held new begins later so_far (adds_one places mid now (file_of stem number) held new adds))
 
-pub rotated_stops : (places : Places) (before mid now : Option Folder) (stem : List ℕ) (there : BTreeSet ℕ) (first last number : ℕ) (old held : List Span) (fault : SpanFault) → first ≤ number → number ≤ last → OnlyGrow mid now → AddsSpans places before mid (rotated_files stem first (number - first)) old held → StopsNumber places now (length held) stem there number fault
+pub rotated_stops : (places : Places) (before mid now : Option Folder) (stem : List ℕ) (there : BTreeSet ℕ) (first last number : ℕ) (old held : List Span) (fault : SpanFault) → first ≤ number → number ≤ last → ((other : ℕ) → first ≤ other → other < number → Has there other) → OnlyGrow mid now → AddsSpans places before mid (rotated_files stem first (number - first)) old held → StopsNumber places now (length held) stem there number fault
     → StopsRotated places before now old stem there first last fault
-rotated_stops places before mid now stem there first last number old held fault low high later so_far stops = record {
+rotated_stops places before mid now stem there first last number old held fault low high has later so_far stops = record {
   number = number;
   low = low;
   high = high;
+  before_it = has;
   spans = held;
   adds = adds_later places before mid now (rotated_files stem first (number - first)) old held later so_far;
   stops = stops;
@@ -171,11 +172,20 @@ live_told : (start : Option Folder) (stem : List ℕ) (live : Bool) → live ≡
 live_told None stem live e is = tt
 live_told (Some folder) stem live e is = subst (λ (b : Bool). IsLiveAs folder stem b) e is
 
+-- rotated files of numbers that are there
+here_at : (folder : Folder) (stem : List ℕ) (there : BTreeSet ℕ) (first count : ℕ) → AreThere folder stem there → ((other : ℕ) → first ≤ other → other < first + count → contains nat_cmp there other ≡ true) → AreHere folder (rotated_files stem first count)
+here_at folder stem there first zero are has = tt
+here_at folder stem there first (suc count) are has = (((are first).0 (has first (omega arith) (omega arith))).2, here_at folder stem there (first + 1) count are (λ other from below. has other (omega (arith, from)) (omega (arith, below))))
+
+here_told : (start : Option Folder) (stem : List ℕ) (there : BTreeSet ℕ) (first count : ℕ) → Told start (λ folder. AreThere folder stem there) → ((other : ℕ) → first ≤ other → other < first + count → contains nat_cmp there other ≡ true) → Told start (λ folder. AreHere folder (rotated_files stem first count))
+here_told None stem there first count are has = tt
+here_told (Some folder) stem there first count are has = here_at folder stem there first count are has
+
 -- a wanted file that stops the list
-wanted : (places : Places) (entries : List Entry) (start before now : Option Folder) (reached : List (List ℕ)) (stem : List ℕ) (old held : List Span) (files front : List Listed) (file : Listed) (back : List Listed) (fault : SpanFault) → OnlyGrow start before → is_among reached stem ≡ false → Told start (λ folder. Wants folder entries stem files) → files ≡ front ++ file ∷ back → AddsSpans places before now front old held
+wanted : (places : Places) (entries : List Entry) (start before now : Option Folder) (reached : List (List ℕ)) (stem : List ℕ) (old held : List Span) (files front : List Listed) (file : Listed) (back : List Listed) (fault : SpanFault) → OnlyGrow start before → is_among reached stem ≡ false → Told start (λ folder. Wants folder entries stem files) → files ≡ front ++ file ∷ back → Told start (λ folder. AreHere folder front) → AddsSpans places before now front old held
     → StopsWanted places start now (length old + length front) stem file fault → StopsGeneration places entries start now reached (length old) stem fault
 unfolding adds_earlier
-wanted places entries start before now reached stem old held files front file back fault begins new wants split adds stops = record {
+wanted places entries start before now reached stem old held files front file back fault begins new wants split here adds stops = record {
   new = new;
   files = files;
   wants = wants;
@@ -183,6 +193,7 @@ wanted places entries start before now reached stem old held files front file ba
   file = file;
   back = back;
   split = split;
+  there = here;
   spans = adds.more;
   fine = (adds_earlier places start before now front old held begins adds).each;
   stops = stops;
@@ -194,16 +205,16 @@ held_count places before now front old held most adds low =
     omega (arith, low, ap length adds.added, length-append old adds.more, size)
 
 -- why a file that is wanted has none
-file_stops : (places : Places) (entries : List Entry) (start before now : Option Folder) (reached : List (List ℕ)) (stem : List ℕ) (old held : List Span) (files front : List Listed) (file : Listed) (back : List Listed) (fault : SpanFault) → OnlyGrow start before → OnlyGrow start now → is_among reached stem ≡ false → Told start (λ folder. Wants folder entries stem files) → files ≡ front ++ file ∷ back → AddsSpans places before now front old held
+file_stops : (places : Places) (entries : List Entry) (start before now : Option Folder) (reached : List (List ℕ)) (stem : List ℕ) (old held : List Span) (files front : List Listed) (file : Listed) (back : List Listed) (fault : SpanFault) → OnlyGrow start before → OnlyGrow start now → is_among reached stem ≡ false → Told start (λ folder. Wants folder entries stem files) → files ≡ front ++ file ∷ back → Told start (λ folder. AreHere folder front) → AddsSpans places before now front old held
     → Told start (λ folder. IsSome (folder file.name)) → StopsListed places now (length held) file fault → StopsStem places entries start now reached (length old) stem fault
-file_stops places entries start before now reached stem old held files front file back (F.NoSuchLog name) begins grow new wants split adds there stops = inr (untold start now file.name grow there stops.1)
-file_stops places entries start before now reached stem old held files front file back (F.LostLog other number) begins grow new wants split adds there stops = absurd stops
-file_stops places entries start before now reached stem old held files front file back (F.Shrunk name kept found) begins grow new wants split adds there stops = wanted places entries start before now reached stem old held files front file back (F.Shrunk name kept found) begins new wants split adds stops
-file_stops places entries start before now reached stem old held files front file back (F.InputChanged kept given) begins grow new wants split adds there stops = absurd stops
-file_stops places entries start before now reached stem old held files front file back F.TooManyLogs begins grow new wants split adds there stops = wanted places entries start before now reached stem old held files front file back F.TooManyLogs begins new wants split adds (held_count places before now front old held 100000 adds stops)
-file_stops places entries start before now reached stem old held files front file back F.LogsFault begins grow new wants split adds there stops = tt
-file_stops places entries start before now reached stem old held files front file back (F.BadName fault) begins grow new wants split adds there stops = inr (wanted places entries start before now reached stem old held files front file back (F.BadName fault) begins new wants split adds stops)
-file_stops places entries start before now reached stem old held files front file back F.Memory begins grow new wants split adds there stops = tt
+file_stops places entries start before now reached stem old held files front file back (F.NoSuchLog name) begins grow new wants split here adds there stops = inr (untold start now file.name grow there stops.1)
+file_stops places entries start before now reached stem old held files front file back (F.LostLog other number) begins grow new wants split here adds there stops = absurd stops
+file_stops places entries start before now reached stem old held files front file back (F.Shrunk name kept found) begins grow new wants split here adds there stops = wanted places entries start before now reached stem old held files front file back (F.Shrunk name kept found) begins new wants split here adds stops
+file_stops places entries start before now reached stem old held files front file back (F.InputChanged kept given) begins grow new wants split here adds there stops = absurd stops
+file_stops places entries start before now reached stem old held files front file back F.TooManyLogs begins grow new wants split here adds there stops = wanted places entries start before now reached stem old held files front file back F.TooManyLogs begins new wants split here adds (held_count places before now front old held 100000 adds stops)
+file_stops places entries start before now reached stem old held files front file back F.LogsFault begins grow new wants split here adds there stops = tt
+file_stops places entries start before now reached stem old held files front file back (F.BadName fault) begins grow new wants split here adds there stops = inr (wanted places entries start before now reached stem old held files front file back (F.BadName fault) begins new wants split here adds stops)
+file_stops places entries start before now reached stem old held files front file back F.Memory begins grow new wants split here adds there stops = tt
 
 -- a range stops at a number
 pub range_stops : (places : Places) (entries : List Entry) (start before now : Option Folder) (reached : List (List ℕ)) (stem : List ℕ) (old : List Span) (there : BTreeSet ℕ) (live : Bool) (known : Option ℕ) (first newest : ℕ) (fault : SpanFault) → OnlyGrow start before → OnlyGrow start now → is_among reached stem ≡ false → Told start (λ folder. AreThere folder stem there) → Told start (λ folder. IsLiveAs folder stem live) → IsKnownAs entries stem known → IsFirstOf there known first → IsLast there newest
@@ -212,23 +223,26 @@ range_stops places entries start before now reached stem old there live known fi
     let wants = wants_told start entries stem there live known first newest are is_live knows is_first last in
     let front = rotated_files stem first (s.number - first) in
     let rest = rotated_files stem (s.number + 1) (newest - s.number) in
+    let low = s.low in
+    let here = here_told start stem there first (s.number - first) are (λ other from below. s.before_it other from (omega (arith, low, below))) in
     let own = live_part live stem (max (newest + 1) first) in
     let split : files_of stem live first newest ≡ front ++ file_of stem s.number ∷ (rest ++ own) =
     ap (λ (t : List Listed). t ++ own) (rotated_at stem first s.number newest s.low s.high) ∙ append_assoc front (file_of stem s.number ∷ rest) own in
     ⊎_elim
     (λ lost. subst (λ (f : SpanFault). StopsStem places entries start now reached (length old) stem f) (sym lost.0)
-    (inr (wanted places entries start before now reached stem old s.spans (files_of stem live first newest) front (file_of stem s.number) (rest ++ own) (F.LostLog stem s.number) begins new wants split s.adds (refl, record { name_is = refl; gone = gone_told start stem there s.number are lost.1 }))))
-    (λ found. file_stops places entries start before now reached stem old s.spans (files_of stem live first newest) front (file_of stem s.number) (rest ++ own) fault begins grow new wants split s.adds (there_told start stem there s.number are found.0) found.1)
+    (inr (wanted places entries start before now reached stem old s.spans (files_of stem live first newest) front (file_of stem s.number) (rest ++ own) (F.LostLog stem s.number) begins new wants split here s.adds (refl, record { name_is = refl; gone = gone_told start stem there s.number are lost.1 }))))
+    (λ found. file_stops places entries start before now reached stem old s.spans (files_of stem live first newest) front (file_of stem s.number) (rest ++ own) fault begins grow new wants split here s.adds (there_told start stem there s.number are found.0) found.1)
     s.stops
 
 -- the stem's own file stops it
-pub live_stops : (places : Places) (entries : List Entry) (start before mid now : Option Folder) (reached : List (List ℕ)) (stem : List ℕ) (old held : List Span) (there : BTreeSet ℕ) (live : Bool) (known : Option ℕ) (first newest own : ℕ) (fault : SpanFault) → own ≡ max (newest + 1) first → OnlyGrow start before → OnlyGrow mid now → OnlyGrow start now → is_among reached stem ≡ false → Told start (λ folder. AreThere folder stem there) → Told start (λ folder. IsLiveAs folder stem live) → IsKnownAs entries stem known → IsFirstOf there known first → IsLast there newest
+pub live_stops : (places : Places) (entries : List Entry) (start before mid now : Option Folder) (reached : List (List ℕ)) (stem : List ℕ) (old held : List Span) (there : BTreeSet ℕ) (live : Bool) (known : Option ℕ) (first newest own : ℕ) (fault : SpanFault) → own ≡ max (newest + 1) first → OnlyGrow start before → OnlyGrow mid now → OnlyGrow start now → is_among reached stem ≡ false → Told start (λ folder. AreThere folder stem there) → Told start (λ folder. IsLiveAs folder stem live) → IsKnownAs entries stem known → IsFirstOf there known first → IsLast there newest → HasAll there first newest
     → AddsSpans places before mid (rotated_files stem first (newest + 1 - first)) old held → live ≡ true → StopsListed places now (length held) (live_file stem own) fault → StopsStem places entries start now reached (length old) stem fault
-live_stops places entries start before mid now reached stem old held there live known first newest own fault number begins later grow new are is_live knows is_first last adds e stops =
+live_stops places entries start before mid now reached stem old held there live known first newest own fault number begins later grow new are is_live knows is_first last all adds e stops =
     let wants = wants_told start entries stem there live known first newest are is_live knows is_first last in
     let front = rotated_files stem first (newest + 1 - first) in
+    let here = here_told start stem there first (newest + 1 - first) are (λ other from below. all other from (omega (arith, from, below))) in
     let split : files_of stem live first newest ≡ front ++ live_file stem (max (newest + 1) first) ∷ [] = ap (λ (b : Bool). front ++ live_part b stem (max (newest + 1) first)) e in
-    file_stops places entries start before now reached stem old held (files_of stem live first newest) front (live_file stem (max (newest + 1) first)) [] fault begins grow new wants split (adds_later places before mid now front old held later adds) (live_told start stem live e is_live) (subst (λ (n : ℕ). StopsListed places now (length held) (live_file stem n) fault) number stops)
+    file_stops places entries start before now reached stem old held (files_of stem live first newest) front (live_file stem (max (newest + 1) first)) [] fault begins grow new wants split here (adds_later places before mid now front old held later adds) (live_told start stem live e is_live) (subst (λ (n : ℕ). StopsListed places now (length held) (live_file stem n) fault) number stops)
 
 -- nothing of a stem is there
 older_of : (there : BTreeSet ℕ) (first newest : ℕ) → IsLast there newest → newest < first → (other : ℕ) → contains nat_cmp there other ≡ true → other < first

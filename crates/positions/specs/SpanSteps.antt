@@ -123,6 +123,7 @@ pub record StopsRotated (places : Places) (before now : Option Folder) (old : Li
   pub number : ℕ
   pub low : first ≤ number
   pub high : number ≤ last
+  pub before_it : (other : ℕ) → first ≤ other → other < number → contains nat_cmp there other ≡ true
   pub spans : List Span
   pub adds : AddsSpans places before now (rotated_files stem first (number - first)) old spans
   pub stops : StopsNumber places now (length spans) stem there number fault

@@ -1,5 +1,5 @@
 -- What a run reads of the logs behind FROM, and why it can't.
-use Rattle.std.specs.Prelude.{◌≡◌, ◌≢◌, ◌⊎◌, ℕ, ◌+◌, ◌<◌, ◌≤◌, ◌^◌, ◌-◌, max, Bool, true, false, ◌||◌, List, [], ◌∷◌, ◌++◌, length, map, Option, Some, None, ◌==◌}
+use Rattle.std.specs.Prelude.{◌≡◌, ◌≢◌, ◌⊎◌, ℕ, ◌+◌, ◌<◌, ◌≤◌, ◌^◌, ◌-◌, max, Bool, true, false, ◌||◌, List, [], ◌∷◌, ◌++◌, length, map, Option, Some, None, IsSome, ◌==◌}
 use Rattle.std.specs.Bool.{⊤}
 use Rattle.std.specs.List.{AllZip, AllByRecursion, list_any}
 use Rattle.lp_model.specs.Outside.{Folder, Told}
@@ -111,7 +111,11 @@ StopsWanted places before now count stem file F.LogsFault = ⊥
 StopsWanted places before now count stem file (F.BadName fault) = name_fault file.identity ≡ Some fault
 StopsWanted places before now count stem file F.Memory = ⊥
 
--- Under numbers: of the files that are wanted of a new stem those before this one have spans, as have so many logs before them. It has none.
+-- files are there
+abbrev pub AreHere : Folder → List Listed → Type 0
+AreHere folder files = AllByRecursion (λ file. IsSome (folder file.name)) files
+
+-- Under numbers: of the files that are wanted of a new stem those before this one are there and have spans, as have so many logs before them. It has none.
 pub record StopsGeneration (places : Places) (entries : List Entry) (before now : Option Folder) (reached : List (List ℕ)) (count : ℕ) (stem : List ℕ) (fault : SpanFault) : Type 0 where
   pub new : is_among reached stem ≡ false
   pub files : List Listed
@@ -120,6 +124,7 @@ pub record StopsGeneration (places : Places) (entries : List Entry) (before now 
   pub file : Listed
   pub back : List Listed
   pub split : files ≡ front ++ file ∷ back
+  pub there : Told before (λ folder. AreHere folder front)
   pub spans : List Span
   pub fine : AllZip (IsSpanOf places before now) front spans
   pub stops : StopsWanted places before now (count + length front) stem file fault

@@ -57,7 +57,7 @@ returns-clause-stopped g c =
     IfErr-weaker c.add_live.result _ _
     (λ fault s. λ start entries reached begins are is_live knows new.
     live_stops places entries start before mid now reached stem c.args.spans.now c.add_rotated.new.spans c.args.numbers.now live c.args.known first newest c.max.result fault number begins c.add_live.ensures.grows
-    (OnlyGrow-trans start before now begins (OnlyGrow-trans before mid now rotated.grows c.add_live.ensures.grows)) new are is_live knows c.first_of-first.ensures c.last_of-newest.ensures rotated.adds s.0 s.1)
+    (OnlyGrow-trans start before now begins (OnlyGrow-trans before mid now rotated.grows c.add_live.ensures.grows)) new are is_live knows c.first_of-first.ensures c.last_of-newest.ensures rotated.there rotated.adds s.0 s.1)
     c.add_live.ensures.stopped
 
 pub returns-clause-other : goal.returns-clause-other

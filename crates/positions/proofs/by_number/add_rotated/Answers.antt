@@ -15,7 +15,7 @@ returns-in_err-add_generation-clause-stopped g c =
     let here = c.in_err-add_generation.ensures in
     let fault = c.in_err-add_generation.field-0.0 in
     handed_on c.from_residual.result fault (StopsRotated places before now c.args.spans.now c.args.stem.now c.args.numbers.now c.args.first c.args.last) c.from_residual.ensures.1
-    (rotated_stops places before mid now c.args.stem.now c.args.numbers.now c.args.first c.args.last c.loop-number.number c.args.spans.now c.loop-number.spans fault so_far.low (omega (arith, c.loop-number-test.true)) here.grows so_far.adds here.stopped)
+    (rotated_stops places before mid now c.args.stem.now c.args.numbers.now c.args.first c.args.last c.loop-number.number c.args.spans.now c.loop-number.spans fault so_far.low (omega (arith, c.loop-number-test.true)) so_far.there here.grows so_far.adds here.stopped)
 
 pub loop-number-preserved : goal.loop-number-preserved
 loop-number-preserved g c =
