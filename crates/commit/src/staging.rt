@@ -1,7 +1,7 @@
 // A commit as a stage.
 ghost use Rattle.std.specs.Prelude.{◌≡◌, ◌%◌, ◌<◌, ◌≤◌, ◌≢◌, [], OnOk, OnErr, IsSomeAnd, refl};
 ghost use Rattle.lp_model.specs.Outside.{HasCause, Told, GainsSome};
-ghost use Rattle.lp_outside.specs.Gained.{Gained, SparesOthers, SparesLengths, SparesEnded};
+ghost use Rattle.lp_outside.specs.Gained.{Gained, SparesOthers, SparesFronts, SparesLengths, SparesEnded};
 ghost use Rattle.commit.specs.StagedTexts.{one_read};
 
 use crate::{Commit, put};
@@ -45,6 +45,7 @@ impl<'d, D: Disk> Stage for Commit<'d, D> {
         ensures front { OnErr result (GainsSome (stage_state D.state self.old).written (stage_state D.state self.new).written bytes.now) }
         ensures taken { OnErr result (Told (stage_state D.state self.old).taken (λ before. IsSomeAnd (stage_state D.state self.new).taken (λ now. before ≤ now))) }
         ensures others { SparesOthers output _name.now (stage_state D.state self.old) (stage_state D.state self.new) }
+        ensures fronts { SparesFronts _base (stage_state D.state self.old) (stage_state D.state self.new) }
         ensures lengths { SparesLengths _name.now (stage_state D.state self.old) (stage_state D.state self.new) }
         ensures ended { SparesEnded (λ commit name base mark. ⊤) _name.now self.old self.new }
         ensures cause { HasCause (D.faults self.old.disk.now) (D.faults self.new.disk.now) result }
