@@ -13,8 +13,11 @@ use std::test::Fail;
 type Call<'a> = (&'a [Read<'a>], &'a [(&'a str, &'a str)], &'a [&'a str]);
 
 fn positions_of(alloc: Global, reads: &[Read]) -> Result<Positions, Fail> {
-    let runs: &[&[Read]] = if reads.is_empty() { &[] } else { &[reads] };
-    let mut disk = disk_with(alloc, runs)?;
+    let mut disk = if reads.is_empty() {
+        disk_with(alloc, &[])?
+    } else {
+        disk_with(alloc, &[reads])?
+    };
     match Positions::load(alloc, &mut disk, &named("cp")?) {
         Ok(positions) => Ok(positions),
         Err(_) => Err(Fail::from("not loaded")),
@@ -395,35 +398,25 @@ fn stems_are_read_generation_by_generation(rt: HostRuntime) -> Result<(), Fail> 
 #[test]
 fn another_input_text_is_told_first(rt: HostRuntime) -> Result<(), Fail> {
     let alloc = rt.alloc();
-    let rows: [(Call, Rotation, &str, &str); 4] = [
-        (
-            (&A3, &[], &["b.log"]),
-            Rotation::Names,
-            "TEXTWORD",
-            "changed",
-        ),
-        (
-            (&A3, &[], &["b.log"]),
-            Rotation::Names,
-            "TEXTLINE",
-            "no such log b.log",
-        ),
-        (
-            (&[], &[], &["b.log"]),
-            Rotation::Names,
-            "TEXTWORD",
-            "no such log b.log",
-        ),
-        (
-            (&A3, &[], &["b*"]),
-            Rotation::Numbers,
-            "TEXTWORD",
-            "changed",
-        ),
-    ];
-    for (call, rotation, format, wanted) in rows {
-        assert_eq!(rt; shown(alloc, call, rotation, format)?.as_str(), wanted);
-    }
+    let missing: Call = (&A3, &[], &["b.log"]);
+    assert_eq!(rt;
+        shown(alloc, missing, Rotation::Names, "TEXTWORD")?.as_str(),
+        "changed"
+    );
+    assert_eq!(rt;
+        shown(alloc, missing, Rotation::Names, "TEXTLINE")?.as_str(),
+        "no such log b.log"
+    );
+    let first: Call = (&[], &[], &["b.log"]);
+    assert_eq!(rt;
+        shown(alloc, first, Rotation::Names, "TEXTWORD")?.as_str(),
+        "no such log b.log"
+    );
+    let stars: Call = (&A3, &[], &["b*"]);
+    assert_eq!(rt;
+        shown(alloc, stars, Rotation::Numbers, "TEXTWORD")?.as_str(),
+        "changed"
+    );
     Ok(())
 }
 
