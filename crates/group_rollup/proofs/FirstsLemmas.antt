@@ -131,14 +131,3 @@ found keys key (Some i) at there =
     let p = position-Some (pointwise eq-value.it key) keys i key (sym at) in
     let e = is key (get_or keys i key) (ap (λ (e : List Value → List Value → Bool). e key (get_or keys i key)) (sym same_as) ∙ p.1) in
     (sym (there ∙ ap (λ (e : List Value → List Value → Bool). list_any (e key) keys) same_as), get_some keys i key p.0 ∙ ap Some (sym e), p.0)
-
-abbrev pub is_nil : List ℕ → Bool
-is_nil [] = true
-is_nil (x ∷ xs) = false
-
--- lists of one length
-pub even_at : {A : Type 0} (xs : List (List A)) (k n : ℕ) → map length xs ≡ replicate k n → (i : ℕ) (x : List A) → slice_get xs i ≡ Some x → length x ≡ n
-even_at [] k n e i x at = absurd (none_some x at)
-even_at (y ∷ xs) zero n e i x at = absurd (true≢false (sym (ap (λ (l : List ℕ). is_nil l) e)))
-even_at (y ∷ xs) (suc k) n e zero x at = ap length (sym (same_some y x at)) ∙ ap (λ (l : List ℕ). get_or l 0 n) e
-even_at (y ∷ xs) (suc k) n e (suc i) x at = even_at xs k n (ap (λ (l : List ℕ). drop 1 l) e) i x at

@@ -38,12 +38,6 @@ rest_dropped [] (suc i) x rest e = absurd (nothing_first x rest e)
 rest_dropped (y ∷ xs) (suc i) x rest e = rest_dropped xs i x rest e
 
 module _ (width n : ℕ) (kinds : List AggKind) (records : List Record) (small : AllSmall records) (few : length records < 2 ^ 63) where
-  rows : List Value → List (List Value)
-  rows key = arguments (members n key records)
-
-  made : (key : List Value) → GroupRow
-  made key = group_of width kinds records n key
-
   rows_made : (all_keys keys : List (List Value)) (i : ℕ) → drop i all_keys ≡ keys
       → rows_of (width - n) kinds (length records) (columns_of kinds (map (λ key. arguments (members n key records)) all_keys)) keys i ≡ map (group_of width kinds records n) keys
   rows_made all_keys [] i e = refl
