@@ -1,7 +1,8 @@
 -- Names, each once, and their places.
-use Rattle.std.proofs.Common.{◌≡◌, ℕ, suc, ◌+◌, Bool, true, false, not, cond, ◌||◌, ◌&&◌, true≢false, List, [], ◌∷◌, ◌++◌, length, filter, slice_get, get_or, position, Some, Result, Ok, Err, IfOk, refl, sym, ◌∙◌, ap, arith, if◌then◌else◌}
+use Rattle.std.proofs.Common.{◌≡◌, ℕ, suc, ◌+◌, Bool, true, false, not, cond, ◌||◌, ◌&&◌, true≢false, List, [], ◌∷◌, ◌++◌, length, filter, slice_get, get_or, position, Some, Result, Ok, Err, IfOk, is_some, refl, sym, ◌∙◌, ap, arith, if◌then◌else◌}
 use Rattle.std.specs.Prelude.{bytes_eq}
 use Rattle.std.specs.List.{list_any}
+use Rattle.std.specs.Map.{lookup, keys_of}
 use Rattle.std.specs.Cmp.Lexicographic.{nat_list_eq_equiv}
 use Rattle.std.proofs.lemmas.Slice.Eq.{bytes_eq-Decides}
 use Rattle.std.proofs.lemmas.List.{get_or_push, length_push, append-nil}
@@ -9,6 +10,7 @@ use Rattle.std.proofs.lemmas.List.Elements.{filter-append}
 use Rattle.std.proofs.lemmas.Map.Views.{any-filter_same}
 use Rattle.std.proofs.lemmas.List.Quantifiers.{position-Some}
 use Rattle.std.proofs.lemmas.Option.{slice_get-get_or}
+use Rattle.indexmap.specs.IndexMap.{insert_entry}
 use Rattle.log_listing.specs.Firsts.{firsts, with_name}
 use Rattle.multiplex.specs.Placing.{index_among}
 
@@ -126,6 +128,26 @@ pub name_found : (names : List (List ℕ)) (name : List ℕ) (i : ℕ) → posit
 name_found names name i at =
     let there = position-Some (bytes_eq name) names i [] at in
     slice_get-get_or names i [] there.0 ∙ ap Some (sym (one_name name (get_or names i []) there.1))
+
+-- a name is among them where something is found under it
+pub is_found : (es : List (List ℕ × List ℕ)) (name : List ℕ) → among name (keys_of es) ≡ is_some (lookup (bytes_eq name) es)
+is_found [] name = refl
+is_found (e ∷ es) name = by (is_found es name) (bytes_eq name e.0)
+  where
+    by : among name (keys_of es) ≡ is_some (lookup (bytes_eq name) es) → (b : Bool) → (b || among name (keys_of es)) ≡ is_some (cond b (Some e.1) (lookup (bytes_eq name) es))
+    by rest true = refl
+    by rest false = rest
+
+-- a name that isn't there is put behind the others
+pub entry_new : (es : List (List ℕ × List ℕ)) (name own : List ℕ) → among name (keys_of es) ≡ false → insert_entry bytes_eq es name own ≡ es ++ (name, own) ∷ []
+entry_new [] name own new = refl
+entry_new (e ∷ es) name own new = by (entry_new es name own) (bytes_eq name e.0) refl
+  where
+    by : (among name (keys_of es) ≡ false → insert_entry bytes_eq es name own ≡ es ++ (name, own) ∷ []) → (b : Bool) → bytes_eq name e.0 ≡ b → insert_entry bytes_eq (e ∷ es) name own ≡ (e ∷ es) ++ (name, own) ∷ []
+    by rest true same = absurd (true≢false (sym (ap (λ (b : Bool). b || among name (keys_of es)) same) ∙ new))
+    by rest false same =
+        ap (λ (b : Bool). if b then (e.0, own) ∷ es else e ∷ insert_entry bytes_eq es name own) same
+        ∙ ap (λ (l : List (List ℕ × List ℕ)). e ∷ l) (rest (sym (ap (λ (b : Bool). b || among name (keys_of es)) same) ∙ new))
 
 -- two facts of what was answered make a third
 pub both_ok : {T E : Type 0} (r : Result T E) (P Q R : T → Type 0) → ((x : T) → P x → Q x → R x) → IfOk r P → IfOk r Q → IfOk r R

@@ -13,6 +13,5 @@ mod outputs;
 mod place_fault;
 
 pub use laws::{names_are_of_split, rows_are_those_placed};
-pub use output_name::OutputName;
 pub use outputs::Outputs;
 pub use place_fault::PlaceFault;

@@ -1,39 +1,64 @@
 // The name of an output, as it is looked up.
-ghost use Rattle.std.specs.Prelude.{◌≡◌, ℕ, List, nat_eq};
-ghost use Rattle.std.proofs.Common.{rules, ap};
+ghost use Rattle.std.specs.Prelude.{◌≡◌, ℕ, List, [], nat_eq, IfOk, OnOk};
+ghost use Rattle.std.proofs.Common.{rules};
 ghost use Rattle.std.specs.Cmp.{partial_equiv_from_equiv};
-ghost use Rattle.std.specs.Cmp.Lexicographic.{pointwise, nat_list_eq_equiv, bytes_decides};
+ghost use Rattle.std.specs.Cmp.Lexicographic.{pointwise, nat_list_eq_equiv};
 ghost use Rattle.std.specs.Cmp.Rules.{hashing};
 ghost use Rattle.std.specs.Hash as fed;
+ghost use Rattle.multiplex.specs.Naming.{filled};
 
-use indexmap::Equivalent;
-use lp_outside::Name;
+use crate::filling::fill;
+use lp_values::{Bytes, Value};
+use std::alloc::{AllocError, Global};
 use std::hash::{Hash, Hasher};
 use std::marker::Model;
 
-/// The name of an output, equal and hashed by its bytes.
+/// The name of an output, equal and hashed by its bytes. One is filled again for each row, so that a name that is known is
+/// looked up without a copy.
 #[derive(Drop)]
 pub struct OutputName {
-    name: Name,
+    bytes: Bytes,
 }
 
 impl Model for OutputName {
     ghost Value = { List ℕ };
 
-    ghost view = { λ o. o.name };
+    ghost view = { λ o. o.bytes };
 }
 
 impl OutputName {
-    pub fn of(name: Name) -> OutputName
-        ensures { result ≡ name }
+    pub fn new(alloc: Global) -> OutputName
+        ensures { result ≡ [] }
     {
-        OutputName { name }
+        OutputName {
+            bytes: Bytes::new(alloc),
+        }
     }
 
-    pub fn name(&self) -> &Name
+    /// Makes it the name that values make of a pattern.
+    pub fn fill(
+        &mut self,
+        printed: &mut Bytes,
+        pattern: &[u8],
+        values: &[Value],
+    ) -> Result<(), AllocError>
+        ensures { OnOk result (self.new ≡ filled pattern.now values.now) }
+    {
+        fill(&mut self.bytes, printed, pattern, values)
+    }
+
+    pub fn copy(&self, alloc: Global) -> Result<OutputName, AllocError>
+        ensures { IfOk result (λ copy. copy ≡ self.now) }
+    {
+        let mut bytes = Bytes::new(alloc);
+        bytes.add(self.bytes.as_slice())?;
+        Ok(OutputName { bytes })
+    }
+
+    pub fn as_slice(&self) -> &[u8]
         ensures { result.now ≡ self.now }
     {
-        &self.name
+        self.bytes.as_slice()
     }
 }
 
@@ -43,7 +68,7 @@ impl PartialEq for OutputName {
     ghost laws = { partial_equiv_from_equiv nat_list_eq_equiv };
 
     fn eq(&self, other: &Self) -> bool {
-        self.name.as_str().as_bytes() == other.name.as_str().as_bytes()
+        self.as_slice() == other.as_slice()
     }
 }
 
@@ -57,19 +82,6 @@ impl Hash for OutputName {
     ghost respects_eq = { Prim.search (hashing, rules) };
 
     fn hash<H: Hasher>(&self, state: &mut H) {
-        self.name.as_str().as_bytes().hash(state);
-    }
-}
-
-/// A name is looked up by its bytes, so that one that is known needs no copy.
-impl Equivalent<OutputName> for &[u8] {
-    ghost equivalent = { λ q k. pointwise nat_eq q.now k };
-
-    ghost respects_hash = { λ q k same. ap (fed.slice fed.u8) ((bytes_decides q.now k).0 same) };
-
-    ghost respects_eq = { λ q x y. nat_list_eq_equiv.congr q.now x y };
-
-    fn equivalent(&self, key: &OutputName) -> bool {
-        *self == key.name.as_str().as_bytes()
+        self.as_slice().hash(state);
     }
 }

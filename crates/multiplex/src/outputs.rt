@@ -2,14 +2,15 @@
 ghost use Rattle.std.specs.Prelude.{◌≡◌, ◌⊎◌, ◌<◌, ◌≤◌, ◌++◌, ◌∷◌, [], List, false, length, OnOk, OnErr, IfOk, IfErr, None, Some, slice_get, option_copied};
 ghost use Rattle.lp_outside.specs.NameFault.{name_fault};
 ghost use Rattle.lp_values.specs.declared.value.Value.{Value};
+ghost use Rattle.indexmap.specs.IndexMap.{keys, values};
 ghost use Rattle.log_listing.specs.Firsts.{is_among, with_name};
 ghost use Rattle.multiplex.specs.Naming.{filled, stars};
 ghost use Rattle.multiplex.specs.declared.place_fault.PlaceFault.TheVariants.{Memory};
 ghost use Rattle.multiplex.specs.Placing.{index_among, after_row, IsNewName, CanBeAdded, IsReason, HasNoOutput, IsNoName, StandFor, indices_of};
 
-use crate::filling::fill;
-use crate::{OutputName, PlaceFault};
-use indexmap::IndexSet;
+use crate::PlaceFault;
+use crate::output_name::OutputName;
+use indexmap::{IndexMap, IndexSet};
 use lp_outside::Name;
 use lp_values::{Bytes, Text, Value, ValueList};
 use std::alloc::{AllocError, Global};
@@ -25,21 +26,23 @@ pub struct Outputs {
     alloc: Global,
     pattern: Text,
     forbidden: IndexSet<Text>,
-    names: IndexSet<OutputName>,
+    /// The outputs' names by index, each found under its own bytes.
+    names: IndexMap<OutputName, Name>,
     /// The name of the row that is placed, and a value of it as it is printed; used again for each row.
-    name: Bytes,
+    name: OutputName,
     printed: Bytes,
 }
 
 impl Model for Outputs {
-    ghost use Rattle.std.specs.Prelude.{◌≤◌, length};
+    ghost use Rattle.std.specs.Prelude.{◌≡◌, ◌≤◌, length};
+    ghost use Rattle.indexmap.specs.IndexMap.{keys, values};
     ghost use Rattle.multiplex.specs.Placing.{Numbering};
 
     ghost Value = { Numbering };
 
-    ghost view = { λ o. record { pattern = o.pattern; forbidden = o.forbidden.keys; names = o.names.keys } };
+    ghost view = { λ o. record { pattern = o.pattern; forbidden = o.forbidden.keys; names = keys o.names } };
 
-    ghost invariant = { λ o. length o.names.keys ≤ 10_000 };
+    ghost invariant = { λ o. (length (keys o.names) ≤ 10_000) × (values o.names ≡ keys o.names) };
 }
 
 // Whether a name is one that no output may have.
@@ -65,31 +68,48 @@ fn read_name(bytes: &[u8]) -> Result<Name, PlaceFault>
     }
 }
 
+// Puts a name behind the others.
+fn add_last(
+    alloc: Global,
+    names: &mut IndexMap<OutputName, Name>,
+    key: &OutputName,
+    name: Name,
+) -> Result<u32, AllocError>
+    requires new { is_among (keys names.old) key.now ≡ false }
+    requires room { length (keys names.old) < 10_000 }
+    ensures index { IfOk result (λ index. index ≡ length (keys names.old)) }
+    ensures ok { OnOk result (names.new.entries ≡ names.old.entries ++ (key.now, name) ∷ []) }
+    ensures err { OnErr result (names.new.entries ≡ names.old.entries) }
+{
+    let (index, _) = names.insert_full(key.copy(alloc)?, name)?;
+    Ok(index as u32)
+}
+
 // Adds a new name, if it may be one.
 fn add_name(
     alloc: Global,
     forbidden: &IndexSet<Text>,
-    names: &mut IndexSet<OutputName>,
-    bytes: &[u8],
+    names: &mut IndexMap<OutputName, Name>,
+    key: &OutputName,
 ) -> Result<u32, PlaceFault>
-    requires new { is_among names.old.keys bytes.now ≡ false }
-    ensures index { IfOk result (λ index. index ≡ length names.old.keys) }
-    ensures names { OnOk result (names.new.keys ≡ names.old.keys ++ bytes.now ∷ []) }
-    ensures may { OnOk result (CanBeAdded forbidden.now.keys names.old.keys bytes.now) }
-    ensures err { OnErr result (names.new.keys ≡ names.old.keys) }
-    ensures why { IfErr result (IsReason forbidden.now.keys names.old.keys bytes.now) }
+    requires new { is_among (keys names.old) key.now ≡ false }
+    ensures index { IfOk result (λ index. index ≡ length (keys names.old)) }
+    ensures names { OnOk result (names.new.entries ≡ names.old.entries ++ (key.now, key.now) ∷ []) }
+    ensures may { OnOk result (CanBeAdded forbidden.now.keys (keys names.old) key.now) }
+    ensures err { OnErr result (names.new.entries ≡ names.old.entries) }
+    ensures why { IfErr result (IsReason forbidden.now.keys (keys names.old) key.now) }
 {
     if names.len() >= MOST {
         return Err(PlaceFault::TooManyOutputs);
     }
-    let name = read_name(bytes)?;
+    let name = read_name(key.as_slice())?;
     match is_forbidden(alloc, forbidden, name.as_str()) {
         Ok(false) => {}
         Ok(true) => return Err(PlaceFault::NameClash(name)),
         Err(_) => return Err(PlaceFault::Memory),
     }
-    match names.insert_full(OutputName::of(name)) {
-        Ok((index, _)) => Ok(index as u32),
+    match add_last(alloc, names, key, name) {
+        Ok(index) => Ok(index),
         Err(_) => Err(PlaceFault::Memory),
     }
 }
@@ -98,21 +118,23 @@ fn add_name(
 fn find_or_add(
     alloc: Global,
     forbidden: &IndexSet<Text>,
-    names: &mut IndexSet<OutputName>,
-    bytes: &[u8],
+    names: &mut IndexMap<OutputName, Name>,
+    key: &OutputName,
 ) -> Result<u32, PlaceFault>
-    requires { length names.old.keys ≤ 10_000 }
-    ensures index { IfOk result (λ index. index ≡ index_among names.old.keys bytes.now) }
-    ensures named { IfOk result (λ index. slice_get names.new.keys index ≡ Some bytes.now) }
-    ensures names { OnOk result (names.new.keys ≡ with_name names.old.keys bytes.now) }
-    ensures most { length names.new.keys ≤ 10_000 }
-    ensures new { OnOk result (is_among names.old.keys bytes.now ≡ false → CanBeAdded forbidden.now.keys names.old.keys bytes.now) }
-    ensures err { OnErr result (names.new.keys ≡ names.old.keys) }
-    ensures why { IfErr result (λ fault. (fault ≡ Memory) ⊎ ((is_among names.old.keys bytes.now ≡ false) × IsReason forbidden.now.keys names.old.keys bytes.now fault)) }
+    requires most { length (keys names.old) ≤ 10_000 }
+    requires own { values names.old ≡ keys names.old }
+    ensures index { IfOk result (λ index. index ≡ index_among (keys names.old) key.now) }
+    ensures named { IfOk result (λ index. slice_get (keys names.new) index ≡ Some key.now) }
+    ensures names { OnOk result (keys names.new ≡ with_name (keys names.old) key.now) }
+    ensures own { values names.new ≡ keys names.new }
+    ensures most { length (keys names.new) ≤ 10_000 }
+    ensures new { OnOk result (is_among (keys names.old) key.now ≡ false → CanBeAdded forbidden.now.keys (keys names.old) key.now) }
+    ensures err { OnErr result (names.new.entries ≡ names.old.entries) }
+    ensures why { IfErr result (λ fault. (fault ≡ Memory) ⊎ ((is_among (keys names.old) key.now ≡ false) × IsReason forbidden.now.keys (keys names.old) key.now fault)) }
 {
-    match names.get_index_of(bytes) {
+    match names.get_index_of(key) {
         Some(index) => Ok(index as u32),
-        None => add_name(alloc, forbidden, names, bytes),
+        None => add_name(alloc, forbidden, names, key),
     }
 }
 
@@ -126,8 +148,8 @@ impl Outputs {
             alloc,
             pattern: Text::from_str(alloc, pattern)?,
             forbidden: IndexSet::new(alloc),
-            names: IndexSet::new(alloc),
-            name: Bytes::new(alloc),
+            names: IndexMap::new(alloc),
+            name: OutputName::new(alloc),
             printed: Bytes::new(alloc),
         })
     }
@@ -147,7 +169,7 @@ impl Outputs {
         ensures { option_copied result ≡ slice_get self.now.names index }
     {
         match self.names.get_index(index as usize) {
-            Some(found) => Some(found.name()),
+            Some((_, name)) => Some(name),
             None => None,
         }
     }
@@ -186,18 +208,9 @@ impl Outputs {
         ensures err { OnErr result (self.new ≡ self.old) }
         ensures why { IfErr result (HasNoOutput self.old (filled self.old.pattern values.now)) }
     {
-        match fill(
-            &mut self.name,
-            &mut self.printed,
-            self.pattern.as_str().as_bytes(),
-            values,
-        ) {
-            Ok(()) => find_or_add(
-                self.alloc,
-                &self.forbidden,
-                &mut self.names,
-                self.name.as_slice(),
-            ),
+        let pattern = self.pattern.as_str().as_bytes();
+        match self.name.fill(&mut self.printed, pattern, values) {
+            Ok(()) => find_or_add(self.alloc, &self.forbidden, &mut self.names, &self.name),
             Err(_) => Err(PlaceFault::Memory),
         }
     }
