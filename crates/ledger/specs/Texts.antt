@@ -42,11 +42,11 @@ TextRefusedAt layout file to from Text.Memory = (at : ℕ) × SomeRead layout fi
 abbrev pub ReadsText : List ℕ → ℕ → ℕ → ℕ → Result (List ℕ) TextRefused → Type 0
 ReadsText file to from at result = MatchResult result (IsRead any_text file to from at) (TextRefusedAt any_text file to from)
 
--- a disk's fault is one that it counted
+-- a disk's fault is one that it counted, and where memory is wanted it counted none
 abbrev pub TextRoseFor : ℕ → ℕ → TextRefused → Type 0
 TextRoseFor before now Text.DiskFault = Rose before now
 TextRoseFor before now (Text.LedgerFault part at) = ⊤
-TextRoseFor before now Text.Memory = ⊤
+TextRoseFor before now Text.Memory = now ≡ before
 
 -- a count of faults never falls, stays where the call is done, and a call is refused for the disk only where it rose
 pub record HasTextReason {T : Type 0} (before now : ℕ) (result : Result T TextRefused) : Type 0 where
