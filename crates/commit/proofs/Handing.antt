@@ -1,10 +1,11 @@
 -- From the commit that holds a disk to the disk.
-use Rattle.std.proofs.Common.{◌≡◌, List, ℕ, sym, ◌∙◌, ap, subst}
+use Rattle.std.proofs.Common.{◌≡◌, ◌⊎◌, List, ℕ, sym, ◌∙◌, ap, subst}
 use Rattle.disk_model.specs.Disk.{Files, DiskState, LeavesOnly}
 use Rattle.lp_model.specs.Outside.{Rose}
 use Rattle.ledger_model.specs.Entries.{Entry}
 use Rattle.commit.specs.States.{Keeps, ShowsFiles, LiesIn}
 use Rattle.commit.specs.Resume.{CanSettle}
+use Rattle.commit.specs.Faults.{IsApart, FitsWhole, BreaksSomewhere}
 use Rattle.commit.specs.declared.phases.CommitFiles.{CommitFiles}
 use Rattle.commit.specs.declared.phases.Commit.{Commit}
 use Rattle.commit.specs.Phases.{disk_of, ledger_of, stage_of}
@@ -38,6 +39,18 @@ module _ {D : Type 0} (state : D → DiskState) (a : Commit D) (disk : D) (files
 
   pub same_at : (faults : D → ℕ) (x y : D) → x ≡ y → faults y ≡ faults a.disk.now → faults x ≡ faults disk
   same_at faults x y is same = ap faults is ∙ same ∙ ap faults disk_is
+
+  pub fits_at : (Gone : Type 0) → (Gone → (disk_of state a).tells → IsApart (ledger_of a) (stage_of a) (disk_of state a).seen → FitsWhole (ledger_of a) (stage_of a) (disk_of state a).seen)
+      → Gone → (state disk).tells → IsApart files.ledger files.stage (state disk).seen → FitsWhole files.ledger files.stage (state disk).seen
+  fits_at Gone fits = subst (λ (d : D). Gone → (state d).tells → IsApart files.ledger files.stage (state d).seen → FitsWhole files.ledger files.stage (state d).seen) disk_is
+      (subst (λ (f : CommitFiles). Gone → (disk_of state a).tells → IsApart f.ledger f.stage (disk_of state a).seen → FitsWhole f.ledger f.stage (disk_of state a).seen) files_are fits)
+
+  pub breaks_at : (faults : D → ℕ) (x y : D) → x ≡ y
+      → ((disk_of state a).tells → IsApart (ledger_of a) (stage_of a) (disk_of state a).seen → Rose (faults a.disk.now) (faults y) ⊎ BreaksSomewhere (ledger_of a) (stage_of a) (disk_of state a).seen)
+      → (state disk).tells → IsApart files.ledger files.stage (state disk).seen → Rose (faults disk) (faults x) ⊎ BreaksSomewhere files.ledger files.stage (state disk).seen
+  breaks_at faults x y is breaks = subst (λ (d : D). (state d).tells → IsApart files.ledger files.stage (state d).seen → Rose (faults d) (faults x) ⊎ BreaksSomewhere files.ledger files.stage (state d).seen) disk_is
+      (subst (λ (f : CommitFiles). (disk_of state a).tells → IsApart f.ledger f.stage (disk_of state a).seen → Rose (faults a.disk.now) (faults x) ⊎ BreaksSomewhere f.ledger f.stage (disk_of state a).seen) files_are
+      (subst (λ (d : D). (disk_of state a).tells → IsApart (ledger_of a) (stage_of a) (disk_of state a).seen → Rose (faults a.disk.now) (faults d) ⊎ BreaksSomewhere (ledger_of a) (stage_of a) (disk_of state a).seen) (sym is) breaks))
 
   pub lies_at : (x y : D) (entries : List Entry) (entry : Entry) → x ≡ y → LiesIn (state y) (ledger_of a) entries entry → LiesIn (state x) files.ledger entries entry
   lies_at x y entries entry is lies = subst (λ (f : CommitFiles). LiesIn (state x) f.ledger entries entry) files_are (subst (λ (d : D). LiesIn (state d) (ledger_of a) entries entry) (sym is) lies)

@@ -1,5 +1,5 @@
 // A whole commit through the trait of stages.
-ghost use Rattle.std.specs.Prelude.{◌≡◌, ◌≢◌, ◌<◌, ◌≤◌, ◌^◌, ◌++◌, [], ◌∷◌, ℕ, List, length, OnOk, IfOk, IsErrOf, OnErr};
+ghost use Rattle.std.specs.Prelude.{◌≡◌, ◌≢◌, ◌⊎◌, ◌<◌, ◌≤◌, ◌^◌, ◌++◌, [], ◌∷◌, ℕ, List, length, OnOk, IfOk, IsErrOf, OnErr};
 ghost use Rattle.lp_model.specs.Outside.{HasCause, Rose};
 ghost use Rattle.disk_model.specs.Disk.{Files, LeavesOnly};
 ghost use Rattle.ledger_model.specs.Entries.{Entry as PlainEntry};
@@ -10,6 +10,7 @@ ghost use Rattle.ledger.specs.declared.refused.Part2.{Part2};
 ghost use Rattle.recovery_model.specs.Recovered.{Recovers};
 ghost use Rattle.commit.specs.States.{IsGood, Keeps, ShowsFiles, LiesIn};
 ghost use Rattle.commit.specs.Resume.{CanSettle, Settles};
+ghost use Rattle.commit.specs.Faults.{IsApart, FitsWhole, BreaksSomewhere};
 ghost use Rattle.lp_outside.specs.Gained.{HasText};
 ghost use Rattle.commit.specs.Whole.{HasRefusal, AddsTwo, MayCommit, output_at, BeforeOrWith};
 ghost use Rattle.commit.specs.Phases.{disk_of, ledger_of, stage_of, staged_of, Same, Goes, Unsettled, Settled, Staged, Sealed, PreservesHeld, SettlesHeld, LeavesEither};
@@ -36,6 +37,9 @@ pub enum Stopped {
     /// At the gate or behind it: the disk failed, and stands for the state before or for the one with the entry, which lies
     /// whole behind its pair. The next settling tells which.
     FromGate,
+    /// Behind the gate: what the disk gives isn't what was written to it. An honest disk never does so, if no output of the
+    /// entry is the ledger or the stage.
+    Damaged,
 }
 
 /// Puts two texts into a stage.
@@ -191,7 +195,11 @@ fn commit_texts<'d, D: Disk>(
     ensures counts { OnOk result (D.faults commit.new.disk.now ≡ D.faults commit.old.disk.now) }
     ensures wants { IsErrOf result Stopped.Memory → D.faults commit.new.disk.now ≡ D.faults commit.old.disk.now }
     ensures cause_before { IsErrOf result Stopped.BeforeGate → Unsettled D.state commit.old → Rose (D.faults commit.old.disk.now) (D.faults commit.new.disk.now) }
-    ensures cause_behind { IsErrOf result Stopped.FromGate → (entries : List PlainEntry) (before after : Files) → MayCommit (disk_of D.state commit.old) (ledger_of commit.old) (stage_of commit.old) entries (entry_of entry.new) first.now one.now second.now two.now before after → Rose (D.faults commit.old.disk.now) (D.faults commit.new.disk.now) }
+    ensures cause_behind { IsErrOf result Stopped.FromGate → Rose (D.faults commit.old.disk.now) (D.faults commit.new.disk.now) }
+    ensures fits { (IsErrOf result Stopped.BeforeGate → ⊥) → (disk_of D.state commit.old).tells → IsApart (ledger_of commit.old) (stage_of commit.old) ((disk_of D.state commit.old).seen) → FitsWhole (ledger_of commit.old) (stage_of commit.old) ((disk_of D.state commit.old).seen) }
+    ensures breaks { IsErrOf result Stopped.BeforeGate → (disk_of D.state commit.old).tells → IsApart (ledger_of commit.old) (stage_of commit.old) ((disk_of D.state commit.old).seen)
+        → Rose (D.faults commit.old.disk.now) (D.faults commit.new.disk.now) ⊎ BreaksSomewhere (ledger_of commit.old) (stage_of commit.old) ((disk_of D.state commit.old).seen) }
+    ensures no_damage { IsErrOf result Stopped.Damaged → (entries : List PlainEntry) (before after : Files) → MayCommit (disk_of D.state commit.old) (ledger_of commit.old) (stage_of commit.old) entries (entry_of entry.new) first.now one.now second.now two.now before after → ⊥ }
     ensures memory { IsErrOf result Stopped.Memory → Unsettled D.state commit.old → SettlesHeld D.state commit.old commit.new }
     ensures refused { IsErrOf result Stopped.BeforeGate → Unsettled D.state commit.old → SettlesHeld D.state commit.old commit.new }
 {
@@ -206,7 +214,8 @@ fn commit_texts<'d, D: Disk>(
     }
     match conclude(commit) {
         Ok(()) => Ok(()),
-        Err(_) => Err(Stopped::FromGate),
+        Err(CommitFault::DiskFault) => Err(Stopped::FromGate),
+        Err(CommitFault::LedgerFault { .. }) => Err(Stopped::Damaged),
     }
 }
 
@@ -244,7 +253,12 @@ pub fn commit_two_texts<D: Disk>(
     ensures counts { OnOk result (D.faults disk.new ≡ D.faults disk.old) }
     ensures wants { IsErrOf result Stopped.Memory → D.faults disk.new ≡ D.faults disk.old }
     ensures cause_before { IsErrOf result Stopped.BeforeGate → CanSettle (D.state disk.old) files.ledger files.stage → Rose (D.faults disk.old) (D.faults disk.new) }
-    ensures cause_behind { IsErrOf result Stopped.FromGate → (entries : List PlainEntry) (before after : Files) → MayCommit (D.state disk.old) files.ledger files.stage entries (entry_of entry.new) first.now one.now second.now two.now before after → Rose (D.faults disk.old) (D.faults disk.new) }
+    ensures cause_behind { IsErrOf result Stopped.FromGate → Rose (D.faults disk.old) (D.faults disk.new) }
+    // Unless it is refused before the gate, all that a read gave fits; and there for a cause: the disk counted a fault, or what a read gave breaks.
+    ensures fits { (IsErrOf result Stopped.BeforeGate → ⊥) → (D.state disk.old).tells → IsApart files.ledger files.stage ((D.state disk.old).seen) → FitsWhole files.ledger files.stage ((D.state disk.old).seen) }
+    ensures breaks { IsErrOf result Stopped.BeforeGate → (D.state disk.old).tells → IsApart files.ledger files.stage ((D.state disk.old).seen) → Rose (D.faults disk.old) (D.faults disk.new) ⊎ BreaksSomewhere files.ledger files.stage ((D.state disk.old).seen) }
+    // No disk that keeps what was written answers damage behind the gate.
+    ensures no_damage { IsErrOf result Stopped.Damaged → (entries : List PlainEntry) (before after : Files) → MayCommit (D.state disk.old) files.ledger files.stage entries (entry_of entry.new) first.now one.now second.now two.now before after → ⊥ }
     ensures memory { IsErrOf result Stopped.Memory → CanSettle (D.state disk.old) files.ledger files.stage → Settles (D.state disk.old) (D.state disk.new) files.ledger files.stage }
     // After a refusal before the gate each image of each moment stands for what one stood for before, whatever the entry is.
     ensures refused { IsErrOf result Stopped.BeforeGate → CanSettle (D.state disk.old) files.ledger files.stage → Settles (D.state disk.old) (D.state disk.new) files.ledger files.stage }
