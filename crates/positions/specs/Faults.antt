@@ -24,13 +24,13 @@ IsNoFault DiskFault = ⊤
 IsNoFault (LedgerFault part at) = ⊥
 IsNoFault Memory = ⊤
 
--- a disk's fault is one that it counted
+-- a disk's fault is one that it counted, and where memory is wanted it counted none
 abbrev pub LoadRoseFor : ℕ → ℕ → LoadFault → Type 0
 LoadRoseFor before now DiskFault = Rose before now
 LoadRoseFor before now (LedgerFault part at) = ⊤
-LoadRoseFor before now Memory = ⊤
+LoadRoseFor before now Memory = now ≡ before
 
--- a count of faults never falls, stays where the call is done, and a call is refused for the disk only where it rose
+-- a count of faults never falls, stays where the call is done or wants memory, and a call is refused for the disk only where it rose
 pub record HasLoadReason {T : Type 0} (before now : ℕ) (result : Result T LoadFault) : Type 0 where
   pub later : before ≤ now
   pub same : OnOk result (now ≡ before)
