@@ -37,6 +37,7 @@ fn add_match<L: Logs>(
     ensures few { OnOk result (length spans.new ≤ 100000) }
     ensures stopped { IfErr result (λ fault. (is_among (identities_of spans.old) name.now ≡ false) × StopsFile places.now.entries (L.folder logs.new) (length spans.old) (plain_file name.now) fault) }
     ensures failed { IsErrOf result F.LogsFault → Rose (L.faults logs.old) (L.faults logs.new) }
+    ensures wants { IsErrOf result F.Memory → L.faults logs.new ≡ L.faults logs.old }
 {
     if !seen.insert(name.copy())? {
         return Ok(());
@@ -69,6 +70,7 @@ fn add_matches<L: Logs>(
     ensures few { OnOk result (length spans.new ≤ 100000) }
     ensures stopped { IfErr result (StopsAmong places.now.entries (L.folder logs.old) (L.folder logs.new) spans.old found.now) }
     ensures failed { IsErrOf result F.LogsFault → Rose (L.faults logs.old) (L.faults logs.new) }
+    ensures wants { IsErrOf result F.Memory → L.faults logs.new ≡ L.faults logs.old }
 {
     for name in found.as_slice() {
         add_match(alloc, logs, places, name, seen, spans)?;

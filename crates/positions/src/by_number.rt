@@ -44,6 +44,7 @@ fn add_generation<L: Logs>(
     ensures few { OnOk result (length spans.new ≤ 100000) }
     ensures stopped { IfErr result (StopsNumber places.now.entries (L.folder logs.new) (length spans.old) stem.now numbers.now number) }
     ensures failed { IsErrOf result F.LogsFault → Rose (L.faults logs.old) (L.faults logs.new) }
+    ensures wants { IsErrOf result F.Memory → L.faults logs.new ≡ L.faults logs.old }
 {
     if !numbers.contains(&number) {
         return Err(SpanFault::LostLog(stem.copy(), number));
@@ -83,6 +84,7 @@ fn add_rotated<L: Logs>(
     ensures few { OnOk result (length spans.new ≤ 100000) }
     ensures stopped { IfErr result (StopsRotated places.now.entries (L.folder logs.old) (L.folder logs.new) spans.old stem.now numbers.now first last) }
     ensures failed { IsErrOf result F.LogsFault → Rose (L.faults logs.old) (L.faults logs.new) }
+    ensures wants { IsErrOf result F.Memory → L.faults logs.new ≡ L.faults logs.old }
 {
     for number in first..last + 1 {
         add_generation(alloc, logs, places, stem, numbers, number, spans)?;
@@ -110,6 +112,7 @@ fn add_live<L: Logs>(
     ensures few { OnOk result (length spans.new ≤ 100000) }
     ensures stopped { IfErr result (λ fault. (live ≡ true) × StopsListed places.now.entries (L.folder logs.new) (length spans.old) (live_file stem.now number) fault) }
     ensures failed { IsErrOf result F.LogsFault → Rose (L.faults logs.old) (L.faults logs.new) }
+    ensures wants { IsErrOf result F.Memory → L.faults logs.new ≡ L.faults logs.old }
 {
     if !live {
         return Ok(());
@@ -157,6 +160,7 @@ fn add_files<L: Logs>(
         → StopsStem places.now.entries entries start (L.folder logs.new) reached (length spans.old) stem.now fault) }
     ensures other { IfErr result IsOther }
     ensures failed { IsErrOf result F.LogsFault → Rose (L.faults logs.old) (L.faults logs.new) }
+    ensures wants { IsErrOf result F.Memory → L.faults logs.new ≡ L.faults logs.old }
 {
     let first = first_of(numbers, known);
     let newest = last_of(numbers);

@@ -102,6 +102,7 @@ fn span_of<L: Logs>(
     ensures ok { IfOk result (IsSpanOf places.now.entries (L.folder logs.old) (L.folder logs.new) (listed_of file.now)) }
     ensures refused { IfErr result (IsRefusedFile places.now.entries (L.folder logs.new) (listed_of file.now)) }
     ensures failed { IsErrOf result F.LogsFault → Rose (L.faults logs.old) (L.faults logs.new) }
+    ensures wants { IsErrOf result F.Memory → L.faults logs.new ≡ L.faults logs.old }
 {
     let listed = match logs.length(&file.name) {
         Ok(Some(listed)) => listed,
@@ -146,6 +147,7 @@ pub(crate) fn add_span<L: Logs>(
     ensures few { OnOk result (length spans.new ≤ 100000) }
     ensures stopped { IfErr result (StopsFile places.now.entries (L.folder logs.new) (length spans.old) (listed_of file.now)) }
     ensures failed { IsErrOf result F.LogsFault → Rose (L.faults logs.old) (L.faults logs.new) }
+    ensures wants { IsErrOf result F.Memory → L.faults logs.new ≡ L.faults logs.old }
 {
     if spans.len() >= MOST_LOGS {
         return Err(SpanFault::TooManyLogs);
