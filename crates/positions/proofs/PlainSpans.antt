@@ -125,7 +125,7 @@ there_at (Some files) text found front name back gives split = ((gives.matches.e
 pub name_stops : (places : Places) (start before now : Option Folder) (text : List ℕ) (old : List Span) (found : List (List ℕ)) (fault : SpanFault) → OnlyGrow start before → OnlyGrow start now → Gives start text found → ArePlain places start before old → StopsAmong places before now old found fault → StopsName places start now (identities_of old) text fault
 name_stops places start before now text old found (F.NoSuchLog name) begins grow gives plain s =
     let there = there_at start text found s.front s.name s.back gives s.split in
-    inr (untold start now s.name grow there s.stops.1)
+    inr (untold start now s.name grow there s.stops.1.1)
 name_stops places start before now text old found (F.LostLog stem number) begins grow gives plain s = absurd s.stops
 name_stops places start before now text old found (F.Shrunk name kept size) begins grow gives plain s = match_of places start before now text old found (F.Shrunk name kept size) begins gives plain s
 name_stops places start before now text old found (F.InputChanged kept given) begins grow gives plain s = absurd s.stops

@@ -17,7 +17,7 @@ use Rattle.log_reading.specs.declared.span.Span.{Span}
 use Rattle.positions.specs.declared.spans.SpanFault.{SpanFault}
 use Rattle.positions.specs.declared.spans.SpanFault.TheVariants as F
 use Rattle.positions.specs.Places.{Places}
-use Rattle.positions.specs.Spans.{IsSpanOf, AddsSpans}
+use Rattle.positions.specs.Spans.{IsSpanOf, AddsSpans, StopsFile}
 use Rattle.log_listing.specs.Firsts.{is_among}
 use Rattle.positions.specs.Spanning.{AreHere, Wants, StopsWanted, StopsGeneration, StopsStem, HasNone, IsBehind}
 use Rattle.positions.specs.SpanSteps.{Tells, AddsSpan, AddsFiles, AddsStem, StopsListed, StopsNumber, StopsRotated, IsOther, file_of, live_file}
@@ -199,21 +199,25 @@ wanted places entries start before now reached stem old held files front file ba
   stops = stops;
 }
 
-held_count : (places : Places) (before now : Option Folder) (front : List Listed) (old held : List Span) (most : ℕ) → AddsSpans places before now front old held → most ≤ length held → most ≤ length old + length front
-held_count places before now front old held most adds low =
+held_count : (places : Places) (before now : Option Folder) (front : List Listed) (old held : List Span) → AddsSpans places before now front old held → length held ≡ length old + length front
+held_count places before now front old held adds =
     let size = zip_length places before now front adds.more adds.each in
-    omega (arith, low, ap length adds.added, length-append old adds.more, size)
+    omega (arith, ap length adds.added, length-append old adds.more, size)
+
+-- behind as many logs
+counted : (places : Places) (before now later : Option Folder) (front : List Listed) (old held : List Span) (file : Listed) (fault : SpanFault) → AddsSpans places before now front old held → StopsFile places later (length held) file fault → StopsFile places later (length old + length front) file fault
+counted places before now later front old held file fault adds stops = subst (λ (n : ℕ). StopsFile places later n file fault) (held_count places before now front old held adds) stops
 
 -- why a file that is wanted has none
 file_stops : (places : Places) (entries : List Entry) (start before now : Option Folder) (reached : List (List ℕ)) (stem : List ℕ) (old held : List Span) (files front : List Listed) (file : Listed) (back : List Listed) (fault : SpanFault) → OnlyGrow start before → OnlyGrow start now → is_among reached stem ≡ false → Told start (λ folder. Wants folder entries stem files) → files ≡ front ++ file ∷ back → Told start (λ folder. AreHere folder front) → AddsSpans places before now front old held
     → Told start (λ folder. IsSome (folder file.name)) → StopsListed places now (length held) file fault → StopsStem places entries start now reached (length old) stem fault
-file_stops places entries start before now reached stem old held files front file back (F.NoSuchLog name) begins grow new wants split here adds there stops = inr (untold start now file.name grow there stops.1)
+file_stops places entries start before now reached stem old held files front file back (F.NoSuchLog name) begins grow new wants split here adds there stops = inr (untold start now file.name grow there stops.1.1)
 file_stops places entries start before now reached stem old held files front file back (F.LostLog other number) begins grow new wants split here adds there stops = absurd stops
-file_stops places entries start before now reached stem old held files front file back (F.Shrunk name kept found) begins grow new wants split here adds there stops = wanted places entries start before now reached stem old held files front file back (F.Shrunk name kept found) begins new wants split here adds stops
+file_stops places entries start before now reached stem old held files front file back (F.Shrunk name kept found) begins grow new wants split here adds there stops = wanted places entries start before now reached stem old held files front file back (F.Shrunk name kept found) begins new wants split here adds ((there, stops.0), counted places before now now front old held file (F.Shrunk name kept found) adds stops.1)
 file_stops places entries start before now reached stem old held files front file back (F.InputChanged kept given) begins grow new wants split here adds there stops = absurd stops
-file_stops places entries start before now reached stem old held files front file back F.TooManyLogs begins grow new wants split here adds there stops = wanted places entries start before now reached stem old held files front file back F.TooManyLogs begins new wants split here adds (held_count places before now front old held 100000 adds stops)
+file_stops places entries start before now reached stem old held files front file back F.TooManyLogs begins grow new wants split here adds there stops = wanted places entries start before now reached stem old held files front file back F.TooManyLogs begins new wants split here adds ((there, stops.0), counted places before now now front old held file F.TooManyLogs adds stops.1)
 file_stops places entries start before now reached stem old held files front file back F.LogsFault begins grow new wants split here adds there stops = tt
-file_stops places entries start before now reached stem old held files front file back (F.BadName fault) begins grow new wants split here adds there stops = inr (wanted places entries start before now reached stem old held files front file back (F.BadName fault) begins new wants split here adds stops)
+file_stops places entries start before now reached stem old held files front file back (F.BadName fault) begins grow new wants split here adds there stops = inr (wanted places entries start before now reached stem old held files front file back (F.BadName fault) begins new wants split here adds (there, stops))
 file_stops places entries start before now reached stem old held files front file back F.Memory begins grow new wants split here adds there stops = tt
 
 -- a range stops at a number

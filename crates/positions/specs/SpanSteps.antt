@@ -103,13 +103,13 @@ file_of stem number = record { name = generation_name stem number; identity = ge
 abbrev pub live_file : List ℕ → ℕ → Listed
 live_file stem number = record { name = stem; identity = generation_name stem number }
 
--- a file has no span, or its identity is no name
+-- a file's identity is no name, or it has no span
 abbrev pub StopsListed : Places → Option Folder → ℕ → Listed → SpanFault → Type 0
 StopsListed places now count file (F.NoSuchLog name) = StopsFile places now count file (F.NoSuchLog name)
 StopsListed places now count file (F.LostLog stem number) = ⊥
-StopsListed places now count file (F.Shrunk name kept found) = StopsFile places now count file (F.Shrunk name kept found)
+StopsListed places now count file (F.Shrunk name kept found) = (name_fault file.identity ≡ None) × StopsFile places now count file (F.Shrunk name kept found)
 StopsListed places now count file (F.InputChanged kept given) = ⊥
-StopsListed places now count file F.TooManyLogs = StopsFile places now count file F.TooManyLogs
+StopsListed places now count file F.TooManyLogs = (name_fault file.identity ≡ None) × StopsFile places now count file F.TooManyLogs
 StopsListed places now count file F.LogsFault = ⊤
 StopsListed places now count file (F.BadName fault) = name_fault file.identity ≡ Some fault
 StopsListed places now count file F.Memory = ⊤

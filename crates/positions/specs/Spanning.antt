@@ -100,15 +100,23 @@ pub record IsGone (before : Option Folder) (stem : List ℕ) (number : ℕ) (fil
   pub name_is : file.name ≡ generation_name stem number
   pub gone : Told before (λ folder. IsThereAt folder stem number → ⊥)
 
--- why a wanted file has no span
+-- a wanted file is there
+abbrev pub IsHere : Option Folder → Listed → Type 0
+IsHere before file = Told before (λ folder. IsSome (folder file.name))
+
+-- and its identity is a name
+abbrev pub IsNamedHere : Option Folder → Listed → Type 0
+IsNamedHere before file = IsHere before file × (name_fault file.identity ≡ None)
+
+-- why a wanted file has no span: the first of these that holds, gone, no name, too many, too short
 abbrev pub StopsWanted : Places → Option Folder → Option Folder → ℕ → List ℕ → Listed → SpanFault → Type 0
 StopsWanted places before now count stem file (F.NoSuchLog name) = ⊥
 StopsWanted places before now count stem file (F.LostLog other number) = (other ≡ stem) × IsGone before stem number file
-StopsWanted places before now count stem file (F.Shrunk name kept found) = StopsFile places now count file (F.Shrunk name kept found)
+StopsWanted places before now count stem file (F.Shrunk name kept found) = IsNamedHere before file × StopsFile places now count file (F.Shrunk name kept found)
 StopsWanted places before now count stem file (F.InputChanged kept given) = ⊥
-StopsWanted places before now count stem file F.TooManyLogs = StopsFile places now count file F.TooManyLogs
+StopsWanted places before now count stem file F.TooManyLogs = IsNamedHere before file × StopsFile places now count file F.TooManyLogs
 StopsWanted places before now count stem file F.LogsFault = ⊥
-StopsWanted places before now count stem file (F.BadName fault) = name_fault file.identity ≡ Some fault
+StopsWanted places before now count stem file (F.BadName fault) = IsHere before file × (name_fault file.identity ≡ Some fault)
 StopsWanted places before now count stem file F.Memory = ⊥
 
 -- files are there

@@ -65,11 +65,11 @@ IsChanged first input F.LogsFault = ⊥
 IsChanged first input (F.BadName fault) = ⊥
 IsChanged first input F.Memory = ⊤
 
--- which file has none, behind so many logs
+-- which file has none, behind so many logs: the 100,001st is refused before it is looked at
 abbrev pub StopsFile : Places → Option Folder → ℕ → Listed → SpanFault → Type 0
-StopsFile places now count file (F.NoSuchLog name) = IsRefusedFile places now file (F.NoSuchLog name)
+StopsFile places now count file (F.NoSuchLog name) = (count < most_logs) × IsRefusedFile places now file (F.NoSuchLog name)
 StopsFile places now count file (F.LostLog stem number) = ⊥
-StopsFile places now count file (F.Shrunk name kept found) = IsRefusedFile places now file (F.Shrunk name kept found)
+StopsFile places now count file (F.Shrunk name kept found) = (count < most_logs) × IsRefusedFile places now file (F.Shrunk name kept found)
 StopsFile places now count file (F.InputChanged kept given) = ⊥
 StopsFile places now count file F.TooManyLogs = most_logs ≤ count
 StopsFile places now count file F.LogsFault = ⊤

@@ -1,8 +1,9 @@
-use Rattle.std.proofs.Common.{◌≡◌, ◌+◌, max, subst, ℕ}
+use Rattle.std.proofs.Common.{◌≡◌, ◌+◌, length, max, subst, ℕ}
 use Rattle.std.proofs.lemmas.Result.{on_ok_weaker, IfErr-weaker}
 use Rattle.lp_model.proofs.Growing.{OnlyGrow-trans}
 use Rattle.generations.specs.Files.{live_part}
 use Rattle.positions.specs.Spans.{AddsSpans}
+use Rattle.positions.specs.SpanSteps.{live_file}
 use Rattle.positions.proofs.Adding.{handed_on}
 use Rattle.positions.proofs.StemSpans.{files_of, lists_of, adds_then, range_stops, live_stops, other_rotated, other_listed}
 use Rattle.positions.proofs.by_number.add_files.Goals as goal
@@ -61,4 +62,7 @@ returns-clause-stopped g c =
     c.add_live.ensures.stopped
 
 pub returns-clause-other : goal.returns-clause-other
-returns-clause-other g c = IfErr-weaker c.add_live.result _ _ (λ fault s. other_listed _ _ _ _ fault s.1) c.add_live.ensures.stopped
+returns-clause-other g c =
+    let now = g.L.Logs.folder c.add_live.new.logs in
+    let own = live_file c.args.stem.now c.max.result in
+    IfErr-weaker c.add_live.result _ _ (λ fault s. other_listed c.args.places.now.entries now (length c.add_rotated.new.spans) own fault s.1) c.add_live.ensures.stopped
