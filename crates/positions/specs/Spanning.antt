@@ -155,9 +155,9 @@ pub record HasNoRoom (stem : List ℕ) (fault : NameFault) : Type 0 where
   pub no_slash : byte ≢ 47
   pub is : name_fault (stem ++ 46 ∷ byte ∷ []) ≡ Some fault
 
--- why a name is bad as one of a stem
+-- why a name is bad as one of a stem: the first of these that holds
 abbrev pub IsBadStem : List ℕ → NameFault → Type 0
-IsBadStem text fault = (name_fault text ≡ Some fault) ⊎ (((name_fault text ≡ None) × (has_stars text ≡ true) × (fault ≡ Stars)) ⊎ HasNoRoom text fault)
+IsBadStem text fault = (name_fault text ≡ Some fault) ⊎ (((name_fault text ≡ None) × (has_stars text ≡ true) × (fault ≡ Stars)) ⊎ (IsStem text × HasNoRoom text fault))
 
 -- why a stem stops the list
 abbrev pub StopsStem : Places → List Entry → Option Folder → Option Folder → List (List ℕ) → ℕ → List ℕ → SpanFault → Type 0

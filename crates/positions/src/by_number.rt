@@ -191,6 +191,7 @@ fn add_stem<L: Logs>(
     spans: &mut Spans,
 ) -> Result<(), SpanFault>
     requires few { length spans.old ≤ 100000 }
+    requires one { IsStem stem.now }
     ensures grows { OnlyGrow (L.folder logs.old) (L.folder logs.new) }
     ensures given { L.given logs.new ≡ L.given logs.old }
     ensures later { L.faults logs.old ≤ L.faults logs.new }
