@@ -155,14 +155,18 @@ pub record HasNoRoom (stem : List ℕ) (fault : NameFault) : Type 0 where
   pub no_slash : byte ≢ 47
   pub is : name_fault (stem ++ 46 ∷ byte ∷ []) ≡ Some fault
 
+-- with a dot and a star behind it the stem is a name, by which its rotated files are listed
+abbrev pub IsListable : List ℕ → Type 0
+IsListable stem = name_fault (stem ++ 46 ∷ 42 ∷ []) ≡ None
+
 -- why a name is bad as one of a stem: the first of these that holds
 abbrev pub IsBadStem : List ℕ → NameFault → Type 0
 IsBadStem text fault = (name_fault text ≡ Some fault) ⊎ (((name_fault text ≡ None) × (has_stars text ≡ true) × (fault ≡ Stars)) ⊎ (IsStem text × HasNoRoom text fault))
 
 -- why a stem stops the list
 abbrev pub StopsStem : Places → List Entry → Option Folder → Option Folder → List (List ℕ) → ℕ → List ℕ → SpanFault → Type 0
-StopsStem places entries before now reached count text (F.NoSuchLog name) = ((name ≡ text) × Told before (HasNone entries text)) ⊎ (before ≡ None)
-StopsStem places entries before now reached count text (F.LostLog stem number) = ((stem ≡ text) × Told before (IsBehind entries text number)) ⊎ StopsGeneration places entries before now reached count text (F.LostLog stem number)
+StopsStem places entries before now reached count text (F.NoSuchLog name) = ((name ≡ text) × IsListable text × Told before (HasNone entries text)) ⊎ (before ≡ None)
+StopsStem places entries before now reached count text (F.LostLog stem number) = ((stem ≡ text) × IsListable text × Told before (IsBehind entries text number)) ⊎ StopsGeneration places entries before now reached count text (F.LostLog stem number)
 StopsStem places entries before now reached count text (F.Shrunk name kept found) = StopsGeneration places entries before now reached count text (F.Shrunk name kept found)
 StopsStem places entries before now reached count text (F.InputChanged kept given) = ⊥
 StopsStem places entries before now reached count text F.TooManyLogs = StopsGeneration places entries before now reached count text F.TooManyLogs

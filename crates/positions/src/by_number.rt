@@ -8,7 +8,7 @@ ghost use Rattle.generations.specs.There.{AreThere};
 ghost use Rattle.generations.specs.Files.{IsKnownAs, IsLiveAs, live_part};
 ghost use Rattle.log_listing.specs.Firsts.{Knows, firsts, is_among};
 ghost use Rattle.positions.specs.Spans.{AddsSpans};
-ghost use Rattle.positions.specs.Spanning.{has_stars, IsStem, IsBadStem, StopsStem};
+ghost use Rattle.positions.specs.Spanning.{has_stars, IsListable, IsStem, IsBadStem, StopsStem};
 ghost use Rattle.positions.specs.SpanSteps.{Tells, AddsSpan, StopsNumber, StopsListed, StopsRotated, AddsStem, AddsFiles, StopsStemOf, AddsText, AreStemSpans, StopsStems, IsOther, file_of, live_file};
 ghost use Rattle.positions.specs.declared.spans.SpanFault.TheVariants as F;
 
@@ -148,6 +148,7 @@ fn add_files<L: Logs>(
     spans: &mut Spans,
 ) -> Result<(), SpanFault>
     requires few { length spans.old ≤ 100000 }
+    requires listable { IsListable stem.now }
     requires known { IfSome known (λ number. 0 < number) }
     requires numbers { (number : ℕ) → Has numbers.now number → (0 < number) × (number < 2 ^ 63) }
     ensures grows { OnlyGrow (L.folder logs.old) (L.folder logs.new) }

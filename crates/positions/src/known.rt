@@ -1,6 +1,6 @@
 // The generations that kept places know.
 ghost use Rattle.std.specs.Prelude.{◌≡◌, ◌⊎◌, ◌<◌, ◌≤◌, IfOk, IfErr, IfSome};
-ghost use Rattle.positions.specs.Spanning.{HasNoRoom};
+ghost use Rattle.positions.specs.Spanning.{HasNoRoom, IsListable};
 ghost use Rattle.positions.specs.SpanSteps.{IsKnownIn, KnowsMore};
 
 use crate::Place;
@@ -44,6 +44,7 @@ fn with_generation(
 pub(crate) fn known_of(places: &Places, stem: &Name) -> Result<Option<u64>, NameFault>
     ensures ok { IfOk result (λ known. IsKnownIn places.now.entries stem.now known) }
     ensures some { IfOk result (λ known. IfSome known (λ number. 0 < number)) }
+    ensures listable { IfOk result (λ _. IsListable stem.now) }
     ensures err { IfErr result (HasNoRoom stem.now) }
 {
     let pattern = match stem.with_suffix(".*") {
