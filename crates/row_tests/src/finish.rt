@@ -143,19 +143,3 @@ fn rows_come_in_order(rt: HostRuntime) -> Result<(), Fail> {
     }
     Ok(())
 }
-
-// A row that goes behind as many as are wanted may be left out, and no more are held than wanted.
-#[test]
-fn few_rows_are_held(rt: HostRuntime) -> Result<(), Fail> {
-    let mut columns = Vec::new(rt.alloc());
-    columns.push(0)?;
-    let mut orderer = Orderer::new(rt.alloc(), columns, true, false, Some(2));
-    assert!(rt; !orderer.would_drop(&[Value::Null]));
-    orderer.put(row(rt.alloc(), (5, 0))?)?;
-    orderer.put(row(rt.alloc(), (7, 1))?)?;
-    orderer.put(row(rt.alloc(), (5, 2))?)?;
-    assert!(rt; orderer.held() == 2);
-    assert!(rt; orderer.would_drop(&[Value::Int(5)]));
-    assert!(rt; !orderer.would_drop(&[Value::Int(6)]));
-    Ok(())
-}
