@@ -79,6 +79,7 @@ pub fn numbers_there<L: Logs>(
     ensures bounded { IfOk result (λ numbers. (number : ℕ) → Has numbers number → (0 < number) × (number < 2 ^ 63)) }
     ensures unlisted { IfErr result (IsUnlisted stem.now) }
     ensures failed { IsErrOf result F.Logs → Rose (L.faults logs.old) (L.faults logs.new) }
+    ensures wants { IsErrOf result F.Memory → L.faults logs.new ≡ L.faults logs.old }
 {
     let pattern = match stem.with_suffix(".*") {
         Ok(pattern) => pattern,

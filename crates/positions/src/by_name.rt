@@ -99,6 +99,7 @@ fn add_name<L: Logs>(
     ensures few { OnOk result (length spans.new ≤ 100000) }
     ensures stopped { IfErr result (λ fault. (start : Option Folder) → OnlyGrow start (L.folder logs.old) → ArePlain places.now.entries start (L.folder logs.old) spans.old → StopsName places.now.entries start (L.folder logs.new) (identities_of spans.old) text.now fault) }
     ensures failed { IsErrOf result F.LogsFault → Rose (L.faults logs.old) (L.faults logs.new) }
+    ensures wants { IsErrOf result F.Memory → L.faults logs.new ≡ L.faults logs.old }
 {
     let name = match Name::read(text) {
         Ok(name) => name,
@@ -131,6 +132,7 @@ pub(crate) fn spans_of_names<L: Logs>(
     ensures few { IfOk result (λ spans. length spans ≤ 100000) }
     ensures stopped { IfErr result (StopsNames places.now.entries (L.folder logs.old) (L.folder logs.new) texts.now) }
     ensures failed { IsErrOf result F.LogsFault → Rose (L.faults logs.old) (L.faults logs.new) }
+    ensures wants { IsErrOf result F.Memory → L.faults logs.new ≡ L.faults logs.old }
 {
     let mut seen = BTreeSet::new(alloc);
     let mut spans = Spans::new(alloc);

@@ -202,6 +202,7 @@ fn add_stem<L: Logs>(
     ensures stopped { IfErr result (StopsStemOf places.now.entries (L.folder logs.old) (L.folder logs.new) (length spans.old) stem.now) }
     ensures other { IfErr result IsOther }
     ensures failed { IsErrOf result F.LogsFault → Rose (L.faults logs.old) (L.faults logs.new) }
+    ensures wants { IsErrOf result F.Memory → L.faults logs.new ≡ L.faults logs.old }
 {
     let live = match is_live(logs, stem) {
         Ok(live) => live,
@@ -265,6 +266,7 @@ fn add_text<L: Logs>(
     ensures stopped { IfErr result (λ fault. (start : Option Folder) (entries : List Entry) (texts : List (List ℕ)) → OnlyGrow start (L.folder logs.old) → Tells entries places.now.entries → Knows seen.old (firsts texts) → StopsStem places.now.entries entries start (L.folder logs.new) (firsts texts) (length spans.old) text.now fault) }
     ensures other { IfErr result IsOther }
     ensures failed { IsErrOf result F.LogsFault → Rose (L.faults logs.old) (L.faults logs.new) }
+    ensures wants { IsErrOf result F.Memory → L.faults logs.new ≡ L.faults logs.old }
 {
     let stem = match stem_of(text) {
         Ok(stem) => stem,
@@ -292,6 +294,7 @@ pub(crate) fn spans_of_stems<L: Logs>(
     ensures stopped { IfErr result (StopsStems places.now.entries (L.folder logs.old) (L.folder logs.new) texts.now) }
     ensures other { IfErr result IsOther }
     ensures failed { IsErrOf result F.LogsFault → Rose (L.faults logs.old) (L.faults logs.new) }
+    ensures wants { IsErrOf result F.Memory → L.faults logs.new ≡ L.faults logs.old }
 {
     let mut seen = BTreeSet::new(alloc);
     let mut spans = Spans::new(alloc);

@@ -35,6 +35,7 @@ impl Positions {
         ensures stopped { IfErr result (λ fault. (entries : List Entry) → AreOf (rule_of sources.now.rotation) entries self.now
             → IsStopped (rule_of sources.now.rotation) self.now.places entries sources.now.names (L.folder logs.old) (L.folder logs.new) fault) }
         ensures failed { IsErrOf result F.LogsFault → Rose (L.faults logs.old) (L.faults logs.new) }
+        ensures wants { IsErrOf result F.Memory → L.faults logs.new ≡ L.faults logs.old }
     {
         self.check_input(alloc, input)?;
         match sources.rotation {
