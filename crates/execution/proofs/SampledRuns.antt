@@ -1,5 +1,5 @@
 -- What a run over sampled columns says of its query.
-use Rattle.std.proofs.Common.{◌≡◌, false, List, ℕ, ℤ, Option, Some, None, Err, inl, inr, subst}
+use Rattle.std.proofs.Common.{◌≡◌, true, false, List, ℕ, ℤ, Option, Some, None, Err, inl, inr, subst}
 use Rattle.grammar.specs.Trees as model
 use Rattle.lp_model.specs.Outside.{Folder, Told}
 use Rattle.command_words.specs.declared.spec.Spec.{Spec}
@@ -11,10 +11,9 @@ use Rattle.log_reading.specs.Spans.{AreKept, BadLine, spans_bad_lines}
 use Rattle.query_run.specs.Output.{StageKind, OutputAt, placed_at, GainsText, GainsFront}
 use Rattle.query_run.specs.declared.executing.Written.{Written}
 use Rattle.query_types.specs.declared.fault.TypeFault.{TypeFault}
-use Rattle.sampled_run.specs.Holds.{IsFront, IsRefused}
-use Rattle.sampled_run.specs.Past.{Rules, rules_of}
-use Rattle.sampled_run.specs.Ran.{IsSampled}
-use Rattle.sampled_run.specs.Spans.{past_of}
+use Rattle.sampled_run.specs.Ran.{IsFront, IsRefused, IsSampled}
+use Rattle.sampled_run.specs.Rules.{Rules, rules_of}
+use Rattle.column_kinds.specs.Spans.{past_of}
 use Rattle.execution.specs.declared.formats.LogFormat.TheVariants as F
 use Rattle.execution.specs.Executed.{IsExecuted, IsStopped, IsParseError, IsUnplanned, IsUntouched}
 use Rattle.execution.specs.Texts.{RowsText, run_text}
@@ -23,7 +22,7 @@ abbrev Kept : DelimitedOptions → List Span → Folder → Type 0
 Kept options spans folder = AreKept (delimited_lines options) false spans folder
 
 abbrev pub rules_with : ℕ → Spec → ℤ → model.Query → RowsText → Rules
-rules_with limit spec moment q text = rules_of limit spec.ts_format moment q text
+rules_with limit spec moment q text = rules_of limit spec.ts_format moment q true text
 
 abbrev pub rules_in : ℕ → Spec → ℤ → model.Query → Rules
 rules_in limit spec moment q = rules_with limit spec moment q (run_text spec moment q)
@@ -39,7 +38,7 @@ abbrev Front : {S : Type 0} → {kind : StageKind S} → OutputAt kind → S →
 Front before now text = GainsFront before now text
 
 written_all : {S : Type 0} {kind : StageKind S} (told : Option Folder) (before : OutputAt kind) (now : S) (spec : Spec) (moment : ℤ) (q : model.Query) (options : DelimitedOptions) (limit : ℕ) (spans : List Span) (run : Written)
-    → Told told (λ folder. Kept options spans folder → IsSampled (rules_in limit spec moment q) before (past_of (delimited_lines options) false folder spans) (delimited_lines options) folder spans run now)
+    → Told told (λ folder. Kept options spans folder → IsSampled (rules_in limit spec moment q) before (past_of (delimited_lines options) false folder spans) (delimited_lines options) false folder spans run now)
     → IsWithin spec.errors run.counts.bad
     → IsExecuted (F.Sampled options limit) told (Has before run now) spec moment q spans run.counts
 written_all None before now spec moment q options limit spans run ran within = tt
@@ -53,11 +52,11 @@ written_all (Some folder) before now spec moment q options limit spans run ran w
 
 pub executed : {S : Type 0} {kind : StageKind S} (told : Option Folder) (before : OutputAt kind) (now : S) (spec : Spec) (moment : ℤ) (q : model.Query) (options : DelimitedOptions) (limit : ℕ) (slice spans : List Span) (run : Written) (most : Option ℕ) (text : RowsText)
     → slice ≡ spans → most ≡ spec.errors → text ≡ run_text spec moment q
-    → Told told (λ folder. Kept options slice folder → IsSampled (rules_with limit spec moment q text) before (past_of (delimited_lines options) false folder slice) (delimited_lines options) folder slice run now)
+    → Told told (λ folder. Kept options slice folder → IsSampled (rules_with limit spec moment q text) before (past_of (delimited_lines options) false folder slice) (delimited_lines options) false folder slice run now)
     → IsWithin most run.counts.bad
     → IsExecuted (F.Sampled options limit) told (Has before run now) spec moment q spans run.counts
 executed told before now spec moment q options limit slice spans run most text listed same asked ran within =
-    let Of : Rules → Type 0 = λ rules. Told told (λ folder. Kept options slice folder → IsSampled rules before (past_of (delimited_lines options) false folder slice) (delimited_lines options) folder slice run now) in
+    let Of : Rules → Type 0 = λ rules. Told told (λ folder. Kept options slice folder → IsSampled rules before (past_of (delimited_lines options) false folder slice) (delimited_lines options) false folder slice run now) in
     subst (λ (s : List Span). IsExecuted (F.Sampled options limit) told (Has before run now) spec moment q s run.counts) listed
     (written_all told before now spec moment q options limit slice run (as_asked limit spec moment q text asked Of ran) (subst (λ (m : Option ℕ). IsWithin m run.counts.bad) same within))
 

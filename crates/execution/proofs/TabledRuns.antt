@@ -19,12 +19,12 @@ abbrev Kept : TableFormat → List Span → Folder → Type 0
 Kept format spans folder = AreKept (lines_of format) false spans folder
 
 abbrev text_with : RowsText → TableFormat → Planned → Folder → List Span → List ℕ
-text_with text format plan folder spans = text true plan.names (plan_rows (readings_of format) plan (lines_of format) folder spans)
+text_with text format plan folder spans = text true plan.names (plan_rows (readings_of format) plan (lines_of format) false folder spans)
 
 written_all : (told : Option Folder) (Has : List ℕ → Type 0) (spec : Spec) (moment : ℤ) (q : model.Query) (format : TableFormat) (plan : Planned) (spans : List Span) (counts : Counts)
     → Told told (λ folder. Kept format spans folder → Has (text_with (run_text spec moment q) format plan folder spans))
     → Told told (λ folder. Kept format spans folder → counts.processed ≡ length (spans_found (lines_of format) false folder spans))
-    → Told told (λ folder. Kept format spans folder → counts.output ≡ length (plan_rows (readings_of format) plan (lines_of format) folder spans))
+    → Told told (λ folder. Kept format spans folder → counts.output ≡ length (plan_rows (readings_of format) plan (lines_of format) false folder spans))
     → Told told (λ folder. Kept format spans folder → counts.bad ≡ length (spans_bad (lines_of format) false folder spans))
     → IsWithin spec.errors counts.bad
     → Told told (λ folder. Kept format spans folder → Writes Has spec moment q (F.Tabled format) plan spans counts folder)
@@ -36,7 +36,7 @@ pub executed : (told : Option Folder) (Has : List ℕ → Type 0) (spec : Spec) 
     → slice ≡ spans → plan_of (table_of format) moment q ≡ Ok plan → most ≡ spec.errors → text ≡ run_text spec moment q
     → Told told (λ folder. Kept format slice folder → Has (text_with text format plan folder slice))
     → Told told (λ folder. Kept format slice folder → counts.processed ≡ length (spans_found (lines_of format) false folder slice))
-    → Told told (λ folder. Kept format slice folder → counts.output ≡ length (plan_rows (readings_of format) plan (lines_of format) folder slice))
+    → Told told (λ folder. Kept format slice folder → counts.output ≡ length (plan_rows (readings_of format) plan (lines_of format) false folder slice))
     → Told told (λ folder. Kept format slice folder → counts.bad ≡ length (spans_bad (lines_of format) false folder slice))
     → IsWithin most counts.bad
     → IsExecuted (F.Tabled format) told Has spec moment q spans counts

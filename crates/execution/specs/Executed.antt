@@ -16,11 +16,11 @@ use Rattle.query_types.specs.declared.table.TableColumns.{TableColumns}
 use Rattle.query_types.specs.Planned.{Planned, plan_of}
 use Rattle.input_tables.specs.Tables.{lines_of, readings_of, table_of}
 use Rattle.plan_run.specs.Rows.{plan_rows}
-use Rattle.sampled_run.specs.Past.{rows_with}
-use Rattle.sampled_run.specs.Spans.{first_log}
-use Rattle.sampled_table.specs.declared.judging.Judged.{Judged}
-use Rattle.sampled_table.specs.Judged.{judged}
-use Rattle.sampled_table.specs.Judged.{table_of as table_with}
+use Rattle.sampled_run.specs.Rules.{rows_with}
+use Rattle.column_kinds.specs.Spans.{first_log}
+use Rattle.column_kinds.specs.declared.judging.Judged.{Judged}
+use Rattle.column_kinds.specs.Judged.{judged}
+use Rattle.column_kinds.specs.Judged.{table_of as table_with}
 use Rattle.execution.specs.declared.formats.LogFormat.{LogFormat}
 use Rattle.execution.specs.declared.formats.LogFormat.TheVariants as F
 use Rattle.execution.specs.Formats.{lines_in}
@@ -46,7 +46,7 @@ OnTable (F.Sampled options limit) pattern told spans P = Told told (λ folder. A
 
 -- the output rows of a plan over spans
 abbrev pub rows_in : LogFormat → List Piece → Planned → Folder → List Span → List (List Value)
-rows_in (F.Tabled format) pattern plan folder spans = plan_rows (readings_of format) plan (lines_of format) folder spans
+rows_in (F.Tabled format) pattern plan folder spans = plan_rows (readings_of format) plan (lines_of format) false folder spans
 rows_in (F.Sampled options limit) pattern plan folder spans = rows_with pattern (told_in options limit pattern folder spans) plan (spans_found (delimited_lines options) false folder spans)
 
 -- the text of these rows

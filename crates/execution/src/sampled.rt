@@ -18,6 +18,7 @@ use any_format::Format;
 use checkpoint::Spans;
 use command_words::Spec;
 use delimited_input::DelimitedOptions;
+use log_reading::TookList;
 use lp_outside::{Logs, Stage};
 use query_run::Target;
 use query_tree::Query;
@@ -58,6 +59,7 @@ pub(crate) fn execute_sampled<L: Logs, G: Stage>(
     ensures later { G.faults stage.old ≤ G.faults stage.new }
     ensures stage { IsErrOf result RunFault.StageFault → Rose (G.faults stage.old) (G.faults stage.new) }
 {
+    let mut took = TookList::new(alloc);
     match run_sampled(
         alloc,
         options,
@@ -66,10 +68,13 @@ pub(crate) fn execute_sampled<L: Logs, G: Stage>(
         moment,
         shape,
         query,
+        true,
         most_bad(spec.errors),
+        false,
         logs,
         spans.as_slice(),
         target,
+        &mut took,
         stage,
     ) {
         Ok(run) => Ok(Ran {

@@ -18,7 +18,7 @@ use any_format::Format;
 use checkpoint::Spans;
 use command_words::Spec;
 use input_tables::TableFormat;
-use log_reading::RunFault as ReadFault;
+use log_reading::{RunFault as ReadFault, TookList};
 use lp_outside::{Logs, Stage};
 use plan_run::run_plan;
 use query_run::Target;
@@ -73,15 +73,19 @@ pub(crate) fn execute_tabled<L: Logs, G: Stage>(
         Ok(plan) => plan,
         Err(fault) => return Err(unplanned(fault)),
     };
+    let mut took = TookList::new(alloc);
     match run_plan(
         alloc,
         format,
         shape,
         plan,
+        true,
+        false,
         logs,
         spans.as_slice(),
         target,
         most_bad(spec.errors),
+        &mut took,
         stage,
     ) {
         Ok(run) => Ok(Ran {

@@ -1,8 +1,11 @@
 -- The rows of a line, field list by field list.
-use Rattle.std.proofs.Common.{◌≡◌, ℕ, ◌+◌, ◌<◌, List, [], ◌∷◌, ◌++◌, length, take, drop, get_or, map, Option, ap, sym, ◌∙◌}
+use Rattle.std.proofs.Common.{◌≡◌, ℕ, zero, suc, ◌+◌, ◌<◌, List, [], ◌∷◌, ◌++◌, length, take, drop, get_or, map, Option, option_map, ap, sym, ◌∙◌, refl}
+use Rattle.std.specs.List.{slice_get}
 use Rattle.std.proofs.lemmas.List.{map-append, take_more, take-append-drop}
 use Rattle.lp_model.specs.Reading.{Columns, Slots, Record, records_read, rows}
-use Rattle.log_reading.specs.Found.{Met, met_of}
+use Rattle.line_input.specs.declared.slot.Slot.{Slot}
+use Rattle.line_input.specs.Taken.{slot_bytes, slots_of}
+use Rattle.log_reading.specs.Found.{Met, held, met_of, slot_at}
 
 abbrev pub founds : List ℕ → ℕ → Option Columns → List Slots → List Met
 founds identity number columns slots = met_of identity (records_read number columns (rows slots))
@@ -29,3 +32,9 @@ founds_split s identity number columns items i x lt is =
     ap (λ t. t ++ founds identity number columns (map s (drop (i + 1) items))) (founds_more s identity number columns items i x lt is)
     ∙ (sym (founds-append identity number columns (map s (take (i + 1) items)) (map s (drop (i + 1) items)))
     ∙ ap (founds identity number columns) (sym (map-append s (take (i + 1) items) (drop (i + 1) items)) ∙ ap (map s) (take-append-drop (i + 1) items)))
+
+-- the field of a line at a place
+pub field_at : (line : List ℕ) (fields : List Slot) (i : ℕ) → slot_at (slots_of line fields) i ≡ held (option_map (slot_bytes line) (slice_get fields i))
+field_at line [] i = refl
+field_at line (f ∷ fs) zero = refl
+field_at line (f ∷ fs) (suc i) = field_at line fs i

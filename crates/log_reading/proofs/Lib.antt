@@ -6,3 +6,4 @@ pub mod Starting
 pub mod Ending
 pub mod Faults
 pub mod RowsMet
+pub mod Sizes

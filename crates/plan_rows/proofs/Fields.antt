@@ -7,13 +7,9 @@ use Rattle.line_input.specs.Taken.{slots_of, slot_bytes}
 use Rattle.lp_values.specs.declared.value.Value.TheVariants.{Null}
 use Rattle.slot_reading.specs.declared.reading.Reading.{Reading}
 use Rattle.slot_reading.specs.Slots.{value_of}
-use Rattle.plan_rows.specs.Picks.{fields_read, held, slot_at}
-
--- the field of a line at a place
-pub field_at : (line : List ℕ) (fields : List Slot) (i : ℕ) → slot_at (slots_of line fields) i ≡ held (option_map (slot_bytes line) (slice_get fields i))
-field_at line [] i = refl
-field_at line (f ∷ fs) zero = refl
-field_at line (f ∷ fs) (suc i) = field_at line fs i
+use Rattle.plan_rows.specs.Picks.{fields_read}
+use Rattle.log_reading.proofs.Founds.{field_at}
+use Rattle.log_reading.specs.Found.{held, slot_at}
 
 -- the value of a field
 pub fields_read-at : (readings : List Reading) (slots : Slots) (at k : ℕ) (reading : Reading) → slice_get readings k ≡ Some reading → get_or (fields_read readings slots at) k Null ≡ value_of reading (slot_at slots (at + k))

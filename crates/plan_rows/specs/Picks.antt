@@ -1,24 +1,16 @@
 -- What a plan makes of a record.
 use Rattle.std.specs.Prelude.{◌≡◌, ◌<◌, ◌==◌, ◌||◌, ℕ, ◌+◌, Bool, true, false, pos, List, [], ◌∷◌, length, get_or, Option, Some, None}
-use Rattle.std.specs.List.{slice_get, list_any}
+use Rattle.std.specs.List.{list_any}
 use Rattle.lp_model.specs.Reading.{Slots}
 use Rattle.lp_values.specs.declared.value.Value.{Value}
 use Rattle.lp_values.specs.declared.value.Value.TheVariants.{Null, Int, Text}
-use Rattle.log_reading.specs.Found.{Found}
+use Rattle.log_reading.specs.Found.{Found, slot_at}
 use Rattle.slot_reading.specs.declared.reading.Reading.{Reading}
 use Rattle.slot_reading.specs.Slots.{value_of}
 use Rattle.query_types.specs.Terms.{Term, any_has_column}
 use Rattle.query_types.specs.Conditions.{Filter}
 use Rattle.query_types.specs.Planned.{is_mentioned}
 use Rattle.row_engine.specs.Rows.{keeps, selected_in}
-
-abbrev pub held : Option (Option (List ℕ)) → Option (List ℕ)
-held None = None
-held (Some slot) = slot
-
--- the field at a place, none where the record lacks it
-abbrev pub slot_at : Slots → ℕ → Option (List ℕ)
-slot_at slots k = held (slice_get slots k)
 
 -- the values of a record's fields from a place on, each read as its column is; a field that the record lacks is NULL
 abbrev pub fields_read : List Reading → Slots → ℕ → List Value

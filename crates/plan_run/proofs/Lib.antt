@@ -1,2 +1,2 @@
-pub mod Sizes
+pub mod Fronts
 pub mod Texts

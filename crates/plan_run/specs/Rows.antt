@@ -1,5 +1,5 @@
 -- The rows that a plan makes of spans.
-use Rattle.std.specs.Prelude.{false, List}
+use Rattle.std.specs.Prelude.{Bool, List}
 use Rattle.lp_model.specs.Outside.{Folder}
 use Rattle.lp_model.specs.Reading.{Format}
 use Rattle.lp_values.specs.declared.value.Value.{Value}
@@ -11,5 +11,5 @@ use Rattle.slot_reading.specs.declared.reading.Reading.{Reading}
 use Rattle.plan_rows.specs.Picks.{plan_picks}
 
 -- the output rows of a plan over spans
-abbrev pub plan_rows : List Reading → Planned → Format → Folder → List Span → List (List Value)
-plan_rows readings plan format folder spans = picked (plan_picks readings plan.items plan.condition) (spans_found format false folder spans)
+abbrev pub plan_rows : List Reading → Planned → Format → Bool → Folder → List Span → List (List Value)
+plan_rows readings plan format waits folder spans = picked (plan_picks readings plan.items plan.condition) (spans_found format waits folder spans)

@@ -1,11 +1,3 @@
-mod Kept
-mod Begun
-mod Records
-mod Taken
-mod SetsOnce
-mod Delimited
-mod Behind
+mod Texts
+mod Fresh
 mod Ran
-mod Noted
-mod Answered
-mod Sizes

@@ -1,9 +1,6 @@
-pub mod Counts
-pub mod Past
+pub mod Rules
+pub mod Plans
+pub mod Made
+pub mod Kinds
 pub mod Fresh
-pub mod Spans
-pub mod Holds
-pub mod Laws
-pub mod Stops
-pub mod Taking
 pub mod Ran

@@ -2,12 +2,17 @@
 ghost use Rattle.std.specs.Prelude.{◌≡◌, ◌≤◌, IfOk, IfErr, IsErrOf};
 ghost use Rattle.lp_model.specs.Outside.{Rose};
 ghost use Rattle.query_run.specs.Output.{kind_of, OutputAt};
-ghost use Rattle.sampled_run.specs.Past.{Past, Rules};
-ghost use Rattle.sampled_run.specs.Holds.{Holds, IsWritten, Begun};
-ghost use Rattle.sampled_run.specs.Stops.{IsStop};
+ghost use Rattle.column_kinds.specs.Makers.{stop_of};
+ghost use Rattle.column_kinds.specs.Past.{Past};
+ghost use Rattle.column_kinds.specs.Sampling.{Begun, Holds};
+ghost use Rattle.column_kinds.specs.Sampling.{Rules as SampleRules};
+ghost use Rattle.sampled_run.specs.declared.text_maker.TextMaker.{TextMaker};
+ghost use Rattle.sampled_run.specs.Kinds.{writer_kind, run_rules, Fits};
+ghost use Rattle.sampled_run.specs.Ran.{IsWritten, IsEndedBy};
 
-use crate::beginning::{begin, stop_of};
-use crate::{Phase, Sampling, Stop};
+use crate::TextMaker;
+use column_kinds::{Sampled, Stop};
+use log_reading::TakeFault;
 use lp_outside::Stage;
 use output_formats::Shape;
 use query_run::{Output, Writer, finish};
@@ -21,17 +26,29 @@ pub struct End {
     pub output: Output,
 }
 
+// Why a run stops, where its writer failed.
+fn stop_of(fault: TakeFault) -> Stop
+    ensures { result ≡ stop_of fault }
+{
+    match fault {
+        TakeFault::Memory | TakeFault::Stopped => Stop::Memory,
+        TakeFault::Failed => Stop::Failed,
+    }
+}
+
 // Ends the text.
 fn end_text<'a, F: Shape + Drop, G: Stage>(
     mut writer: Writer<F, SampledPicker<'a>>,
     stage: &mut G,
 ) -> Result<End, Stop>
-    ensures written { IfOk result (λ end. (rules : Rules) (start : OutputAt (kind_of G.state G.ended)) (past : Past) → Begun F.text F.has_text rules start past writer.entry stage.old → IsWritten rules start past end.rows end.output stage.new) }
+    ensures written { IfOk result (λ end. (rules : SampleRules (TextMaker F)) (begin : G) (start : OutputAt (kind_of G.state G.ended)) (past : Past) → Fits (kind_of G.state G.ended) rules begin start
+        → Begun (writer_kind (kind_of G.state G.ended) F.text F.has_text) rules begin past writer.entry stage.old → IsWritten (run_rules F.text rules) start past end.rows end.output stage.new) }
     ensures ended { IfOk result (λ end. G.ended stage.new end.output.name end.output.base end.output.mark) }
-    ensures stopped { IfErr result (λ stop. (rules : Rules) (start : OutputAt (kind_of G.state G.ended)) (past : Past) → Begun F.text F.has_text rules start past writer.entry stage.old → IsStop rules start past stop stage.new) }
+    ensures stopped { IfErr result (λ stop. (rules : SampleRules (TextMaker F)) (begin : G) (start : OutputAt (kind_of G.state G.ended)) (past : Past) → Fits (kind_of G.state G.ended) rules begin start
+        → Begun (writer_kind (kind_of G.state G.ended) F.text F.has_text) rules begin past writer.entry stage.old → IsEndedBy (run_rules F.text rules) start past stop stage.new) }
     ensures goes { G.goes stage.old stage.new }
     ensures later { G.faults stage.old ≤ G.faults stage.new }
-    ensures failed { IsErrOf result Stop.Output → Rose (G.faults stage.old) (G.faults stage.new) }
+    ensures failed { IsErrOf result Stop.Failed → Rose (G.faults stage.old) (G.faults stage.new) }
 {
     match finish(&mut writer, stage) {
         Ok(output) => Ok(End {
@@ -42,35 +59,24 @@ fn end_text<'a, F: Shape + Drop, G: Stage>(
     }
 }
 
-/// Ends a run: judges the columns where that wasn't done yet, and ends the text. It answers how many rows there are, and the output.
-pub fn finish_run<'a, F: Shape + Drop, G: Stage>(
+/// Ends a run: makes the writer where that wasn't done yet, and ends the text. It answers how many rows there are, and the
+/// output.
+pub(crate) fn finish_run<'a, F: Shape + Drop, G: Stage>(
     alloc: Global,
-    sampling: Sampling<'a, F>,
+    sampled: Sampled<'a, TextMaker<'a, F>, Writer<F, SampledPicker<'a>>>,
     stage: &mut G,
 ) -> Result<End, Stop>
-    ensures written { IfOk result (λ end. (rules : Rules) (start : OutputAt (kind_of G.state G.ended)) (past : Past) → Holds F.text F.has_text rules start past sampling.entry stage.old → IsWritten rules start past end.rows end.output stage.new) }
+    ensures written { IfOk result (λ end. (rules : SampleRules (TextMaker F)) (begin : G) (start : OutputAt (kind_of G.state G.ended)) (past : Past) → Fits (kind_of G.state G.ended) rules begin start
+        → Holds (writer_kind (kind_of G.state G.ended) F.text F.has_text) rules begin past sampled.entry stage.old → IsWritten (run_rules F.text rules) start past end.rows end.output stage.new) }
     ensures ended { IfOk result (λ end. G.ended stage.new end.output.name end.output.base end.output.mark) }
-    ensures stopped { IfErr result (λ stop. (rules : Rules) (start : OutputAt (kind_of G.state G.ended)) (past : Past) → Holds F.text F.has_text rules start past sampling.entry stage.old → IsStop rules start past stop stage.new) }
+    ensures stopped { IfErr result (λ stop. (rules : SampleRules (TextMaker F)) (begin : G) (start : OutputAt (kind_of G.state G.ended)) (past : Past) → Fits (kind_of G.state G.ended) rules begin start
+        → Holds (writer_kind (kind_of G.state G.ended) F.text F.has_text) rules begin past sampled.entry stage.old → IsEndedBy (run_rules F.text rules) start past stop stage.new) }
     ensures goes { G.goes stage.old stage.new }
     ensures later { G.faults stage.old ≤ G.faults stage.new }
-    ensures failed { IsErrOf result Stop.Output → Rose (G.faults stage.old) (G.faults stage.new) }
+    ensures failed { IsErrOf result Stop.Failed → Rose (G.faults stage.old) (G.faults stage.new) }
 {
-    let Sampling {
-        limit,
-        pattern,
-        moment,
-        query,
-        phase,
-    } = sampling;
-    match phase {
-        Phase::Gathering(gathering) => {
-            match begin(alloc, limit, pattern, moment, query, gathering, stage) {
-                Ok(writer) => end_text(writer, stage),
-                Err(stop) => Err(stop),
-            }
-        }
-        Phase::Writing(writer) => end_text(writer, stage),
-        Phase::Refused(fault) => Err(Stop::Plan(fault)),
-        Phase::Lost => Err(Stop::Memory),
+    match sampled.finish(alloc, stage) {
+        Ok(writer) => end_text(writer, stage),
+        Err(stop) => Err(stop),
     }
 }

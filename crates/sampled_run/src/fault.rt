@@ -2,17 +2,6 @@
 use lp_outside::Name;
 use query_types::TypeFault;
 
-/// Why a run stops at its output. The fault of a plan is never want of memory.
-#[derive(Clone, Copy, Debug, PartialEq, Eq)]
-pub enum Stop {
-    /// The query doesn't fit the columns of the logs.
-    Plan(TypeFault),
-    /// A call of the output failed.
-    Output,
-    /// Memory was refused.
-    Memory,
-}
-
 /// Why a run over sampled columns stops.
 #[derive(Drop)]
 pub enum SampleFault {

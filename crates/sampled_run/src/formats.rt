@@ -1,21 +1,21 @@
 // A query over CSV or TSV logs.
-ghost use Rattle.std.specs.Prelude.{◌≡◌, ◌≤◌, ◌+◌, true, false, length, IfOk, IfErr, IsErrOf};
+ghost use Rattle.std.specs.Prelude.{◌≡◌, ◌≤◌, ◌+◌, ◌++◌, true, length, map, OnOk, IfOk, IfErr, IsErrOf};
 ghost use Rattle.lp_model.specs.Outside.{Rose, OnlyGrow, Told, bytes_in};
 ghost use Rattle.log_reading.specs.Page.{IsTooMany, IsWithin};
-ghost use Rattle.log_reading.specs.Spans.{AllSpans, AreKept, IsSpan, spans_bad_lines, spans_size};
+ghost use Rattle.log_reading.specs.Spans.{AllSpans, AreKept, IsSpan, spans_bad_lines, spans_size, took_of};
 ghost use Rattle.delimited_input.specs.Lines.{delimited_lines};
 ghost use Rattle.delimited_input.specs.Separators.{IsRefused};
 ghost use Rattle.query_run.specs.Output.{kind_of, reached};
 ghost use Rattle.query_tree.specs.Views.{query_of};
 ghost use Rattle.query_types.specs.Built.{is_built};
-ghost use Rattle.sampled_run.specs.Past.{rules_of};
-ghost use Rattle.sampled_run.specs.Spans.{past_of};
+ghost use Rattle.column_kinds.specs.Spans.{past_of};
+ghost use Rattle.sampled_run.specs.Rules.{rules_of};
 ghost use Rattle.sampled_run.specs.Ran.{IsSampled, IsStoppedBy, OnBadOne};
 
 use crate::running::sample_reader;
 use crate::{Moment, SampleFault};
 use delimited_input::{Delimited, DelimitedOptions};
-use log_reading::Span;
+use log_reading::{Span, TookList};
 use lp_outside::{Logs, Stage};
 use lp_time::Pattern;
 use output_formats::Shape;
@@ -32,10 +32,13 @@ pub fn run_sampled<'a, L: Logs, F: Shape + Drop, G: Stage>(
     moment: Moment,
     shape: F,
     query: &'a Query,
+    fresh: bool,
     most_bad: Option<u64>,
+    waits: bool,
     logs: &mut L,
     spans: &[Span],
     target: Target,
+    took: &mut TookList,
     stage: &mut G,
 ) -> Result<Written, SampleFault>
     requires separator { ¬ IsRefused options.separator }
@@ -44,14 +47,16 @@ pub fn run_sampled<'a, L: Logs, F: Shape + Drop, G: Stage>(
     requires spans { AllSpans spans.now IsSpan }
     requires there { Told (L.folder logs.old) (λ folder. AllSpans spans.now (λ span. span.listed ≤ length (bytes_in folder span.name))) }
     ensures grows { OnlyGrow (L.folder logs.old) (L.folder logs.new) }
-    ensures ran { IfOk result (λ run. Told (L.folder logs.new) (λ folder. AreKept (delimited_lines options) false spans.now folder
-        → IsSampled (rules_of limit pattern.now moment.seconds (query_of query.now) (F.text shape)) (reached (kind_of G.state G.ended) target stage.old) (past_of (delimited_lines options) false folder spans.now) (delimited_lines options) folder spans.now run stage.new)) }
+    ensures ran { IfOk result (λ run. Told (L.folder logs.new) (λ folder. AreKept (delimited_lines options) waits spans.now folder
+        → IsSampled (rules_of limit pattern.now moment.seconds (query_of query.now) fresh (F.text shape)) (reached (kind_of G.state G.ended) target stage.old) (past_of (delimited_lines options) waits folder spans.now) (delimited_lines options) waits folder spans.now run stage.new)) }
     ensures ended { IfOk result (λ run. G.ended stage.new run.output.name run.output.base run.output.mark) }
-    ensures stopped { IfErr result (λ fault. Told (L.folder logs.new) (λ folder. AreKept (delimited_lines options) false spans.now folder
-        → IsStoppedBy (rules_of limit pattern.now moment.seconds (query_of query.now) (F.text shape)) (reached (kind_of G.state G.ended) target stage.old) (past_of (delimited_lines options) false folder spans.now) fault stage.new)) }
+    ensures stopped { IfErr result (λ fault. Told (L.folder logs.new) (λ folder. AreKept (delimited_lines options) waits spans.now folder
+        → IsStoppedBy (rules_of limit pattern.now moment.seconds (query_of query.now) fresh (F.text shape)) (reached (kind_of G.state G.ended) target stage.old) (past_of (delimited_lines options) waits folder spans.now) fault stage.new)) }
     ensures within { IfOk result (λ run. IsWithin most_bad run.counts.bad) }
-    ensures too_many { IfErr result (λ fault. OnBadOne fault (λ line. Told (L.folder logs.new) (λ folder. AreKept (delimited_lines options) false spans.now folder
-        → IsTooMany most_bad 0 (spans_bad_lines (delimited_lines options) false folder spans.now) line))) }
+    ensures too_many { IfErr result (λ fault. OnBadOne fault (λ line. Told (L.folder logs.new) (λ folder. AreKept (delimited_lines options) waits spans.now folder
+        → IsTooMany most_bad 0 (spans_bad_lines (delimited_lines options) waits folder spans.now) line))) }
+    ensures took { OnOk result (waits ≡ true → Told (L.folder logs.new) (λ folder. AreKept (delimited_lines options) true spans.now folder
+        → took.new ≡ took.old ++ map (took_of (delimited_lines options) folder) spans.now)) }
     ensures given { L.given logs.new ≤ L.given logs.old + spans_size spans.now }
     ensures later_logs { L.faults logs.old ≤ L.faults logs.new }
     ensures logs { IsErrOf result SampleFault.Logs → Rose (L.faults logs.old) (L.faults logs.new) }
@@ -63,6 +68,7 @@ pub fn run_sampled<'a, L: Logs, F: Shape + Drop, G: Stage>(
         unreachable!();
     };
     sample_reader(
-        alloc, &reader, limit, pattern, moment, query, most_bad, logs, spans, shape, target, stage,
+        alloc, &reader, limit, pattern, moment, query, fresh, most_bad, waits, logs, spans, shape,
+        target, took, stage,
     )
 }

@@ -1,27 +1,27 @@
 // A query over logs whose columns they tell, by any reader of their format.
-ghost use Rattle.std.specs.Prelude.{◌≡◌, ◌≤◌, ◌+◌, true, false, [], length, None, IfOk, IfErr, IsErrOf};
+ghost use Rattle.std.specs.Prelude.{◌≡◌, ◌≤◌, ◌+◌, ◌++◌, true, [], length, map, None, OnOk, IfOk, IfErr, IsErrOf};
 ghost use Rattle.lp_model.specs.Outside.{Rose, OnlyGrow, Told, bytes_in};
 ghost use Rattle.log_reading.specs.Page.{IsTooMany, IsWithin};
-ghost use Rattle.log_reading.specs.Spans.{AllSpans, AreKept, IsSpan, spans_bad, spans_bad_lines, spans_size};
+ghost use Rattle.log_reading.specs.Spans.{AllSpans, AreKept, IsSpan, spans_bad_lines, spans_size, took_of};
 ghost use Rattle.query_run.specs.Output.{kind_of, reached};
 ghost use Rattle.query_tree.specs.Views.{query_of};
 ghost use Rattle.query_types.specs.Built.{is_built};
-ghost use Rattle.sampled_run.specs.Counts.{taken_in};
+ghost use Rattle.column_kinds.specs.Spans.{past_behind};
 ghost use Rattle.sampled_run.specs.Fresh.{IsFresh};
-ghost use Rattle.sampled_run.specs.Past.{rules_of};
-ghost use Rattle.sampled_run.specs.Spans.{past_behind};
+ghost use Rattle.sampled_run.specs.Rules.{rules_of};
 ghost use Rattle.sampled_run.specs.Ran.{IsSampled, IsStoppedBy, OnBadOne, fault_in, fault_of};
 
 use crate::ending::finish_run;
-use crate::{Gathering, Moment, Phase, SampleFault, Sampling, Stop};
+use crate::{Moment, SampleFault, TextMaker};
+use column_kinds::{Gathering, KeptRows, Phase, Sampled, Stop};
 use line_input::{Fields, LineReader, Splitter, Standing};
 use log_reading::{Page, RunFault, Span, TookList, take_spans};
 use lp_outside::{Logs, Stage};
 use lp_time::Pattern;
 use output_formats::Shape;
-use query_run::{Counts, Target, Written};
+use query_run::{Counts, Target, Writer, Written};
 use query_tree::Query;
-use sampled_table::KeptRows;
+use sampled_table::SampledPicker;
 use std::alloc::{AllocError, Global};
 
 const CHUNK: usize = 65536;
@@ -34,12 +34,12 @@ fn zeros(alloc: Global, size: usize) -> Result<Vec<u8>, AllocError>
 }
 
 // Why a run stops, where the reading of its logs did.
-fn fault_in<'a, F>(sampling: &Sampling<'a, F>, fault: RunFault) -> SampleFault
-    ensures { result ≡ fault_in sampling.now.phase fault }
+fn fault_in<'a, M, T>(sampled: &Sampled<'a, M, T>, fault: RunFault) -> SampleFault
+    ensures { result ≡ fault_in sampled.now.phase fault }
 {
-    match &sampling.phase {
+    match &sampled.phase {
         Phase::Refused(fault) => SampleFault::Plan(*fault),
-        Phase::Gathering(_) | Phase::Writing(_) | Phase::Lost => match fault {
+        Phase::Gathering(_) | Phase::Taking(_) | Phase::Lost => match fault {
             RunFault::Logs => SampleFault::Logs,
             RunFault::Output => SampleFault::Output,
             RunFault::Memory | RunFault::Stopped => SampleFault::Memory,
@@ -53,8 +53,8 @@ fn fault_of(stop: Stop) -> SampleFault
     ensures { result ≡ fault_of stop }
 {
     match stop {
-        Stop::Plan(fault) => SampleFault::Plan(fault),
-        Stop::Output => SampleFault::Output,
+        Stop::Refused(fault) => SampleFault::Plan(fault),
+        Stop::Failed => SampleFault::Output,
         Stop::Memory => SampleFault::Memory,
     }
 }
@@ -66,28 +66,32 @@ fn first_page<'a, F: Shape + Drop>(
     pattern: &'a Pattern,
     moment: Moment,
     query: &'a Query,
+    fresh: bool,
     most_bad: Option<u64>,
     shape: F,
     target: Target,
-) -> Page<Sampling<'a, F>>
+) -> Page<Sampled<'a, TextMaker<'a, F>, Writer<F, SampledPicker<'a>>>>
     requires { is_built (query_of query.now) ≡ true }
-    ensures fresh { IsFresh limit pattern.now moment.seconds (query_of query.now) shape target result.taker }
-    ensures taken { taken_in result.taker.phase ≡ 0 }
+    ensures fresh { IsFresh limit pattern.now moment.seconds (query_of query.now) fresh shape target result.taker }
     ensures rows { result.rows ≡ 0 }
     ensures bad { result.bad ≡ 0 }
     ensures most { result.most_bad ≡ most_bad }
 {
     Page {
-        taker: Sampling {
+        taker: Sampled {
             limit,
             pattern,
-            moment,
-            query,
             phase: Phase::Gathering(Gathering {
                 first: None,
                 rows: KeptRows::new(alloc),
-                shape,
-                target,
+                maker: TextMaker {
+                    pattern,
+                    moment,
+                    query,
+                    fresh,
+                    shape,
+                    target,
+                },
             }),
         },
         splitter: Splitter::new(alloc, 0),
@@ -107,11 +111,14 @@ pub(crate) fn sample_reader<'a, R: LineReader, L: Logs, F: Shape + Drop, G: Stag
     pattern: &'a Pattern,
     moment: Moment,
     query: &'a Query,
+    fresh: bool,
     most_bad: Option<u64>,
+    waits: bool,
     logs: &mut L,
     spans: &[Span],
     shape: F,
     target: Target,
+    took: &mut TookList,
     stage: &mut G,
 ) -> Result<Written, SampleFault>
     requires built { is_built (query_of query.now) ≡ true }
@@ -119,14 +126,16 @@ pub(crate) fn sample_reader<'a, R: LineReader, L: Logs, F: Shape + Drop, G: Stag
     requires spans { AllSpans spans.now IsSpan }
     requires there { Told (L.folder logs.old) (λ folder. AllSpans spans.now (λ span. span.listed ≤ length (bytes_in folder span.name))) }
     ensures grows { OnlyGrow (L.folder logs.old) (L.folder logs.new) }
-    ensures ran { IfOk result (λ run. Told (L.folder logs.new) (λ folder. AreKept (R.format reader.now) false spans.now folder
-        → IsSampled (rules_of limit pattern.now moment.seconds (query_of query.now) (F.text shape)) (reached (kind_of G.state G.ended) target stage.old) (past_behind (R.format reader.now) false folder (record { first = None; founds = [] }) spans.now) (R.format reader.now) folder spans.now run stage.new)) }
+    ensures ran { IfOk result (λ run. Told (L.folder logs.new) (λ folder. AreKept (R.format reader.now) waits spans.now folder
+        → IsSampled (rules_of limit pattern.now moment.seconds (query_of query.now) fresh (F.text shape)) (reached (kind_of G.state G.ended) target stage.old) (past_behind (R.format reader.now) waits folder (record { first = None; founds = [] }) spans.now) (R.format reader.now) waits folder spans.now run stage.new)) }
     ensures ended { IfOk result (λ run. G.ended stage.new run.output.name run.output.base run.output.mark) }
-    ensures stopped { IfErr result (λ fault. Told (L.folder logs.new) (λ folder. AreKept (R.format reader.now) false spans.now folder
-        → IsStoppedBy (rules_of limit pattern.now moment.seconds (query_of query.now) (F.text shape)) (reached (kind_of G.state G.ended) target stage.old) (past_behind (R.format reader.now) false folder (record { first = None; founds = [] }) spans.now) fault stage.new)) }
+    ensures stopped { IfErr result (λ fault. Told (L.folder logs.new) (λ folder. AreKept (R.format reader.now) waits spans.now folder
+        → IsStoppedBy (rules_of limit pattern.now moment.seconds (query_of query.now) fresh (F.text shape)) (reached (kind_of G.state G.ended) target stage.old) (past_behind (R.format reader.now) waits folder (record { first = None; founds = [] }) spans.now) fault stage.new)) }
     ensures within { IfOk result (λ run. IsWithin most_bad run.counts.bad) }
-    ensures too_many { IfErr result (λ fault. OnBadOne fault (λ line. Told (L.folder logs.new) (λ folder. AreKept (R.format reader.now) false spans.now folder
-        → IsTooMany most_bad 0 (spans_bad_lines (R.format reader.now) false folder spans.now) line))) }
+    ensures too_many { IfErr result (λ fault. OnBadOne fault (λ line. Told (L.folder logs.new) (λ folder. AreKept (R.format reader.now) waits spans.now folder
+        → IsTooMany most_bad 0 (spans_bad_lines (R.format reader.now) waits folder spans.now) line))) }
+    ensures took { OnOk result (waits ≡ true → Told (L.folder logs.new) (λ folder. AreKept (R.format reader.now) true spans.now folder
+        → took.new ≡ took.old ++ map (took_of (R.format reader.now) folder) spans.now)) }
     ensures given { L.given logs.new ≤ L.given logs.old + spans_size spans.now }
     ensures later_logs { L.faults logs.old ≤ L.faults logs.new }
     ensures logs { IsErrOf result SampleFault.Logs → Rose (L.faults logs.old) (L.faults logs.new) }
@@ -138,11 +147,10 @@ pub(crate) fn sample_reader<'a, R: LineReader, L: Logs, F: Shape + Drop, G: Stag
         return Err(SampleFault::Memory);
     };
     let mut page = first_page(
-        alloc, limit, pattern, moment, query, most_bad, shape, target,
+        alloc, limit, pattern, moment, query, fresh, most_bad, shape, target,
     );
-    let mut took = TookList::new(alloc);
     match take_spans(
-        alloc, reader, false, logs, spans, &mut chunk, &mut page, &mut took, stage,
+        alloc, reader, waits, logs, spans, &mut chunk, &mut page, took, stage,
     ) {
         Ok(()) => {}
         Err(fault) => return Err(fault_in(&page.taker, fault)),

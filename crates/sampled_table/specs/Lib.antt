@@ -1,4 +1,1 @@
-pub mod Kept
-pub mod Fields
-pub mod Judged
 pub mod Picks

@@ -11,8 +11,8 @@ use Rattle.query_types.specs.declared.table.NamedKind.{NamedKind}
 use Rattle.query_types.specs.Conditions.{Filter}
 use Rattle.row_engine.specs.Rows.{keeps, selected_in}
 use Rattle.plan_rows.specs.Picks.{if_kept}
-use Rattle.sampled_table.specs.declared.judging.Judged.{Judged}
-use Rattle.sampled_table.specs.Fields.{field_in, indexed, is_first, place_for}
+use Rattle.column_kinds.specs.declared.judging.Judged.{Judged}
+use Rattle.column_kinds.specs.Fields.{field_in, indexed, is_first, place_for}
 
 -- the value in a column of a record, of the first log or of another, with its own columns and its fields
 abbrev pub value_in_column : List Piece → Bool → Option Columns → Slots → ℕ → NamedKind → Value

@@ -1,15 +1,10 @@
-//! The table of a run over CSV or TSV logs, and the rows of its records.
+//! The rows of records under the columns that CSV and TSV logs tell.
 //!
-//! The columns are those of the first log that has any, their kinds are judged from the first records, and a record of another log is read by name. To the crate above: [`judge`] and [`table_of`] answer exactly the table of `specs::Judged`, and [`SampledPicker`] picks exactly what `specs::Picks` says of a record's whole row, though it reads only the columns that the plan uses.
+//! To the crate above: [`SampledPicker`] picks exactly what `specs::Picks` says of a record's whole row, though it reads only the
+//! columns that the plan uses. A record of another log than the first is read by name.
 #![tactic(auto)]
 
-mod fields;
-mod judging;
-mod keeping;
-mod kept;
 mod picking;
 mod row;
 
-pub use judging::{Judged, judge, table_of};
-pub use kept::{FirstLog, KeptRow, KeptRows};
 pub use picking::SampledPicker;

@@ -4,8 +4,8 @@ ghost use Rattle.query_types.specs.Conditions.{filter_of};
 ghost use Rattle.query_types.specs.Planned.{Covers};
 ghost use Rattle.sampled_table.specs.Picks.{sampled_picks};
 
-use crate::Judged;
 use crate::row::read_columns;
+use column_kinds::Judged;
 use line_input::{Columns, Fields};
 use lp_outside::Name;
 use lp_time::Pattern;

@@ -3,11 +3,10 @@ ghost use Rattle.std.specs.Prelude.{◌≡◌, ◌<◌, ◌≤◌, ◌+◌, ◌^
 ghost use Rattle.line_input.specs.Taken.{slots_of};
 ghost use Rattle.lp_values.specs.declared.value.Value.TheVariants as V;
 ghost use Rattle.plan_rows.specs.Picks.{Put};
-ghost use Rattle.sampled_table.specs.Fields.{indexed, is_first};
+ghost use Rattle.column_kinds.specs.Fields.{indexed, is_first};
 ghost use Rattle.sampled_table.specs.Picks.{row_of, value_in_column};
 
-use crate::Judged;
-use crate::fields::{field_in, is_first, place_for};
+use column_kinds::{Judged, field_in, is_first, place_for};
 use delimited_input::read_field;
 use line_input::{Columns, Fields};
 use lp_outside::Name;

@@ -1,17 +1,18 @@
 use Rattle.std.proofs.Common.{sym, subst}
-use Rattle.sampled_run.specs.declared.fault.Stop.{Stop}
-use Rattle.sampled_run.specs.Stops.{IsStop}
-use Rattle.sampled_run.proofs.Begun.{end_within, ended, failed_begun}
+use Rattle.query_run.specs.Output.{kind_of}
+use Rattle.column_kinds.specs.declared.maker.Stop.{Stop}
+use Rattle.sampled_run.specs.Kinds.{run_rules}
+use Rattle.sampled_run.specs.Ran.{IsEndedBy}
+use Rattle.sampled_run.proofs.Texts.{written_is, end_stopped}
 use Rattle.sampled_run.proofs.ending.end_text.Goals as goal
 
-pub returns-clause-stopped : goal.returns-clause-stopped
-returns-clause-stopped g c = λ rules start past begun.
-    let v = c.finish.new.stage in
-    let Of : Stop → Type 0 = λ stop. IsStop rules start past stop v in
-    subst Of (sym c.stop_of.ensures)
-    (failed_begun rules start past c.in-Err.fault v
-    (end_within g.F.Shape.text g.F.Shape.has_text rules start c.args.stage.now v past c.args.writer c.in-Err.ensures.front begun))
-
 pub returns-in-Ok-clause-written : goal.returns-in-Ok-clause-written
-returns-in-Ok-clause-written g c = λ rules start past begun.
-    ended g.F.Shape.text g.F.Shape.has_text rules start c.args.stage.now c.finish.new.stage past c.args.writer c.finish.new.writer.output c.in-Ok.output c.finish.ensures.output c.in-Ok.ensures.text begun
+returns-in-Ok-clause-written g c = λ rules begin start past fits begun.
+    written_is (kind_of g.G.Stage.state g.G.Stage.ended) g.F.Shape.text g.F.Shape.has_text rules begin start past c.args.writer c.args.stage.now c.finish.new.stage c.finish.new.writer.output c.in-Ok.output
+    fits c.finish.ensures.output c.in-Ok.ensures.text begun
+
+pub returns-clause-stopped : goal.returns-clause-stopped
+returns-clause-stopped g c = λ rules begin start past fits begun.
+    let v = c.finish.new.stage in
+    subst (λ (stop : Stop). IsEndedBy (run_rules g.F.Shape.text rules) start past stop v) (sym c.stop_of.ensures)
+    (end_stopped (kind_of g.G.Stage.state g.G.Stage.ended) g.F.Shape.text g.F.Shape.has_text rules begin start past c.args.writer c.args.stage.now v c.in-Err.fault fits c.in-Err.ensures.front begun)

@@ -2,9 +2,9 @@ use Rattle.std.proofs.Common.{◌≡◌, ◌+◌, ◌∙◌, ℕ, List, ap, sym,
 use Rattle.std.proofs.lemmas.Result.{IfOk-weaker}
 use Rattle.line_input.specs.Taken.{slots_of}
 use Rattle.delimited_input.specs.Values.{field_value}
-use Rattle.sampled_table.specs.Fields.{field_in, place_for}
+use Rattle.column_kinds.specs.Fields.{field_in, place_for}
 use Rattle.sampled_table.specs.Picks.{value_in_column}
-use Rattle.sampled_table.proofs.Steps.{indexed_at, indexed_none}
+use Rattle.column_kinds.proofs.Steps.{indexed_at, indexed_none}
 use Rattle.sampled_table.proofs.row.field_value.Goals as goal
 
 pub returns-in_default : goal.returns-in_default

@@ -5,7 +5,7 @@ use Rattle.lp_values.specs.declared.value.Value.{Value}
 use Rattle.lp_values.specs.declared.value.Value.TheVariants as V
 use Rattle.plan_rows.specs.Picks.{Put}
 use Rattle.plan_rows.proofs.PutLemmas.{put_more, put_past}
-use Rattle.sampled_table.specs.Fields.{indexed}
+use Rattle.column_kinds.specs.Fields.{indexed}
 use Rattle.sampled_table.specs.Picks.{row_of, value_in_column}
 use Rattle.sampled_table.proofs.Steps.{row_length}
 use Rattle.sampled_table.proofs.row.read_columns.Goals.{then-column-len+in_ok-value, else-column-len}

@@ -1,0 +1,12 @@
+pub mod Kept
+pub mod Fields
+pub mod Judged
+pub mod Past
+pub mod Spans
+pub mod Makers
+pub mod Phases
+pub mod Sampling
+pub mod Noting
+pub mod Staying
+pub mod Laws
+pub mod SpansTold

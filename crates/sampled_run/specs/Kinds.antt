@@ -1,0 +1,38 @@
+-- A sample with a writer behind it, and the rules of a run in those of its sample.
+use Rattle.std.specs.Prelude.{◌≡◌, List, Option, option_map}
+use Rattle.lp_values.specs.declared.value.Value.{Value}
+use Rattle.log_reading.specs.Found.{Found, rows_met}
+use Rattle.query_run.specs.Output.{StageKind, OutputAt, reached}
+use Rattle.query_run.specs.Writer.{Writes, Halts}
+use Rattle.query_run.specs.Writing.{TextOf, HasTextOf}
+use Rattle.query_run.specs.declared.writer.Writer.{Writer}
+use Rattle.query_tree.specs.Views.{query_of}
+use Rattle.query_types.specs.Conditions.{filter_of}
+use Rattle.column_kinds.specs.Sampling.{SampleKind, kind_of}
+use Rattle.column_kinds.specs.Sampling.{Rules as SampleRules}
+use Rattle.sampled_table.specs.declared.picking.SampledPicker.{SampledPicker}
+use Rattle.sampled_table.specs.Picks.{sampled_picks}
+use Rattle.sampled_run.specs.declared.text_maker.TextMaker.{TextMaker}
+use Rattle.sampled_run.specs.Made.{IsMade, IsUnplanned}
+use Rattle.sampled_run.specs.Rules.{Rules, rules_of}
+
+-- what a picker makes of a record
+abbrev pub picks_of : SampledPicker → Found → Option (List Value)
+picks_of picker = sampled_picks picker.pattern.now picker.told picker.ready.plan.items (option_map filter_of picker.ready.plan.condition)
+
+-- a writer behind a sample, to an output of this kind of stage
+abbrev pub writer_kind : {F S : Type 0} → StageKind S → TextOf F → HasTextOf F → SampleKind (TextMaker F) (Writer F SampledPicker) S
+writer_kind kind text has_text = kind_of
+    (λ maker told writer. IsMade text has_text maker told writer)
+    (λ maker told fault. IsUnplanned maker told fault)
+    (λ a u mets b v. Writes text has_text picks_of a (reached kind a.target u) (rows_met mets) b (reached kind b.target v))
+    (λ a u mets b v. Halts text has_text picks_of a (reached kind a.target u) (rows_met mets) v)
+
+-- the rules of a run
+abbrev pub run_rules : {F : Type 0} → TextOf F → SampleRules (TextMaker F) → Rules
+run_rules text rules = rules_of rules.limit rules.pattern rules.maker.moment.seconds (query_of rules.maker.query.now) rules.maker.fresh (text rules.maker.shape)
+
+-- the maker reads times as the sample does, and its output has come so far
+pub record Fits {F S : Type 0} (kind : StageKind S) (rules : SampleRules (TextMaker F)) (begin : S) (start : OutputAt kind) : Type 0 where
+  pub pattern : rules.maker.pattern.now ≡ rules.pattern
+  pub starts : reached kind rules.maker.target begin ≡ start

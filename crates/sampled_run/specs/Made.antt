@@ -1,0 +1,29 @@
+-- The writer of a query's rows over the columns that the logs tell.
+use Rattle.std.specs.Prelude.{◌≡◌, [], Result, Ok, Err}
+use Rattle.query_run.specs.Writing.{TextOf, HasTextOf}
+use Rattle.query_run.specs.declared.writer.Writer.{Writer}
+use Rattle.query_tree.specs.Views.{query_of}
+use Rattle.query_types.specs.Planned.{Planned, plan_of, planned_in}
+use Rattle.query_types.specs.declared.fault.TypeFault.{TypeFault}
+use Rattle.column_kinds.specs.declared.judging.Judged.{Judged}
+use Rattle.column_kinds.specs.Judged.{table_of}
+use Rattle.sampled_table.specs.declared.picking.SampledPicker.{SampledPicker}
+use Rattle.sampled_run.specs.declared.text_maker.TextMaker.{TextMaker}
+
+-- the plan of the maker's query over these columns, or its fault
+abbrev pub plan_over : {F : Type 0} → TextMaker F → Judged → Result Planned TypeFault
+plan_over maker told = plan_of (table_of told) maker.moment.seconds (query_of maker.query.now)
+
+-- this writer is made for these columns: it goes by the plan over them, and no row is written
+pub record IsMade {F : Type 0} (text : TextOf F) (has_text : HasTextOf F) (maker : TextMaker F) (told : Judged) (writer : Writer F SampledPicker) : Type 0 where
+  pub planned : plan_over maker told ≡ Ok (planned_in writer.picker.ready.plan)
+  pub told_is : writer.picker.told ≡ told
+  pub pattern : writer.picker.pattern.now ≡ maker.pattern.now
+  pub begins : has_text writer.shape maker.fresh writer.picker.ready.plan.names [] writer.buffers.held
+  pub format : text writer.shape ≡ text maker.shape
+  pub target : writer.target ≡ maker.target
+  pub none : writer.output ≡ 0
+
+-- none is made, since the query has no plan over these columns
+abbrev pub IsUnplanned : {F : Type 0} → TextMaker F → Judged → TypeFault → Type 0
+IsUnplanned maker told fault = plan_over maker told ≡ Err fault

@@ -1,0 +1,44 @@
+-- What a run over sampled columns is asked, and what it makes of its records.
+use Rattle.std.specs.Prelude.{ℕ, ℤ, Bool, List, Result}
+use Rattle.grammar.specs.Trees.{Query}
+use Rattle.lp_time.specs.declared.piece.Piece.{Piece}
+use Rattle.lp_values.specs.declared.value.Value.{Value}
+use Rattle.log_reading.specs.Found.{Found}
+use Rattle.query_run.specs.Rows.{picked}
+use Rattle.query_types.specs.declared.fault.TypeFault.{TypeFault}
+use Rattle.query_types.specs.Planned.{Planned, plan_of}
+use Rattle.column_kinds.specs.declared.judging.Judged.{Judged}
+use Rattle.column_kinds.specs.Judged.{table_of}
+use Rattle.column_kinds.specs.Past.{Past}
+use Rattle.column_kinds.specs.Past.{told_at as told_from}
+use Rattle.sampled_table.specs.Picks.{sampled_picks}
+
+-- what a run is asked: from how many records kinds are judged, how times are read, the moment, the query, whether its output begins empty, and the text of named rows
+pub record Rules : Type 0 where
+  pub limit : ℕ
+  pub pattern : List Piece
+  pub moment : ℤ
+  pub query : Query
+  pub fresh : Bool
+  pub text : Bool → List (List ℕ) → List (List Value) → List ℕ
+
+abbrev pub rules_of : ℕ → List Piece → ℤ → Query → Bool → (Bool → List (List ℕ) → List (List Value) → List ℕ) → Rules
+rules_of limit pattern moment q fresh text = record { limit = limit; pattern = pattern; moment = moment; query = q; fresh = fresh; text = text }
+
+-- the columns that the records tell
+abbrev pub told_at : Rules → Past → Judged
+told_at rules past = told_from rules.limit rules.pattern past
+
+-- the plan over the table of these columns, or its fault
+abbrev pub plan_at : Rules → Past → Result Planned TypeFault
+plan_at rules past = plan_of (table_of (told_at rules past)) rules.moment rules.query
+
+-- the output rows of records
+abbrev pub rows_with : List Piece → Judged → Planned → List Found → List (List Value)
+rows_with pattern told plan founds = picked (sampled_picks pattern told plan.items plan.condition) founds
+
+abbrev pub rows_at : Rules → Past → Planned → List (List Value)
+rows_at rules past plan = rows_with rules.pattern (told_at rules past) plan past.founds
+
+abbrev pub text_at : Rules → Past → Planned → List ℕ
+text_at rules past plan = rules.text rules.fresh plan.names (rows_at rules past plan)
