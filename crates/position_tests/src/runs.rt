@@ -2,10 +2,10 @@
 use crate::entries::{COLUMNS, ONE, Read, disk_with, named};
 use checkpoint::{Rotation, Sources};
 use ledger::InputText;
+use log_reading::Span;
 use lp_outside::{Name, NameFault};
 use lp_values::{Text, TextList};
 use memory_outside::MemoryLogs;
-use log_reading::Span;
 use positions::{Positions, SpanFault, Spans};
 use std::alloc::{AllocError, Global};
 use std::test::Fail;
