@@ -24,10 +24,10 @@ abbrev pub nothing : Past
 nothing = record { first = None; founds = [] }
 
 pub taken_none : {F T : Type 0} (count : T → ℕ) (pattern : List Piece) (moment : ℤ) (query : Query) (fresh : Bool) (shape : F) (target : Target) (phase : Phase (TextMaker F) T) → IsFreshIn pattern moment query fresh shape target phase → taken_in count phase ≡ 0
-taken_none count pattern moment query fresh shape target (P.Gathering gathering) none = ap length none.rows
-taken_none count pattern moment query fresh shape target (P.Taking taker) none = absurd none
-taken_none count pattern moment query fresh shape target (P.Refused fault) none = absurd none
-taken_none count pattern moment query fresh shape target P.Lost none = absurd none
+taken_none count pattern moment q fresh shape target (P.Gathering gathering) none = ap length none.rows
+taken_none count pattern moment q fresh shape target (P.Taking taker) none = absurd none
+taken_none count pattern moment q fresh shape target (P.Refused fault) none = absurd none
+taken_none count pattern moment q fresh shape target P.Lost none = absurd none
 
 -- the rules of a run, its sample's and its own
 pub record Begins {F S : Type 0} (kind : StageKind S) (text : TextOf F) (has_text : HasTextOf F) (asked : Rules) (target : Target) (sampled : Sampled (TextMaker F) (Writer F SampledPicker)) (now : S) : Type 0 where
@@ -38,7 +38,7 @@ pub record Begins {F S : Type 0} (kind : StageKind S) (text : TextOf F) (has_tex
 
 fresh_in : {F S : Type 0} (kind : StageKind S) (text : TextOf F) (has_text : HasTextOf F) (limit : ℕ) (pattern : List Piece) (moment : ℤ) (query : Query) (fresh : Bool) (shape : F) (target : Target) (sampled : Sampled (TextMaker F) (Writer F SampledPicker)) (phase : Phase (TextMaker F) (Writer F SampledPicker)) (now : S)
     → sampled.limit ≡ limit → sampled.pattern.now ≡ pattern → sampled.phase ≡ phase → IsFreshIn pattern moment query fresh shape target phase → Begins kind text has_text (rules_of limit pattern moment query fresh (text shape)) target sampled now
-fresh_in kind text has_text limit pattern moment query fresh shape target sampled (P.Gathering gathering) now limit_is pattern_is phase_is none =
+fresh_in kind text has_text limit pattern moment q fresh shape target sampled (P.Gathering gathering) now limit_is pattern_is phase_is none =
     let asked = none.asked in
     let rules : SampleRules (TextMaker _) = record { limit = limit; pattern = pattern; maker = gathering.maker } in
     let Of : Phase (TextMaker _) (Writer _ SampledPicker) → Type 0 = λ p. PhaseHolds (writer_kind kind text has_text) rules now nothing p now in
@@ -51,12 +51,12 @@ fresh_in kind text has_text limit pattern moment query fresh shape target sample
         phase = subst Of (sym phase_is) (record { maker = refl; first = none.first; rows = ap (map found_in) none.rows; nothing = refl });
       };
     }
-fresh_in kind text has_text limit pattern moment query fresh shape target sampled (P.Taking taker) now limit_is pattern_is phase_is none = absurd none
-fresh_in kind text has_text limit pattern moment query fresh shape target sampled (P.Refused fault) now limit_is pattern_is phase_is none = absurd none
-fresh_in kind text has_text limit pattern moment query fresh shape target sampled P.Lost now limit_is pattern_is phase_is none = absurd none
+fresh_in kind text has_text limit pattern moment q fresh shape target sampled (P.Taking taker) now limit_is pattern_is phase_is none = absurd none
+fresh_in kind text has_text limit pattern moment q fresh shape target sampled (P.Refused fault) now limit_is pattern_is phase_is none = absurd none
+fresh_in kind text has_text limit pattern moment q fresh shape target sampled P.Lost now limit_is pattern_is phase_is none = absurd none
 
 -- a run before its first record
 pub fresh_begins : {F S : Type 0} (kind : StageKind S) (text : TextOf F) (has_text : HasTextOf F) (limit : ℕ) (pattern : List Piece) (moment : ℤ) (query : Query) (fresh : Bool) (shape : F) (target : Target) (sampled : Sampled (TextMaker F) (Writer F SampledPicker)) (now : S)
     → IsFresh limit pattern moment query fresh shape target sampled → Begins kind text has_text (rules_of limit pattern moment query fresh (text shape)) target sampled now
-fresh_begins kind text has_text limit pattern moment query fresh shape target sampled now is =
-    fresh_in kind text has_text limit pattern moment query fresh shape target sampled sampled.phase now is.limit_is is.pattern_is refl is.phase
+fresh_begins kind text has_text limit pattern moment q fresh shape target sampled now is =
+    fresh_in kind text has_text limit pattern moment q fresh shape target sampled sampled.phase now is.limit_is is.pattern_is refl is.phase

@@ -26,10 +26,10 @@ pub record GathersNone {F : Type 0} (pattern : List Piece) (moment : ℤ) (query
   pub asked : IsAsked pattern moment query fresh shape target gathering.maker
 
 abbrev pub IsFreshIn : {F T : Type 0} → List Piece → ℤ → Query → Bool → F → Target → Phase (TextMaker F) T → Type 0
-IsFreshIn pattern moment query fresh shape target (P.Gathering gathering) = GathersNone pattern moment query fresh shape target gathering
-IsFreshIn pattern moment query fresh shape target (P.Taking taker) = ⊥
-IsFreshIn pattern moment query fresh shape target (P.Refused fault) = ⊥
-IsFreshIn pattern moment query fresh shape target P.Lost = ⊥
+IsFreshIn pattern moment q fresh shape target (P.Gathering gathering) = GathersNone pattern moment q fresh shape target gathering
+IsFreshIn pattern moment q fresh shape target (P.Taking taker) = ⊥
+IsFreshIn pattern moment q fresh shape target (P.Refused fault) = ⊥
+IsFreshIn pattern moment q fresh shape target P.Lost = ⊥
 
 -- a run that is asked this, before its first record
 pub record IsFresh {F T : Type 0} (limit : ℕ) (pattern : List Piece) (moment : ℤ) (query : Query) (fresh : Bool) (shape : F) (target : Target) (sampled : Sampled (TextMaker F) T) : Type 0 where
