@@ -22,6 +22,8 @@ impl Shape for Format {
 
     ghost has_text = { λ s fresh names rows so_far. HasText s fresh names rows so_far };
 
+    ghost shown = { λ s rows. rows };
+
     fn begin(&mut self, names: &TextList, fresh: bool, to: &mut Bytes) -> Result<(), AllocError> {
         match self {
             Format::Csv(shape) => shape.begin(names, fresh, to),
@@ -40,6 +42,10 @@ impl Shape for Format {
             Format::Nat(shape) => shape.row(values, to),
             Format::Tpl(shape) => shape.row(values, to),
         }
+    }
+
+    fn count(&self, put: u64) -> u64 {
+        put
     }
 
     fn end(&mut self, to: &mut Bytes) -> Result<(), AllocError> {

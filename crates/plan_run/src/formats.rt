@@ -49,7 +49,7 @@ pub fn run_plan<L: Logs, F: Shape + Drop, G: Stage>(
     ensures processed { IfOk result (λ written. Told (L.folder logs.new) (λ folder. AreKept (lines_of format) waits spans.now folder
         → written.counts.processed ≡ length (spans_found (lines_of format) waits folder spans.now))) }
     ensures output { IfOk result (λ written. Told (L.folder logs.new) (λ folder. AreKept (lines_of format) waits spans.now folder
-        → written.counts.output ≡ length (plan_rows (readings_of format) (planned_in plan) (lines_of format) waits folder spans.now))) }
+        → written.counts.output ≡ length (F.shown shape (plan_rows (readings_of format) (planned_in plan) (lines_of format) waits folder spans.now)))) }
     ensures bad { IfOk result (λ written. Told (L.folder logs.new) (λ folder. AreKept (lines_of format) waits spans.now folder
         → written.counts.bad ≡ length (spans_bad (lines_of format) waits folder spans.now))) }
     ensures within { IfOk result (λ written. IsWithin most_bad written.counts.bad) }

@@ -19,25 +19,29 @@ TextOf F = F → Bool → List (List ℕ) → List (List Value) → List ℕ
 abbrev pub HasTextOf : Type 0 → Type 1
 HasTextOf F = F → Bool → List (List ℕ) → List (List Value) → List ℕ → Type 0
 
+abbrev pub ShownOf : Type 0 → Type 0
+ShownOf F = F → List (List Value) → List (List Value)
+
 abbrev pub PicksOf : Type 0 → Type 0
 PicksOf P = P → Found → Option (List Value)
 
 pub picked-append : (picks : Found → Option (List Value)) (xs ys : List Found) → picked picks (xs ++ ys) ≡ picked picks xs ++ picked picks ys
 picked-append picks xs ys = filter_map-append picks xs ys
 
-pub writes_none : {F P : Type 0} {S : Type 0} {kind : StageKind S} (text : TextOf F) (has_text : HasTextOf F) (picks : PicksOf P) (s : Writer F P) (w : OutputAt kind) → Writes text has_text picks s w [] s w
-writes_none text has_text picks s w = record {
+pub writes_none : {F P : Type 0} {S : Type 0} {kind : StageKind S} (text : TextOf F) (has_text : HasTextOf F) (shown : ShownOf F) (picks : PicksOf P) (s : Writer F P) (w : OutputAt kind) → Writes text has_text shown picks s w [] s w
+writes_none text has_text shown picks s w = record {
   written = λ fresh names rows start under_way.
       let Now : List (List Value) → Type 0 = λ t. IsUnderWay (has_text s.shape fresh names t) start w s.buffers.held in
       subst Now (sym (append-nil rows)) under_way;
   format = refl;
+  shows = refl;
   picker = refl;
   output = Prim.omega arith;
 }
 
-pub writes_more : {F P : Type 0} {S : Type 0} {kind : StageKind S} (text : TextOf F) (has_text : HasTextOf F) (picks : PicksOf P) (a b c : Writer F P) (u v w : OutputAt kind) (xs ys : List Found)
-    → Writes text has_text picks a u xs b v → Writes text has_text picks b v ys c w → Writes text has_text picks a u (xs ++ ys) c w
-writes_more text has_text picks a b c u v w xs ys f s =
+pub writes_more : {F P : Type 0} {S : Type 0} {kind : StageKind S} (text : TextOf F) (has_text : HasTextOf F) (shown : ShownOf F) (picks : PicksOf P) (a b c : Writer F P) (u v w : OutputAt kind) (xs ys : List Found)
+    → Writes text has_text shown picks a u xs b v → Writes text has_text shown picks b v ys c w → Writes text has_text shown picks a u (xs ++ ys) c w
+writes_more text has_text shown picks a b c u v w xs ys f s =
     let same : picked (picks b.picker) ys ≡ picked (picks a.picker) ys = ap (λ p. picked (picks p) ys) f.picker in
     let both : picked (picks a.picker) xs ++ picked (picks b.picker) ys ≡ picked (picks a.picker) (xs ++ ys) =
     ap (λ t. picked (picks a.picker) xs ++ t) same ∙ sym (picked-append (picks a.picker) xs ys) in
@@ -51,6 +55,7 @@ writes_more text has_text picks a b c u v w xs ys f s =
           subst Now (append_assoc rows (picked (picks a.picker) xs) (picked (picks b.picker) ys) ∙ ap (λ t. rows ++ t) both)
           (s.written fresh names (rows ++ picked (picks a.picker) xs) start (f.written fresh names rows start under_way));
       format = s.format ∙ f.format;
+      shows = s.shows ∙ f.shows;
       picker = s.picker ∙ f.picker;
       output = Prim.omega arith;
     }
@@ -62,9 +67,9 @@ front_of text has_text begins shape fresh names rows more start now buffer (done
     let whole = begins shape fresh names rows more (done ++ buffer) so_far in
     subst (λ (t : List ℕ). GainsFront start now.stage t) (sym (whole.1 ∙ append_assoc done buffer whole.0)) (front_all start now done (buffer ++ whole.0) gains)
 
-pub halts_here : {F P : Type 0} {S : Type 0} {kind : StageKind S} (text : TextOf F) (has_text : HasTextOf F) (picks : PicksOf P) (begins : (s : F) (fresh : Bool) (names : List (List ℕ)) (rows more : List (List Value)) (so_far : List ℕ) → has_text s fresh names rows so_far → Begins so_far (text s fresh names (rows ++ more)))
-    (a b : Writer F P) (u v : OutputAt kind) (xs ys : List Found) → Writes text has_text picks a u xs b v → Halts text has_text picks a u (xs ++ ys) v.stage
-halts_here text has_text picks begins a b u v xs ys f = record {
+pub halts_here : {F P : Type 0} {S : Type 0} {kind : StageKind S} (text : TextOf F) (has_text : HasTextOf F) (shown : ShownOf F) (picks : PicksOf P) (begins : (s : F) (fresh : Bool) (names : List (List ℕ)) (rows more : List (List Value)) (so_far : List ℕ) → has_text s fresh names rows so_far → Begins so_far (text s fresh names (rows ++ more)))
+    (a b : Writer F P) (u v : OutputAt kind) (xs ys : List Found) → Writes text has_text shown picks a u xs b v → Halts text has_text picks a u (xs ++ ys) v.stage
+halts_here text has_text shown picks begins a b u v xs ys f = record {
   front = λ fresh names rows more start under_way.
       let here = front_of text has_text begins b.shape fresh names (rows ++ picked (picks a.picker) xs) (picked (picks a.picker) ys ++ more) start v b.buffers.held (f.written fresh names rows start under_way) in
       let same : text b.shape fresh names ((rows ++ picked (picks a.picker) xs) ++ (picked (picks a.picker) ys ++ more)) ≡ text a.shape fresh names (rows ++ (picked (picks a.picker) (xs ++ ys) ++ more)) =
@@ -75,9 +80,9 @@ halts_here text has_text picks begins a b u v xs ys f = record {
       subst Of same here;
 }
 
-pub halts_later : {F P : Type 0} {S : Type 0} {kind : StageKind S} (text : TextOf F) (has_text : HasTextOf F) (picks : PicksOf P) (a b : Writer F P) (u v : OutputAt kind) (w : S) (xs ys : List Found)
-    → Writes text has_text picks a u xs b v → Halts text has_text picks b v ys w → Halts text has_text picks a u (xs ++ ys) w
-halts_later text has_text picks a b u v w xs ys f s = record {
+pub halts_later : {F P : Type 0} {S : Type 0} {kind : StageKind S} (text : TextOf F) (has_text : HasTextOf F) (shown : ShownOf F) (picks : PicksOf P) (a b : Writer F P) (u v : OutputAt kind) (w : S) (xs ys : List Found)
+    → Writes text has_text shown picks a u xs b v → Halts text has_text picks b v ys w → Halts text has_text picks a u (xs ++ ys) w
+halts_later text has_text shown picks a b u v w xs ys f s = record {
   front = λ fresh names rows more start under_way.
       let here = s.front fresh names (rows ++ picked (picks a.picker) xs) more start (f.written fresh names rows start under_way) in
       let both : picked (picks a.picker) xs ++ picked (picks b.picker) ys ≡ picked (picks a.picker) (xs ++ ys) =
@@ -117,16 +122,16 @@ front_failed text has_text begins old new fresh names rows row more start a b be
 -- nothing was written
 pub halts_at_once : {F P : Type 0} {S : Type 0} {kind : StageKind S} (text : TextOf F) (has_text : HasTextOf F) (picks : PicksOf P) (begins : (s : F) (fresh : Bool) (names : List (List ℕ)) (rows more : List (List Value)) (so_far : List ℕ) → has_text s fresh names rows so_far → Begins so_far (text s fresh names (rows ++ more)))
     (a : Writer F P) (w : OutputAt kind) (xs : List Found) → Halts text has_text picks a w xs w.stage
-halts_at_once text has_text picks begins a w xs = halts_here text has_text picks begins a a w w [] xs (writes_none text has_text picks a w)
+halts_at_once text has_text picks begins a w xs = halts_here text has_text (λ s rows. rows) picks begins a a w w [] xs (writes_none text has_text (λ s rows. rows) picks a w)
 
 picked_one : (picks : Found → Option (List Value)) (found : Found) (row : List Value) → Some row ≡ picks found → picked picks (found ∷ []) ≡ row ∷ []
 picked_one picks found row e = ap (λ o. cons_option o []) (sym e)
 
 -- one row was written
-pub writes_one : {F P : Type 0} {S : Type 0} {kind : StageKind S} (text : TextOf F) (has_text : HasTextOf F) (picks : PicksOf P) (old new : Writer F P) (u w : OutputAt kind) (found : Found) (row : List Value) → Some row ≡ picks old.picker found
+pub writes_one : {F P : Type 0} {S : Type 0} {kind : StageKind S} (text : TextOf F) (has_text : HasTextOf F) (shown : ShownOf F) (picks : PicksOf P) (old new : Writer F P) (u w : OutputAt kind) (found : Found) (row : List Value) → Some row ≡ picks old.picker found
     → ((fresh : Bool) (names : List (List ℕ)) (rows : List (List Value)) (start : OutputAt kind) → IsUnderWay (has_text old.shape fresh names rows) start u old.buffers.held → IsUnderWay (has_text new.shape fresh names (rows ++ row ∷ [])) start w new.buffers.held)
-    → text new.shape ≡ text old.shape → new.picker ≡ old.picker → new.output ≡ old.output + 1 → Writes text has_text picks old u (found ∷ []) new w
-writes_one text has_text picks old new u w found row e step format picker output =
+    → text new.shape ≡ text old.shape → shown new.shape ≡ shown old.shape → new.picker ≡ old.picker → new.output ≡ old.output + 1 → Writes text has_text shown picks old u (found ∷ []) new w
+writes_one text has_text shown picks old new u w found row e step format shows picker output =
     let one = picked_one (picks old.picker) found row e in
     let size : length (picked (picks old.picker) (found ∷ [])) ≡ 1 = ap length one in
     record {
@@ -134,6 +139,7 @@ writes_one text has_text picks old new u w found row e step format picker output
           let Now : List (List Value) → Type 0 = λ t. IsUnderWay (has_text new.shape fresh names (rows ++ t)) start w new.buffers.held in
           subst Now (sym one) (step fresh names rows start under_way);
       format = format;
+      shows = shows;
       picker = picker;
       output = Prim.omega arith;
     }

@@ -50,6 +50,7 @@ pub fn first_writer<F: Shape + Drop, P: Picker + Drop>(
     ensures text { IfOk result (λ writer. F.has_text writer.shape fresh names.now [] writer.buffers.held) }
     ensures target { IfOk result (λ writer. writer.target ≡ target) }
     ensures format { IfOk result (λ writer. F.text writer.shape ≡ F.text shape) }
+    ensures shown { IfOk result (λ writer. F.shown writer.shape ≡ F.shown shape) }
     ensures picker { IfOk result (λ writer. writer.picker ≡ picker) }
     ensures taken { IfOk result (λ writer. writer.taken ≡ 0) }
     ensures output { IfOk result (λ writer. writer.output ≡ 0) }
@@ -84,20 +85,26 @@ pub fn finish<F: Shape + Drop, P: Picker + Drop, G: Stage>(
     ensures front { OnErr result ((fresh : Bool) (names : List (List ℕ)) (rows : List (List Value)) (start : OutputAt (kind_of G.state G.ended))
         → IsUnderWay (F.has_text writer.old.shape fresh names rows) start (reached (kind_of G.state G.ended) writer.old.target stage.old) writer.old.buffers.held
         → GainsFront start stage.new (F.text writer.old.shape fresh names rows)) }
-    ensures output { writer.new.output ≡ writer.old.output }
+    ensures output { OnOk result ((fresh : Bool) (names : List (List ℕ)) (rows : List (List Value)) (start : OutputAt (kind_of G.state G.ended))
+        → IsUnderWay (F.has_text writer.old.shape fresh names rows) start (reached (kind_of G.state G.ended) writer.old.target stage.old) writer.old.buffers.held → writer.old.output ≡ length rows
+        → writer.new.output ≡ length (F.shown writer.old.shape rows)) }
     ensures later { G.faults stage.old ≤ G.faults stage.new }
     ensures failed { IsErrOf result TakeFault.Failed → Rose (G.faults stage.old) (G.faults stage.new) }
     ensures stopped { IsErrOf result TakeFault.Stopped → ⊥ }
 {
+    let output = writer.shape.count(writer.output);
     let Ok(()) = writer.shape.end(&mut writer.buffers.held) else {
         return Err(TakeFault::Memory);
     };
     match writer.target.end(stage, writer.buffers.held.as_slice()) {
-        Ok(mark) => Ok(Output {
-            name: writer.target.name.copy(),
-            base: writer.target.base,
-            mark,
-        }),
+        Ok(mark) => {
+            writer.output = output;
+            Ok(Output {
+                name: writer.target.name.copy(),
+                base: writer.target.base,
+                mark,
+            })
+        }
         Err(_) => Err(TakeFault::Failed),
     }
 }
@@ -151,7 +158,7 @@ pub fn write_spans<R: LineReader, L: Logs, F: Shape + Drop, P: Picker + Drop, G:
     ensures processed { IfOk result (λ written. Told (L.folder logs.new) (λ folder. AreKept (R.format reader.now) waits spans.now folder
         → written.counts.processed ≡ length (spans_found (R.format reader.now) waits folder spans.now))) }
     ensures output { IfOk result (λ written. Told (L.folder logs.new) (λ folder. AreKept (R.format reader.now) waits spans.now folder
-        → written.counts.output ≡ length (picked (P.picks picker) (spans_found (R.format reader.now) waits folder spans.now)))) }
+        → written.counts.output ≡ length (F.shown shape (picked (P.picks picker) (spans_found (R.format reader.now) waits folder spans.now))))) }
     ensures bad { IfOk result (λ written. Told (L.folder logs.new) (λ folder. AreKept (R.format reader.now) waits spans.now folder
         → written.counts.bad ≡ length (spans_bad (R.format reader.now) waits folder spans.now))) }
     ensures front { OnErr result (Told (L.folder logs.new) (λ folder. AreKept (R.format reader.now) waits spans.now folder

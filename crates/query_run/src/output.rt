@@ -83,6 +83,7 @@ pub fn put_row<F: Shape, G: Stage>(
         → IsUnderWay (F.has_text shape.old fresh names rows) start (reached (kind_of G.state G.ended) target.old stage.old) buffers.old.held
         → GainsFront start stage.new (F.text shape.old fresh names (rows ++ (row.now ∷ more)))) }
     ensures format { F.text shape.new ≡ F.text shape.old }
+    ensures shown { F.shown shape.new ≡ F.shown shape.old }
     ensures small { OnOk result (length buffers.new.held < 65536) }
     ensures later { G.faults stage.old ≤ G.faults stage.new }
     ensures failed { IsErrOf result TakeFault.Failed → Rose (G.faults stage.old) (G.faults stage.new) }

@@ -15,7 +15,7 @@ use output_formats::Shape;
 use std::alloc::Global;
 
 impl<F: Shape + Drop, P: Picker + Drop, G: Stage> Taker<G> for Writer<F, P> {
-    ghost takes = { λ a u xs b v. Writes F.text F.has_text P.picks a (reached (kind_of G.state G.ended) a.target u) (rows_met xs) b (reached (kind_of G.state G.ended) b.target v) };
+    ghost takes = { λ a u xs b v. Writes F.text F.has_text F.shown P.picks a (reached (kind_of G.state G.ended) a.target u) (rows_met xs) b (reached (kind_of G.state G.ended) b.target v) };
 
     ghost stops = { λ a u xs b v. Halts F.text F.has_text P.picks a (reached (kind_of G.state G.ended) a.target u) (rows_met xs) v };
 
@@ -82,13 +82,13 @@ impl<F: Shape + Drop, P: Picker + Drop, G: Stage> Taker<G> for Writer<F, P> {
         Ok(())
     }
 
-    ghost takes_none = { λ s w. writes_none F.text F.has_text P.picks s (reached (kind_of G.state G.ended) s.target w) };
+    ghost takes_none = { λ s w. writes_none F.text F.has_text F.shown P.picks s (reached (kind_of G.state G.ended) s.target w) };
 
-    ghost takes_more = { λ a b c u v w. writes_more_met F.text F.has_text P.picks a b c (reached (kind_of G.state G.ended) a.target u) (reached (kind_of G.state G.ended) b.target v) (reached (kind_of G.state G.ended) c.target w) };
+    ghost takes_more = { λ a b c u v w. writes_more_met F.text F.has_text F.shown P.picks a b c (reached (kind_of G.state G.ended) a.target u) (reached (kind_of G.state G.ended) b.target v) (reached (kind_of G.state G.ended) c.target w) };
 
-    ghost stops_here = { λ a b u v. halts_here_met F.text F.has_text P.picks F.begins a b (reached (kind_of G.state G.ended) a.target u) (reached (kind_of G.state G.ended) b.target v) };
+    ghost stops_here = { λ a b u v. halts_here_met F.text F.has_text F.shown P.picks F.begins a b (reached (kind_of G.state G.ended) a.target u) (reached (kind_of G.state G.ended) b.target v) };
 
-    ghost stops_later = { λ a b c u v w. halts_later_met F.text F.has_text P.picks a b (reached (kind_of G.state G.ended) a.target u) (reached (kind_of G.state G.ended) b.target v) w };
+    ghost stops_later = { λ a b c u v w. halts_later_met F.text F.has_text F.shown P.picks a b (reached (kind_of G.state G.ended) a.target u) (reached (kind_of G.state G.ended) b.target v) w };
 
     ghost stops_more = { λ a c u w. halts_more_met F.text F.has_text P.picks a (reached (kind_of G.state G.ended) a.target u) w };
 }

@@ -193,6 +193,8 @@ impl Shape for Nat {
 
     ghost has_text = { λ s fresh names rows so_far. IsNatText s names rows so_far };
 
+    ghost shown = { λ s rows. rows };
+
     fn begin(&mut self, names: &TextList, fresh: bool, to: &mut Bytes) -> Result<(), AllocError> {
         self.title = title_of(self.alloc, names)?;
         self.held.clear();
@@ -207,6 +209,10 @@ impl Shape for Nat {
         } else {
             Ok(())
         }
+    }
+
+    fn count(&self, put: u64) -> u64 {
+        put
     }
 
     fn end(&mut self, to: &mut Bytes) -> Result<(), AllocError> {

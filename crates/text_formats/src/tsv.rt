@@ -68,6 +68,8 @@ impl Shape for TsvOut {
 
     ghost has_text = { λ s fresh names rows so_far. so_far ≡ tsv_of s fresh names rows };
 
+    ghost shown = { λ s rows. rows };
+
     fn begin(&mut self, names: &TextList, fresh: bool, to: &mut Bytes) -> Result<(), AllocError> {
         if is_headed(self.headers, fresh) {
             add_names(tsv_style(self.separator), names, to)?;
@@ -79,6 +81,10 @@ impl Shape for TsvOut {
 
     fn row(&mut self, values: &ValueList, to: &mut Bytes) -> Result<(), AllocError> {
         add_values(tsv_style(self.separator), &mut self.printed, values, to)
+    }
+
+    fn count(&self, put: u64) -> u64 {
+        put
     }
 
     fn end(&mut self, to: &mut Bytes) -> Result<(), AllocError> {

@@ -92,12 +92,18 @@ impl Shape for W3cOut {
 
     ghost has_text = { λ s fresh names rows so_far. so_far ≡ w3c_of s fresh names rows };
 
+    ghost shown = { λ s rows. rows };
+
     fn begin(&mut self, names: &TextList, fresh: bool, to: &mut Bytes) -> Result<(), AllocError> {
         add_head(self.moment, names, to)
     }
 
     fn row(&mut self, values: &ValueList, to: &mut Bytes) -> Result<(), AllocError> {
         add_values(W3C, &mut self.printed, values, to)
+    }
+
+    fn count(&self, put: u64) -> u64 {
+        put
     }
 
     fn end(&mut self, to: &mut Bytes) -> Result<(), AllocError> {

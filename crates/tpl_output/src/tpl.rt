@@ -75,6 +75,8 @@ impl Shape for Tpl {
 
     ghost has_text = { λ s fresh names rows so_far. IsTplText s names rows so_far };
 
+    ghost shown = { λ s rows. rows };
+
     fn begin(&mut self, names: &TextList, fresh: bool, to: &mut Bytes) -> Result<(), AllocError> {
         self.body = fill(self.alloc, names, self.moment, true, self.template.body())?;
         self.footer = fill(
@@ -89,6 +91,10 @@ impl Shape for Tpl {
 
     fn row(&mut self, values: &ValueList, to: &mut Bytes) -> Result<(), AllocError> {
         add_filling(&self.body, values, to)
+    }
+
+    fn count(&self, put: u64) -> u64 {
+        put
     }
 
     fn end(&mut self, to: &mut Bytes) -> Result<(), AllocError> {

@@ -12,7 +12,7 @@ use Rattle.log_reading.proofs.RowsMet.{rows_met_spans}
 use Rattle.query_run.specs.Writer.{Writes, Halts}
 use Rattle.query_run.specs.declared.writer.Writer.{Writer}
 use Rattle.lp_model.proofs.Results.{on_err}
-use Rattle.query_run.proofs.WholeRun.{told_all, told_map, front_stopped, at_end}
+use Rattle.query_run.proofs.WholeRun.{told_all, told_map, front_stopped, at_end, count_at_end}
 use Rattle.query_run.proofs.executing.write_spans.Goals as goal
 
 pub returns-in_default-clause-front : goal.returns-in_default-clause-front
@@ -67,9 +67,9 @@ returns-in-Ok-finish-clause-text g c =
     let last = placed_at kind c.take_spans.new.page.taker.target.output c.in-Ok-finish.output c.finish.new.stage in
     let target = ap (λ w. w.target) same ∙ made.target in
     subst (λ (t : Target). Told (g.L.Logs.folder c.take_spans.new.logs) (λ folder. Kept folder → GainsText (reached kind t c.args.stage.now) (placed_at kind t.output c.in-Ok-finish.output c.finish.new.stage) (text folder))) target
-    (told_map _ (λ folder. Kept folder → TakesSpans (λ a u' xs b v'. Writes g.F.Shape.text g.F.Shape.has_text g.P.Picker.picks a (reached kind a.target u') (rows_met xs) b (reached kind b.target v')) format_of c.args.waits folder c.args.spans.now page c.take_spans.new.page c.args.stage.now c.take_spans.new.out) (λ folder. Kept folder → GainsText u (placed_at kind page.taker.target.output c.in-Ok-finish.output c.finish.new.stage) (text folder)) (λ folder took kept.
-    gains_as u last (text folder) (at_end g.F.Shape.text g.F.Shape.has_text g.P.Picker.picks (λ t. GainsText u last t) page.taker c.take_spans.new.page.taker c.args.shape c.args.picker c.args.fresh c.args.names.now (spans_found (g.R.LineReader.format c.args.reader.now) c.args.waits folder c.args.spans.now) u v format picker under_way
-    (subst (λ (rows : List Found). Writes g.F.Shape.text g.F.Shape.has_text g.P.Picker.picks page.taker u rows c.take_spans.new.page.taker v) (rows_met_spans format_of c.args.waits folder c.args.spans.now) ((took kept).done))
+    (told_map _ (λ folder. Kept folder → TakesSpans (λ a u' xs b v'. Writes g.F.Shape.text g.F.Shape.has_text g.F.Shape.shown g.P.Picker.picks a (reached kind a.target u') (rows_met xs) b (reached kind b.target v')) format_of c.args.waits folder c.args.spans.now page c.take_spans.new.page c.args.stage.now c.take_spans.new.out) (λ folder. Kept folder → GainsText u (placed_at kind page.taker.target.output c.in-Ok-finish.output c.finish.new.stage) (text folder)) (λ folder took kept.
+    gains_as u last (text folder) (at_end g.F.Shape.text g.F.Shape.has_text g.F.Shape.shown g.P.Picker.picks (λ t. GainsText u last t) page.taker c.take_spans.new.page.taker c.args.shape c.args.picker c.args.fresh c.args.names.now (spans_found (g.R.LineReader.format c.args.reader.now) c.args.waits folder c.args.spans.now) u v format picker under_way
+    (subst (λ (rows : List Found). Writes g.F.Shape.text g.F.Shape.has_text g.F.Shape.shown g.P.Picker.picks page.taker u rows c.take_spans.new.page.taker v) (rows_met_spans format_of c.args.waits folder c.args.spans.now) ((took kept).done))
     (λ rows. c.in-Ok-finish.ensures.text c.args.fresh c.args.names.now rows u)))
     c.in_ok-take_spans.ensures.takes)
 
@@ -77,19 +77,21 @@ pub returns-in-Ok-finish-clause-output : goal.returns-in-Ok-finish-clause-output
 returns-in-Ok-finish-clause-output g c =
     let kind = kind_of g.G.Stage.state g.G.Stage.ended in
     let page = c.first_page-page.result in
+    let u = reached kind page.taker.target c.args.stage.now in
+    let v = reached kind c.take_spans.new.page.taker.target c.take_spans.new.out in
     let same = c.first_page-page.ensures.taker in
     let made = c.in-Ok.ensures in
+    let shows = ap (λ w. g.F.Shape.shown w.shape) same ∙ made.shown in
     let picker = ap (λ w. w.picker) same ∙ made.picker in
     let none : page.taker.output ≡ 0 = ap (λ w. w.output) same ∙ made.output in
-    let stays : c.finish.new.writer.output ≡ c.take_spans.new.page.taker.output = c.in-Ok-finish.ensures.output in
     let format_of = g.R.LineReader.format c.args.reader.now in
     let Kept : Folder → Type 0 = λ folder. AreKept format_of c.args.waits c.args.spans.now folder in
-    let rows : g.row.P.Denot → List Found → ℕ = λ p founds. length (picked (g.P.Picker.picks p) founds) in
-    told_map _ (λ folder. Kept folder → TakesSpans (λ a u' xs b v'. Writes g.F.Shape.text g.F.Shape.has_text g.P.Picker.picks a (reached kind a.target u') (rows_met xs) b (reached kind b.target v')) format_of c.args.waits folder c.args.spans.now page c.take_spans.new.page c.args.stage.now c.take_spans.new.out)
-    (λ folder. Kept folder → c.finish.new.writer.output ≡ rows c.args.picker (spans_found format_of c.args.waits folder c.args.spans.now)) (λ folder took kept.
-    let written : c.take_spans.new.page.taker.output ≡ page.taker.output + rows page.taker.picker (rows_met (spans_met format_of c.args.waits folder c.args.spans.now)) = (took kept).done.output in
-    let size : rows page.taker.picker (rows_met (spans_met format_of c.args.waits folder c.args.spans.now)) ≡ rows c.args.picker (spans_found format_of c.args.waits folder c.args.spans.now) = ap₂ rows picker (rows_met_spans format_of c.args.waits folder c.args.spans.now) in
-    omega arith)
+    let under_way = subst (λ (w : Writer g.row.F.Denot g.row.P.Denot). g.F.Shape.has_text w.shape c.args.fresh c.args.names.now [] w.buffers.held) (sym same) made.text in
+    told_map _ (λ folder. Kept folder → TakesSpans (λ a u' xs b v'. Writes g.F.Shape.text g.F.Shape.has_text g.F.Shape.shown g.P.Picker.picks a (reached kind a.target u') (rows_met xs) b (reached kind b.target v')) format_of c.args.waits folder c.args.spans.now page c.take_spans.new.page c.args.stage.now c.take_spans.new.out)
+    (λ folder. Kept folder → c.finish.new.writer.output ≡ length (g.F.Shape.shown c.args.shape (picked (g.P.Picker.picks c.args.picker) (spans_found format_of c.args.waits folder c.args.spans.now)))) (λ folder took kept.
+    count_at_end g.F.Shape.text g.F.Shape.has_text g.F.Shape.shown g.P.Picker.picks page.taker c.take_spans.new.page.taker c.args.shape c.args.picker c.args.fresh c.args.names.now (spans_found format_of c.args.waits folder c.args.spans.now) u v c.finish.new.writer.output shows picker none under_way
+    (subst (λ (rows : List Found). Writes g.F.Shape.text g.F.Shape.has_text g.F.Shape.shown g.P.Picker.picks page.taker u rows c.take_spans.new.page.taker v) (rows_met_spans format_of c.args.waits folder c.args.spans.now) ((took kept).done))
+    (λ rows. c.in-Ok-finish.ensures.output c.args.fresh c.args.names.now rows u))
     c.in_ok-take_spans.ensures.takes
 
 pub returns-in-Err-Memory-clause-front : goal.returns-in-Err-Memory-clause-front
@@ -109,9 +111,9 @@ returns-in-Err-Memory-clause-front g c =
     let last = c.finish.new.stage in
     let target = ap (λ w. w.target) same ∙ made.target in
     subst (λ (t : Target). Told (g.L.Logs.folder c.take_spans.new.logs) (λ folder. Kept folder → GainsFront (reached kind t c.args.stage.now) last (text folder))) target
-    (told_map _ (λ folder. Kept folder → TakesSpans (λ a u' xs b v'. Writes g.F.Shape.text g.F.Shape.has_text g.P.Picker.picks a (reached kind a.target u') (rows_met xs) b (reached kind b.target v')) format_of c.args.waits folder c.args.spans.now page c.take_spans.new.page c.args.stage.now c.take_spans.new.out) (λ folder. Kept folder → GainsFront u last (text folder)) (λ folder took kept.
-    at_end g.F.Shape.text g.F.Shape.has_text g.P.Picker.picks (λ t. GainsFront u last t) page.taker c.take_spans.new.page.taker c.args.shape c.args.picker c.args.fresh c.args.names.now (spans_found (g.R.LineReader.format c.args.reader.now) c.args.waits folder c.args.spans.now) u v format picker under_way
-    (subst (λ (rows : List Found). Writes g.F.Shape.text g.F.Shape.has_text g.P.Picker.picks page.taker u rows c.take_spans.new.page.taker v) (rows_met_spans format_of c.args.waits folder c.args.spans.now) ((took kept).done))
+    (told_map _ (λ folder. Kept folder → TakesSpans (λ a u' xs b v'. Writes g.F.Shape.text g.F.Shape.has_text g.F.Shape.shown g.P.Picker.picks a (reached kind a.target u') (rows_met xs) b (reached kind b.target v')) format_of c.args.waits folder c.args.spans.now page c.take_spans.new.page c.args.stage.now c.take_spans.new.out) (λ folder. Kept folder → GainsFront u last (text folder)) (λ folder took kept.
+    at_end g.F.Shape.text g.F.Shape.has_text g.F.Shape.shown g.P.Picker.picks (λ t. GainsFront u last t) page.taker c.take_spans.new.page.taker c.args.shape c.args.picker c.args.fresh c.args.names.now (spans_found (g.R.LineReader.format c.args.reader.now) c.args.waits folder c.args.spans.now) u v format picker under_way
+    (subst (λ (rows : List Found). Writes g.F.Shape.text g.F.Shape.has_text g.F.Shape.shown g.P.Picker.picks page.taker u rows c.take_spans.new.page.taker v) (rows_met_spans format_of c.args.waits folder c.args.spans.now) ((took kept).done))
     (λ rows. c.in-Err-Memory.ensures.front c.args.fresh c.args.names.now rows u))
     c.in_ok-take_spans.ensures.takes)
 
@@ -132,9 +134,9 @@ returns-clause-front g c =
     let last = c.finish.new.stage in
     let target = ap (λ w. w.target) same ∙ made.target in
     subst (λ (t : Target). Told (g.L.Logs.folder c.take_spans.new.logs) (λ folder. Kept folder → GainsFront (reached kind t c.args.stage.now) last (text folder))) target
-    (told_map _ (λ folder. Kept folder → TakesSpans (λ a u' xs b v'. Writes g.F.Shape.text g.F.Shape.has_text g.P.Picker.picks a (reached kind a.target u') (rows_met xs) b (reached kind b.target v')) format_of c.args.waits folder c.args.spans.now page c.take_spans.new.page c.args.stage.now c.take_spans.new.out) (λ folder. Kept folder → GainsFront u last (text folder)) (λ folder took kept.
-    at_end g.F.Shape.text g.F.Shape.has_text g.P.Picker.picks (λ t. GainsFront u last t) page.taker c.take_spans.new.page.taker c.args.shape c.args.picker c.args.fresh c.args.names.now (spans_found (g.R.LineReader.format c.args.reader.now) c.args.waits folder c.args.spans.now) u v format picker under_way
-    (subst (λ (rows : List Found). Writes g.F.Shape.text g.F.Shape.has_text g.P.Picker.picks page.taker u rows c.take_spans.new.page.taker v) (rows_met_spans format_of c.args.waits folder c.args.spans.now) ((took kept).done))
+    (told_map _ (λ folder. Kept folder → TakesSpans (λ a u' xs b v'. Writes g.F.Shape.text g.F.Shape.has_text g.F.Shape.shown g.P.Picker.picks a (reached kind a.target u') (rows_met xs) b (reached kind b.target v')) format_of c.args.waits folder c.args.spans.now page c.take_spans.new.page c.args.stage.now c.take_spans.new.out) (λ folder. Kept folder → GainsFront u last (text folder)) (λ folder took kept.
+    at_end g.F.Shape.text g.F.Shape.has_text g.F.Shape.shown g.P.Picker.picks (λ t. GainsFront u last t) page.taker c.take_spans.new.page.taker c.args.shape c.args.picker c.args.fresh c.args.names.now (spans_found (g.R.LineReader.format c.args.reader.now) c.args.waits folder c.args.spans.now) u v format picker under_way
+    (subst (λ (rows : List Found). Writes g.F.Shape.text g.F.Shape.has_text g.F.Shape.shown g.P.Picker.picks page.taker u rows c.take_spans.new.page.taker v) (rows_met_spans format_of c.args.waits folder c.args.spans.now) ((took kept).done))
     (λ rows. c.in-Err-Failed.ensures.front c.args.fresh c.args.names.now rows u))
     c.in_ok-take_spans.ensures.takes)
 

@@ -15,5 +15,5 @@ returns-in-Err-clause-stops g c = halts_at_once g.F.Shape.text g.F.Shape.has_tex
 pub returns-in_ok-put_row-in-Ok-true-clause-takes :
     goal.returns-in_ok-put_row-in-Ok-true-clause-takes
 returns-in_ok-put_row-in-Ok-true-clause-takes g c =
-    writes_one g.F.Shape.text g.F.Shape.has_text g.P.Picker.picks c.args.self.now _ _ _ _ c.pick-picked.new.row (rw c.in-Ok-true.field-0-test at c.in-Ok-true.ensures)
-    c.in_ok-put_row-in-Ok-true.ensures.text c.put_row.ensures.format refl refl
+    writes_one g.F.Shape.text g.F.Shape.has_text g.F.Shape.shown g.P.Picker.picks c.args.self.now _ _ _ _ c.pick-picked.new.row (rw c.in-Ok-true.field-0-test at c.in-Ok-true.ensures)
+    c.in_ok-put_row-in-Ok-true.ensures.text c.put_row.ensures.format c.put_row.ensures.shown refl refl
