@@ -4,7 +4,7 @@ use Rattle.lp_values.specs.declared.value.Value.{Value}
 use Rattle.log_reading.specs.Found.{Found, rows_met}
 use Rattle.query_run.specs.Output.{StageKind, OutputAt, reached}
 use Rattle.query_run.specs.Writer.{Writes, Halts}
-use Rattle.query_run.specs.Writing.{TextOf, HasTextOf}
+use Rattle.query_run.specs.Writing.{TextOf, HasTextOf, ShownOf}
 use Rattle.query_run.specs.declared.writer.Writer.{Writer}
 use Rattle.query_tree.specs.Views.{query_of}
 use Rattle.query_types.specs.Conditions.{filter_of}
@@ -21,16 +21,16 @@ abbrev pub picks_of : SampledPicker → Found → Option (List Value)
 picks_of picker = sampled_picks picker.pattern.now picker.told picker.ready.plan.items (option_map filter_of picker.ready.plan.condition)
 
 -- a writer behind a sample, to an output of this kind of stage
-abbrev pub writer_kind : {F S : Type 0} → StageKind S → TextOf F → HasTextOf F → SampleKind (TextMaker F) (Writer F SampledPicker) S
-writer_kind kind text has_text = kind_of
-    (λ maker told writer. IsMade text has_text maker told writer)
+abbrev pub writer_kind : {F S : Type 0} → StageKind S → TextOf F → HasTextOf F → ShownOf F → SampleKind (TextMaker F) (Writer F SampledPicker) S
+writer_kind kind text has_text shown = kind_of
+    (λ maker told writer. IsMade text has_text shown maker told writer)
     (λ maker told fault. IsUnplanned maker told fault)
-    (λ a u mets b v. Writes text has_text picks_of a (reached kind a.target u) (rows_met mets) b (reached kind b.target v))
+    (λ a u mets b v. Writes text has_text shown picks_of a (reached kind a.target u) (rows_met mets) b (reached kind b.target v))
     (λ a u mets b v. Halts text has_text picks_of a (reached kind a.target u) (rows_met mets) v)
 
 -- the rules of a run
-abbrev pub run_rules : {F : Type 0} → TextOf F → SampleRules (TextMaker F) → Rules
-run_rules text rules = rules_of rules.limit rules.pattern rules.maker.moment.seconds (query_of rules.maker.query.now) rules.maker.fresh (text rules.maker.shape)
+abbrev pub run_rules : {F : Type 0} → TextOf F → ShownOf F → SampleRules (TextMaker F) → Rules
+run_rules text shown rules = rules_of rules.limit rules.pattern rules.maker.moment.seconds (query_of rules.maker.query.now) rules.maker.fresh (text rules.maker.shape) (shown rules.maker.shape)
 
 -- the maker reads times as the sample does, and its output has come so far
 pub record Fits {F S : Type 0} (kind : StageKind S) (rules : SampleRules (TextMaker F)) (begin : S) (start : OutputAt kind) : Type 0 where

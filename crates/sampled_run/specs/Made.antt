@@ -1,6 +1,6 @@
 -- The writer of a query's rows over the columns that the logs tell.
 use Rattle.std.specs.Prelude.{◌≡◌, [], Result, Ok, Err}
-use Rattle.query_run.specs.Writing.{TextOf, HasTextOf}
+use Rattle.query_run.specs.Writing.{TextOf, HasTextOf, ShownOf}
 use Rattle.query_run.specs.declared.writer.Writer.{Writer}
 use Rattle.query_tree.specs.Views.{query_of}
 use Rattle.query_types.specs.Planned.{Planned, plan_of, planned_in}
@@ -15,12 +15,13 @@ abbrev pub plan_over : {F : Type 0} → TextMaker F → Judged → Result Planne
 plan_over maker told = plan_of (table_of told) maker.moment.seconds (query_of maker.query.now)
 
 -- this writer is made for these columns: it goes by the plan over them, and no row is written
-pub record IsMade {F : Type 0} (text : TextOf F) (has_text : HasTextOf F) (maker : TextMaker F) (told : Judged) (writer : Writer F SampledPicker) : Type 0 where
+pub record IsMade {F : Type 0} (text : TextOf F) (has_text : HasTextOf F) (shown : ShownOf F) (maker : TextMaker F) (told : Judged) (writer : Writer F SampledPicker) : Type 0 where
   pub planned : plan_over maker told ≡ Ok (planned_in writer.picker.ready.plan)
   pub told_is : writer.picker.told ≡ told
   pub pattern : writer.picker.pattern.now ≡ maker.pattern.now
   pub begins : has_text writer.shape maker.fresh writer.picker.ready.plan.names [] writer.buffers.held
   pub format : text writer.shape ≡ text maker.shape
+  pub shows : shown writer.shape ≡ shown maker.shape
   pub target : writer.target ≡ maker.target
   pub none : writer.output ≡ 0
 

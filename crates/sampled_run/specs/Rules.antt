@@ -13,7 +13,7 @@ use Rattle.column_kinds.specs.Past.{Past}
 use Rattle.column_kinds.specs.Past.{told_at as told_from}
 use Rattle.sampled_table.specs.Picks.{sampled_picks}
 
--- what a run is asked: from how many records kinds are judged, how times are read, the moment, the query, whether its output begins empty, and the text of named rows
+-- what a run is asked: from how many records kinds are judged, how times are read, the moment, the query, whether its output begins empty, the text of named rows, and which of them it has
 pub record Rules : Type 0 where
   pub limit : ℕ
   pub pattern : List Piece
@@ -21,9 +21,10 @@ pub record Rules : Type 0 where
   pub query : Query
   pub fresh : Bool
   pub text : Bool → List (List ℕ) → List (List Value) → List ℕ
+  pub shown : List (List Value) → List (List Value)
 
-abbrev pub rules_of : ℕ → List Piece → ℤ → Query → Bool → (Bool → List (List ℕ) → List (List Value) → List ℕ) → Rules
-rules_of limit pattern moment q fresh text = record { limit = limit; pattern = pattern; moment = moment; query = q; fresh = fresh; text = text }
+abbrev pub rules_of : ℕ → List Piece → ℤ → Query → Bool → (Bool → List (List ℕ) → List (List Value) → List ℕ) → (List (List Value) → List (List Value)) → Rules
+rules_of limit pattern moment q fresh text shown = record { limit = limit; pattern = pattern; moment = moment; query = q; fresh = fresh; text = text; shown = shown }
 
 -- the columns that the records tell
 abbrev pub told_at : Rules → Past → Judged

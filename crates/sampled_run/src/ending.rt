@@ -42,10 +42,10 @@ fn end_text<'a, F: Shape + Drop, G: Stage>(
     stage: &mut G,
 ) -> Result<End, Stop>
     ensures written { IfOk result (λ end. (rules : SampleRules (TextMaker F)) (begin : G) (start : OutputAt (kind_of G.state G.ended)) (past : Past) → Fits (kind_of G.state G.ended) rules begin start
-        → Begun (writer_kind (kind_of G.state G.ended) F.text F.has_text) rules begin past writer.entry stage.old → IsWritten (run_rules F.text rules) start past end.rows end.output stage.new) }
+        → Begun (writer_kind (kind_of G.state G.ended) F.text F.has_text F.shown) rules begin past writer.entry stage.old → IsWritten (run_rules F.text F.shown rules) start past end.rows end.output stage.new) }
     ensures ended { IfOk result (λ end. G.ended stage.new end.output.name end.output.base end.output.mark) }
     ensures stopped { IfErr result (λ stop. (rules : SampleRules (TextMaker F)) (begin : G) (start : OutputAt (kind_of G.state G.ended)) (past : Past) → Fits (kind_of G.state G.ended) rules begin start
-        → Begun (writer_kind (kind_of G.state G.ended) F.text F.has_text) rules begin past writer.entry stage.old → IsEndedBy (run_rules F.text rules) start past stop stage.new) }
+        → Begun (writer_kind (kind_of G.state G.ended) F.text F.has_text F.shown) rules begin past writer.entry stage.old → IsEndedBy (run_rules F.text F.shown rules) start past stop stage.new) }
     ensures goes { G.goes stage.old stage.new }
     ensures later { G.faults stage.old ≤ G.faults stage.new }
     ensures failed { IsErrOf result Stop.Failed → Rose (G.faults stage.old) (G.faults stage.new) }
@@ -67,10 +67,10 @@ pub(crate) fn finish_run<'a, F: Shape + Drop, G: Stage>(
     stage: &mut G,
 ) -> Result<End, Stop>
     ensures written { IfOk result (λ end. (rules : SampleRules (TextMaker F)) (begin : G) (start : OutputAt (kind_of G.state G.ended)) (past : Past) → Fits (kind_of G.state G.ended) rules begin start
-        → Holds (writer_kind (kind_of G.state G.ended) F.text F.has_text) rules begin past sampled.entry stage.old → IsWritten (run_rules F.text rules) start past end.rows end.output stage.new) }
+        → Holds (writer_kind (kind_of G.state G.ended) F.text F.has_text F.shown) rules begin past sampled.entry stage.old → IsWritten (run_rules F.text F.shown rules) start past end.rows end.output stage.new) }
     ensures ended { IfOk result (λ end. G.ended stage.new end.output.name end.output.base end.output.mark) }
     ensures stopped { IfErr result (λ stop. (rules : SampleRules (TextMaker F)) (begin : G) (start : OutputAt (kind_of G.state G.ended)) (past : Past) → Fits (kind_of G.state G.ended) rules begin start
-        → Holds (writer_kind (kind_of G.state G.ended) F.text F.has_text) rules begin past sampled.entry stage.old → IsEndedBy (run_rules F.text rules) start past stop stage.new) }
+        → Holds (writer_kind (kind_of G.state G.ended) F.text F.has_text F.shown) rules begin past sampled.entry stage.old → IsEndedBy (run_rules F.text F.shown rules) start past stop stage.new) }
     ensures goes { G.goes stage.old stage.new }
     ensures later { G.faults stage.old ≤ G.faults stage.new }
     ensures failed { IsErrOf result Stop.Failed → Rose (G.faults stage.old) (G.faults stage.new) }

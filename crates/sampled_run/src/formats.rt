@@ -48,10 +48,10 @@ pub fn run_sampled<'a, L: Logs, F: Shape + Drop, G: Stage>(
     requires there { Told (L.folder logs.old) (λ folder. AllSpans spans.now (λ span. span.listed ≤ length (bytes_in folder span.name))) }
     ensures grows { OnlyGrow (L.folder logs.old) (L.folder logs.new) }
     ensures ran { IfOk result (λ run. Told (L.folder logs.new) (λ folder. AreKept (delimited_lines options) waits spans.now folder
-        → IsSampled (rules_of limit pattern.now moment.seconds (query_of query.now) fresh (F.text shape)) (reached (kind_of G.state G.ended) target stage.old) (past_of (delimited_lines options) waits folder spans.now) (delimited_lines options) waits folder spans.now run stage.new)) }
+        → IsSampled (rules_of limit pattern.now moment.seconds (query_of query.now) fresh (F.text shape) (F.shown shape)) (reached (kind_of G.state G.ended) target stage.old) (past_of (delimited_lines options) waits folder spans.now) (delimited_lines options) waits folder spans.now run stage.new)) }
     ensures ended { IfOk result (λ run. G.ended stage.new run.output.name run.output.base run.output.mark) }
     ensures stopped { IfErr result (λ fault. Told (L.folder logs.new) (λ folder. AreKept (delimited_lines options) waits spans.now folder
-        → IsStoppedBy (rules_of limit pattern.now moment.seconds (query_of query.now) fresh (F.text shape)) (reached (kind_of G.state G.ended) target stage.old) (past_of (delimited_lines options) waits folder spans.now) fault stage.new)) }
+        → IsStoppedBy (rules_of limit pattern.now moment.seconds (query_of query.now) fresh (F.text shape) (F.shown shape)) (reached (kind_of G.state G.ended) target stage.old) (past_of (delimited_lines options) waits folder spans.now) fault stage.new)) }
     ensures within { IfOk result (λ run. IsWithin most_bad run.counts.bad) }
     ensures too_many { IfErr result (λ fault. OnBadOne fault (λ line. Told (L.folder logs.new) (λ folder. AreKept (delimited_lines options) waits spans.now folder
         → IsTooMany most_bad 0 (spans_bad_lines (delimited_lines options) waits folder spans.now) line))) }

@@ -65,6 +65,7 @@ fn writer_with<'a, F: Shape + Drop>(
 ) -> Result<Writer<F, SampledPicker<'a>>, Unmade>
     ensures text { IfOk result (λ writer. F.has_text writer.shape fresh picker.entry.ready.plan.names [] writer.buffers.held) }
     ensures format { IfOk result (λ writer. F.text writer.shape ≡ F.text shape) }
+    ensures shown { IfOk result (λ writer. F.shown writer.shape ≡ F.shown shape) }
     ensures picker { IfOk result (λ writer. writer.picker ≡ picker.entry) }
     ensures target { IfOk result (λ writer. writer.target ≡ target) }
     ensures output { IfOk result (λ writer. writer.output ≡ 0) }
@@ -81,7 +82,7 @@ fn writer_with<'a, F: Shape + Drop>(
 }
 
 impl<'a, F: Shape + Drop, G: Stage> Maker<Writer<F, SampledPicker<'a>>, G> for TextMaker<'a, F> {
-    ghost makes = { λ maker told writer. IsMade F.text F.has_text maker told writer };
+    ghost makes = { λ maker told writer. IsMade F.text F.has_text F.shown maker told writer };
 
     ghost refuses = { λ maker told fault. IsUnplanned maker told fault };
 
