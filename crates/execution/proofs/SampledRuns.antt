@@ -16,20 +16,20 @@ use Rattle.sampled_run.specs.Rules.{Rules, rules_of}
 use Rattle.column_kinds.specs.Spans.{past_of}
 use Rattle.execution.specs.declared.formats.LogFormat.TheVariants as F
 use Rattle.execution.specs.Executed.{IsExecuted, IsStopped, IsParseError, IsUnplanned, IsUntouched}
-use Rattle.execution.specs.Texts.{RowsText, run_text}
+use Rattle.execution.specs.Texts.{RowsText, RowsShown, run_shown, run_text}
 
 abbrev Kept : DelimitedOptions → List Span → Folder → Type 0
 Kept options spans folder = AreKept (delimited_lines options) false spans folder
 
-abbrev pub rules_with : ℕ → Spec → ℤ → model.Query → RowsText → Rules
-rules_with limit spec moment q text = rules_of limit spec.ts_format moment q true text
+abbrev pub rules_with : ℕ → Spec → ℤ → model.Query → RowsText → RowsShown → Rules
+rules_with limit spec moment q text shown = rules_of limit spec.ts_format moment q true text shown
 
 abbrev pub rules_in : ℕ → Spec → ℤ → model.Query → Rules
-rules_in limit spec moment q = rules_with limit spec moment q (run_text spec moment q)
+rules_in limit spec moment q = rules_with limit spec moment q (run_text spec moment q) (run_shown q)
 
 -- a text that is the one asked for
-as_asked : (limit : ℕ) (spec : Spec) (moment : ℤ) (q : model.Query) (text : RowsText) → text ≡ run_text spec moment q → (P : Rules → Type 0) → P (rules_with limit spec moment q text) → P (rules_in limit spec moment q)
-as_asked limit spec moment q text is P p = subst (λ (t : RowsText). P (rules_with limit spec moment q t)) is p
+as_asked : (limit : ℕ) (spec : Spec) (moment : ℤ) (q : model.Query) (text : RowsText) (shown : RowsShown) → text ≡ run_text spec moment q → shown ≡ run_shown q → (P : Rules → Type 0) → P (rules_with limit spec moment q text shown) → P (rules_in limit spec moment q)
+as_asked limit spec moment q text shown is shows P p = subst (λ (t : RowsText). P (rules_with limit spec moment q t (run_shown q))) is (subst (λ (s : RowsShown). P (rules_with limit spec moment q text s)) shows p)
 
 abbrev Has : {S : Type 0} → {kind : StageKind S} → OutputAt kind → Written → S → List ℕ → Type 0
 Has {kind = kind} before run now text = GainsText before (placed_at kind before.output run.output now) text
@@ -50,15 +50,15 @@ written_all (Some folder) before now spec moment q options limit spans run ran w
       written = λ again. record { text = all.written.text; processed = all.processed; output = all.written.rows; bad = all.bad; within = within };
     }
 
-pub executed : {S : Type 0} {kind : StageKind S} (told : Option Folder) (before : OutputAt kind) (now : S) (spec : Spec) (moment : ℤ) (q : model.Query) (options : DelimitedOptions) (limit : ℕ) (slice spans : List Span) (run : Written) (most : Option ℕ) (text : RowsText)
-    → slice ≡ spans → most ≡ spec.errors → text ≡ run_text spec moment q
-    → Told told (λ folder. Kept options slice folder → IsSampled (rules_with limit spec moment q text) before (past_of (delimited_lines options) false folder slice) (delimited_lines options) false folder slice run now)
+pub executed : {S : Type 0} {kind : StageKind S} (told : Option Folder) (before : OutputAt kind) (now : S) (spec : Spec) (moment : ℤ) (q : model.Query) (options : DelimitedOptions) (limit : ℕ) (slice spans : List Span) (run : Written) (most : Option ℕ) (text : RowsText) (shown : RowsShown)
+    → slice ≡ spans → most ≡ spec.errors → text ≡ run_text spec moment q → shown ≡ run_shown q
+    → Told told (λ folder. Kept options slice folder → IsSampled (rules_with limit spec moment q text shown) before (past_of (delimited_lines options) false folder slice) (delimited_lines options) false folder slice run now)
     → IsWithin most run.counts.bad
     → IsExecuted (F.Sampled options limit) told (Has before run now) spec moment q spans run.counts
-executed told before now spec moment q options limit slice spans run most text listed same asked ran within =
+executed told before now spec moment q options limit slice spans run most text shown listed same asked shows ran within =
     let Of : Rules → Type 0 = λ rules. Told told (λ folder. Kept options slice folder → IsSampled rules before (past_of (delimited_lines options) false folder slice) (delimited_lines options) false folder slice run now) in
     subst (λ (s : List Span). IsExecuted (F.Sampled options limit) told (Has before run now) spec moment q s run.counts) listed
-    (written_all told before now spec moment q options limit slice run (as_asked limit spec moment q text asked Of ran) (subst (λ (m : Option ℕ). IsWithin m run.counts.bad) same within))
+    (written_all told before now spec moment q options limit slice run (as_asked limit spec moment q text shown asked shows Of ran) (subst (λ (m : Option ℕ). IsWithin m run.counts.bad) same within))
 
 stopped_all : {S : Type 0} {kind : StageKind S} (told : Option Folder) (before : OutputAt kind) (now : S) (spec : Spec) (moment : ℤ) (q : model.Query) (options : DelimitedOptions) (limit : ℕ) (spans : List Span)
     → Told told (λ folder. Kept options spans folder → IsFront (rules_in limit spec moment q) before (past_of (delimited_lines options) false folder spans) now)
@@ -69,47 +69,47 @@ stopped_all (Some folder) before now spec moment q options limit spans front = �
   | inr within ↦ inr (record { plan = within.plan; is_planned = within.planned; front = λ again. within.front })
 ]
 
-pub stopped : {S : Type 0} {kind : StageKind S} (told : Option Folder) (before : OutputAt kind) (now : S) (spec : Spec) (moment : ℤ) (q : model.Query) (options : DelimitedOptions) (limit : ℕ) (slice spans : List Span) (text : RowsText)
-    → slice ≡ spans → text ≡ run_text spec moment q
-    → Told told (λ folder. Kept options slice folder → IsFront (rules_with limit spec moment q text) before (past_of (delimited_lines options) false folder slice) now)
+pub stopped : {S : Type 0} {kind : StageKind S} (told : Option Folder) (before : OutputAt kind) (now : S) (spec : Spec) (moment : ℤ) (q : model.Query) (options : DelimitedOptions) (limit : ℕ) (slice spans : List Span) (text : RowsText) (shown : RowsShown)
+    → slice ≡ spans → text ≡ run_text spec moment q → shown ≡ run_shown q
+    → Told told (λ folder. Kept options slice folder → IsFront (rules_with limit spec moment q text shown) before (past_of (delimited_lines options) false folder slice) now)
     → IsStopped (F.Sampled options limit) told (now ≡ before.stage) (Front before now) spec moment q spans
-stopped told before now spec moment q options limit slice spans text listed asked front =
+stopped told before now spec moment q options limit slice spans text shown listed asked shows front =
     let Of : Rules → Type 0 = λ rules. Told told (λ folder. Kept options slice folder → IsFront rules before (past_of (delimited_lines options) false folder slice) now) in
     subst (λ (s : List Span). IsStopped (F.Sampled options limit) told (now ≡ before.stage) (Front before now) spec moment q s) listed
-    (stopped_all told before now spec moment q options limit slice (as_asked limit spec moment q text asked Of front))
+    (stopped_all told before now spec moment q options limit slice (as_asked limit spec moment q text shown asked shows Of front))
 
 -- no plan was made, and nothing written
 
-abbrev Refuses : {S : Type 0} → {kind : StageKind S} → Option Folder → OutputAt kind → S → Spec → ℤ → model.Query → RowsText → DelimitedOptions → ℕ → List Span → TypeFault → Type 0
-Refuses told before now spec moment q text options limit spans fault = Told told (λ folder. Kept options spans folder → IsRefused (rules_with limit spec moment q text) before (past_of (delimited_lines options) false folder spans) fault now)
+abbrev Refuses : {S : Type 0} → {kind : StageKind S} → Option Folder → OutputAt kind → S → Spec → ℤ → model.Query → RowsText → RowsShown → DelimitedOptions → ℕ → List Span → TypeFault → Type 0
+Refuses told before now spec moment q text shown options limit spans fault = Told told (λ folder. Kept options spans folder → IsRefused (rules_with limit spec moment q text shown) before (past_of (delimited_lines options) false folder spans) fault now)
 
-unplanned_all : {S : Type 0} {kind : StageKind S} (told : Option Folder) (before : OutputAt kind) (now : S) (spec : Spec) (moment : ℤ) (q : model.Query) (text : RowsText) (options : DelimitedOptions) (limit : ℕ) (spans : List Span) (fault : TypeFault)
-    → Refuses told before now spec moment q text options limit spans fault → IsUnplanned (F.Sampled options limit) told spec moment q spans fault
-unplanned_all None before now spec moment q text options limit spans fault refused = tt
-unplanned_all (Some folder) before now spec moment q text options limit spans fault refused = λ kept. (refused kept).fault
+unplanned_all : {S : Type 0} {kind : StageKind S} (told : Option Folder) (before : OutputAt kind) (now : S) (spec : Spec) (moment : ℤ) (q : model.Query) (text : RowsText) (shown : RowsShown) (options : DelimitedOptions) (limit : ℕ) (spans : List Span) (fault : TypeFault)
+    → Refuses told before now spec moment q text shown options limit spans fault → IsUnplanned (F.Sampled options limit) told spec moment q spans fault
+unplanned_all None before now spec moment q text shown options limit spans fault refused = tt
+unplanned_all (Some folder) before now spec moment q text shown options limit spans fault refused = λ kept. (refused kept).fault
 
-pub unplanned : {S : Type 0} {kind : StageKind S} (told : Option Folder) (before : OutputAt kind) (now : S) (spec : Spec) (moment : ℤ) (q : model.Query) (text : RowsText) (options : DelimitedOptions) (limit : ℕ) (slice spans : List Span) (fault : TypeFault)
-    → slice ≡ spans → Refuses told before now spec moment q text options limit slice fault → IsUnplanned (F.Sampled options limit) told spec moment q spans fault
-unplanned told before now spec moment q text options limit slice spans fault listed refused =
-    subst (λ (s : List Span). IsUnplanned (F.Sampled options limit) told spec moment q s fault) listed (unplanned_all told before now spec moment q text options limit slice fault refused)
+pub unplanned : {S : Type 0} {kind : StageKind S} (told : Option Folder) (before : OutputAt kind) (now : S) (spec : Spec) (moment : ℤ) (q : model.Query) (text : RowsText) (shown : RowsShown) (options : DelimitedOptions) (limit : ℕ) (slice spans : List Span) (fault : TypeFault)
+    → slice ≡ spans → Refuses told before now spec moment q text shown options limit slice fault → IsUnplanned (F.Sampled options limit) told spec moment q spans fault
+unplanned told before now spec moment q text shown options limit slice spans fault listed refused =
+    subst (λ (s : List Span). IsUnplanned (F.Sampled options limit) told spec moment q s fault) listed (unplanned_all told before now spec moment q text shown options limit slice fault refused)
 
-untouched_all : {S : Type 0} {kind : StageKind S} (told : Option Folder) (before : OutputAt kind) (now : S) (spec : Spec) (moment : ℤ) (q : model.Query) (text : RowsText) (options : DelimitedOptions) (limit : ℕ) (spans : List Span) (fault : TypeFault)
-    → Refuses told before now spec moment q text options limit spans fault → IsUntouched (F.Sampled options limit) told (now ≡ before.stage) spec spans
-untouched_all None before now spec moment q text options limit spans fault refused = tt
-untouched_all (Some folder) before now spec moment q text options limit spans fault refused = λ kept. (refused kept).nothing
+untouched_all : {S : Type 0} {kind : StageKind S} (told : Option Folder) (before : OutputAt kind) (now : S) (spec : Spec) (moment : ℤ) (q : model.Query) (text : RowsText) (shown : RowsShown) (options : DelimitedOptions) (limit : ℕ) (spans : List Span) (fault : TypeFault)
+    → Refuses told before now spec moment q text shown options limit spans fault → IsUntouched (F.Sampled options limit) told (now ≡ before.stage) spec spans
+untouched_all None before now spec moment q text shown options limit spans fault refused = tt
+untouched_all (Some folder) before now spec moment q text shown options limit spans fault refused = λ kept. (refused kept).nothing
 
-pub untouched : {S : Type 0} {kind : StageKind S} (told : Option Folder) (before : OutputAt kind) (now : S) (spec : Spec) (moment : ℤ) (q : model.Query) (text : RowsText) (options : DelimitedOptions) (limit : ℕ) (slice spans : List Span) (fault : TypeFault)
-    → slice ≡ spans → Refuses told before now spec moment q text options limit slice fault → IsUntouched (F.Sampled options limit) told (now ≡ before.stage) spec spans
-untouched told before now spec moment q text options limit slice spans fault listed refused =
-    subst (λ (s : List Span). IsUntouched (F.Sampled options limit) told (now ≡ before.stage) spec s) listed (untouched_all told before now spec moment q text options limit slice fault refused)
+pub untouched : {S : Type 0} {kind : StageKind S} (told : Option Folder) (before : OutputAt kind) (now : S) (spec : Spec) (moment : ℤ) (q : model.Query) (text : RowsText) (shown : RowsShown) (options : DelimitedOptions) (limit : ℕ) (slice spans : List Span) (fault : TypeFault)
+    → slice ≡ spans → Refuses told before now spec moment q text shown options limit slice fault → IsUntouched (F.Sampled options limit) told (now ≡ before.stage) spec spans
+untouched told before now spec moment q text shown options limit slice spans fault listed refused =
+    subst (λ (s : List Span). IsUntouched (F.Sampled options limit) told (now ≡ before.stage) spec s) listed (untouched_all told before now spec moment q text shown options limit slice fault refused)
 
-pub refused_stopped : {S : Type 0} {kind : StageKind S} (told : Option Folder) (before : OutputAt kind) (now : S) (spec : Spec) (moment : ℤ) (q : model.Query) (text : RowsText) (options : DelimitedOptions) (limit : ℕ) (slice spans : List Span) (fault : TypeFault)
-    → slice ≡ spans → text ≡ run_text spec moment q → Refuses told before now spec moment q text options limit slice fault → IsStopped (F.Sampled options limit) told (now ≡ before.stage) (Front before now) spec moment q spans
-refused_stopped told before now spec moment q text options limit slice spans fault listed asked refused =
-    stopped told before now spec moment q options limit slice spans text listed asked (front_of told refused)
+pub refused_stopped : {S : Type 0} {kind : StageKind S} (told : Option Folder) (before : OutputAt kind) (now : S) (spec : Spec) (moment : ℤ) (q : model.Query) (text : RowsText) (shown : RowsShown) (options : DelimitedOptions) (limit : ℕ) (slice spans : List Span) (fault : TypeFault)
+    → slice ≡ spans → text ≡ run_text spec moment q → shown ≡ run_shown q → Refuses told before now spec moment q text shown options limit slice fault → IsStopped (F.Sampled options limit) told (now ≡ before.stage) (Front before now) spec moment q spans
+refused_stopped told before now spec moment q text shown options limit slice spans fault listed asked shows refused =
+    stopped told before now spec moment q options limit slice spans text shown listed asked shows (front_of told refused)
   where
-    front_of : (told : Option Folder) → Refuses told before now spec moment q text options limit slice fault
-        → Told told (λ folder. Kept options slice folder → IsFront (rules_with limit spec moment q text) before (past_of (delimited_lines options) false folder slice) now)
+    front_of : (told : Option Folder) → Refuses told before now spec moment q text shown options limit slice fault
+        → Told told (λ folder. Kept options slice folder → IsFront (rules_with limit spec moment q text shown) before (past_of (delimited_lines options) false folder slice) now)
     front_of None refused = tt
     front_of (Some folder) refused = λ kept. inl (refused kept).nothing
 

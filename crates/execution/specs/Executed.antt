@@ -24,7 +24,7 @@ use Rattle.column_kinds.specs.Judged.{table_of as table_with}
 use Rattle.execution.specs.declared.formats.LogFormat.{LogFormat}
 use Rattle.execution.specs.declared.formats.LogFormat.TheVariants as F
 use Rattle.execution.specs.Formats.{lines_in}
-use Rattle.execution.specs.Texts.{run_text}
+use Rattle.execution.specs.Texts.{run_shown, run_text}
 
 -- from 1970-01-01 00:00:00 to 9999-12-31 23:59:59
 abbrev pub IsMoment : ℤ → Type 0
@@ -44,7 +44,7 @@ abbrev pub OnTable : LogFormat → List Piece → Option Folder → List Span �
 OnTable (F.Tabled format) pattern told spans P = P (table_of format)
 OnTable (F.Sampled options limit) pattern told spans P = Told told (λ folder. AreKept (delimited_lines options) false spans folder → P (told_table options limit pattern folder spans))
 
--- the output rows of a plan over spans
+-- the rows that SELECT gives over spans, by a plan
 abbrev pub rows_in : LogFormat → List Piece → Planned → Folder → List Span → List (List Value)
 rows_in (F.Tabled format) pattern plan folder spans = plan_rows (readings_of format) plan (lines_of format) false folder spans
 rows_in (F.Sampled options limit) pattern plan folder spans = rows_with pattern (told_in options limit pattern folder spans) plan (spans_found (delimited_lines options) false folder spans)
@@ -53,11 +53,11 @@ rows_in (F.Sampled options limit) pattern plan folder spans = rows_with pattern 
 abbrev pub text_in : Spec → ℤ → model.Query → LogFormat → Planned → Folder → List Span → List ℕ
 text_in spec moment q format plan folder spans = run_text spec moment q true plan.names (rows_in format spec.ts_format plan folder spans)
 
--- an output has gained the text of a plan's rows, in a given sense; so many records, rows and bad lines were met, of these no more than there may be
+-- an output has gained the text of what a query leaves of a plan's rows, in a given sense; so many records, rows and bad lines were met, of these no more than there may be
 pub record Writes (Has : List ℕ → Type 0) (spec : Spec) (moment : ℤ) (q : model.Query) (format : LogFormat) (plan : Planned) (spans : List Span) (counts : Counts) (folder : Folder) : Type 0 where
   pub text : Has (text_in spec moment q format plan folder spans)
   pub processed : counts.processed ≡ length (spans_found (lines_in format) false folder spans)
-  pub output : counts.output ≡ length (rows_in format spec.ts_format plan folder spans)
+  pub output : counts.output ≡ length (run_shown q (rows_in format spec.ts_format plan folder spans))
   pub bad : counts.bad ≡ length (spans_bad (lines_in format) false folder spans)
   pub within : IsWithin spec.errors counts.bad
 

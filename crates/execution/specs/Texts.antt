@@ -1,5 +1,5 @@
 -- The text of a run, in the format that is asked for.
-use Rattle.std.specs.Prelude.{ℕ, ℤ, Bool, true, false, List, [], Option, Some, None, is_some, if◌then◌else◌, unwrap_or}
+use Rattle.std.specs.Prelude.{ℕ, ℤ, Bool, true, false, List, [], Option, Some, None, is_some, option_map, unsigned_abs, if◌then◌else◌, unwrap_or}
 use Rattle.grammar.specs.Trees.{Placed, Query}
 use Rattle.grammar.specs.Trees.{Query as query}
 use Rattle.lp_values.specs.declared.value.Value.{Value}
@@ -7,6 +7,7 @@ use Rattle.command_words.specs.declared.formats.OutputFormat.{OutputFormat}
 use Rattle.command_words.specs.declared.formats.OutputFormat.TheVariants as O
 use Rattle.command_words.specs.declared.spec.Spec.{Spec}
 use Rattle.command_words.specs.Formats.{output_by_name}
+use Rattle.order_top.specs.Finish.{Finish, finished}
 use Rattle.output_formats.specs.Headers.{csv_of}
 use Rattle.text_formats.specs.Nat.{nat_of}
 use Rattle.text_formats.specs.Tsv.{tsv_of}
@@ -44,6 +45,18 @@ text_as spec O.Tsv moment = tsv_of (record { headers = spec.headers; separator =
 text_as spec O.W3c moment = w3c_of moment
 text_as spec O.Tpl moment = λ fresh names rows. []
 
--- the text that a run of a query at a moment makes of rows
+-- which of some rows stand in a text
+abbrev pub RowsShown : Type 0
+RowsShown = List (List Value) → List (List Value)
+
+-- what a query asks of its rows behind SELECT: each once, or the first of them; an order isn't built
+abbrev pub finish_in : Query → Finish
+finish_in (query.query parts subqueries) = record { columns = []; descending = parts.descending; distinct = parts.distinct; top = option_map unsigned_abs parts.top }
+
+-- the rows that it leaves
+abbrev pub run_shown : Query → RowsShown
+run_shown q rows = finished (finish_in q) rows
+
+-- the text that a run of a query at a moment makes of the rows that SELECT gives: that of those that are left
 abbrev pub run_text : Spec → ℤ → Query → RowsText
-run_text spec moment q = text_as spec (output_of spec q) moment
+run_text spec moment q fresh names rows = text_as spec (output_of spec q) moment fresh names (run_shown q rows)

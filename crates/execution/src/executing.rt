@@ -14,7 +14,7 @@ ghost use Rattle.execution.specs.Standard.{IsStandard, standard_at};
 use crate::formats::{LogFormat, log_format};
 use crate::sampled::execute_sampled;
 use crate::tabled::execute_tabled;
-use crate::texts::{output_of, text_as};
+use crate::texts::rows_text;
 use crate::{Ran, RunFault};
 use checkpoint::Spans;
 use command_words::Spec;
@@ -69,7 +69,7 @@ pub fn execute<L: Logs, I: Source, G: Stage>(
 {
     let target = standard_output();
     let moment = Moment { seconds: moment };
-    let shape = text_as(alloc, spec, output_of(spec, query), moment);
+    let shape = rows_text(alloc, spec, query, moment);
     match log_format(spec, query) {
         LogFormat::Tabled(format) => {
             execute_tabled(

@@ -4,20 +4,20 @@ ghost use Rattle.lp_model.specs.Outside.{Rose, OnlyGrow, Told, bytes_in};
 ghost use Rattle.delimited_input.specs.Separators.{IsRefused};
 ghost use Rattle.log_reading.specs.Spans.{AllSpans, IsSpan, spans_size};
 ghost use Rattle.query_run.specs.Output.{kind_of, placed_at, reached, GainsText, GainsFront};
-ghost use Rattle.any_format.specs.Formats.{text_of};
+ghost use Rattle.finished_text.specs.RowsTexts.{rows_text_of, shown_of};
 ghost use Rattle.query_tree.specs.Views.{query_of};
 ghost use Rattle.query_types.specs.Built.{is_built};
 ghost use Rattle.execution.specs.Executed.{IsExecuted, IsParseError, IsStopped, IsUnplanned, IsUntouched};
-ghost use Rattle.execution.specs.Texts.{run_text};
+ghost use Rattle.execution.specs.Texts.{run_shown, run_text};
 ghost use Rattle.execution.specs.Faults.{IfParse, IfPlan};
 ghost use Rattle.execution.specs.declared.formats.LogFormat.TheVariants as F;
 
 use crate::errors::most_bad;
 use crate::{Ran, RunFault};
-use any_format::Format;
 use checkpoint::Spans;
 use command_words::Spec;
 use delimited_input::DelimitedOptions;
+use finished_text::RowsText;
 use log_reading::TookList;
 use lp_outside::{Logs, Stage};
 use query_run::Target;
@@ -35,12 +35,13 @@ pub(crate) fn execute_sampled<L: Logs, G: Stage>(
     moment: Moment,
     logs: &mut L,
     spans: &Spans,
-    shape: Format,
+    shape: RowsText,
     target: Target,
     stage: &mut G,
 ) -> Result<Ran, RunFault>
     requires separator { ¬ IsRefused options.separator }
-    requires text { text_of shape ≡ run_text spec.now moment.seconds (query_of query.now) }
+    requires text { rows_text_of shape ≡ run_text spec.now moment.seconds (query_of query.now) }
+    requires shown { shown_of shape ≡ run_shown (query_of query.now) }
     requires built { is_built (query_of query.now) ≡ true }
     requires few { length spans.now ≤ 100000 }
     requires spans { AllSpans spans.now IsSpan }

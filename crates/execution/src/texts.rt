@@ -3,10 +3,12 @@ ghost use Rattle.std.specs.Prelude.{◌≡◌, true, option_map};
 ghost use Rattle.any_format.specs.Formats.{text_of};
 ghost use Rattle.query_tree.specs.Views.{placed_of, query_of};
 ghost use Rattle.execution.specs.Executed.{IsMoment};
-ghost use Rattle.execution.specs.Texts.{has_text, output_by_into, output_of, text_as};
+ghost use Rattle.finished_text.specs.RowsTexts.{rows_text_of, shown_of};
+ghost use Rattle.execution.specs.Texts.{finish_in, has_text, output_by_into, output_of, run_shown, run_text, text_as};
 
 use any_format::Format;
 use command_words::{OutputFormat, Spec};
+use finished_text::{FinishedText, Order, RowsText};
 use output_formats::CsvOut;
 use query_tree::{Placed, Query};
 use sampled_run::Moment;
@@ -49,8 +51,8 @@ pub(crate) fn has_text(format: OutputFormat) -> bool
     }
 }
 
-/// The text in a format, as the words want it.
-pub(crate) fn text_as(alloc: Global, spec: &Spec, format: OutputFormat, moment: Moment) -> Format
+// The text in a format, as the words want it.
+fn text_as(alloc: Global, spec: &Spec, format: OutputFormat, moment: Moment) -> Format
     requires built { has_text format ≡ true }
     requires moment { IsMoment moment.seconds }
     ensures { text_of result ≡ text_as spec.now format moment.seconds }
@@ -61,5 +63,32 @@ pub(crate) fn text_as(alloc: Global, spec: &Spec, format: OutputFormat, moment: 
         OutputFormat::Tsv => { Format::Tsv(TsvOut::new(alloc, spec.headers, spec.out_separator)) }
         OutputFormat::W3c => Format::W3c(W3cOut::new(alloc, moment.seconds)),
         OutputFormat::Tpl => unreachable!(),
+    }
+}
+
+// What a query asks of its rows behind SELECT.
+fn order_of(alloc: Global, query: &Query) -> Order
+    ensures { result ≡ finish_in (query_of query.now) }
+{
+    Order {
+        columns: Vec::new(alloc),
+        descending: query.descending,
+        distinct: query.distinct,
+        top: query.top,
+    }
+}
+
+/// The text of a query's rows, as the words want it.
+pub(crate) fn rows_text(alloc: Global, spec: &Spec, query: &Query, moment: Moment) -> RowsText
+    requires built { has_text (output_of spec.now (query_of query.now)) ≡ true }
+    requires moment { IsMoment moment.seconds }
+    ensures text { rows_text_of result ≡ run_text spec.now moment.seconds (query_of query.now) }
+    ensures shown { shown_of result ≡ run_shown (query_of query.now) }
+{
+    let format = text_as(alloc, spec, output_of(spec, query), moment);
+    if query.top.is_none() && !query.distinct {
+        RowsText::All(format)
+    } else {
+        RowsText::Finished(FinishedText::new(alloc, format, order_of(alloc, query)))
     }
 }

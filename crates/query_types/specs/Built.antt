@@ -1,4 +1,4 @@
--- Which queries can be run so far: those without aggregates, GROUPING, subqueries, TOP, DISTINCT, groups, an order, and an INTO file.
+-- Which queries can be run so far: those without aggregates, GROUPING, subqueries, groups, an order, and an INTO file.
 use Rattle.std.specs.Prelude.{ℕ, Bool, true, false, not, ◌&&◌, List, [], ◌∷◌, codes, Option, Some, None}
 use Rattle.std.specs.List.{list_all}
 use Rattle.std.specs.Option.{is_none}
@@ -70,7 +70,7 @@ has_none (x ∷ xs) = false
 
 -- the parts of a query that can be run
 abbrev pub are_built : Parts → Bool
-are_built parts = is_none parts.top && not parts.distinct && are_plain_items parts.items && are_plain_items parts.aliases && is_standard parts.into
+are_built parts = are_plain_items parts.items && are_plain_items parts.aliases && is_standard parts.into
     && is_plain_where parts.condition && has_none parts.keys && is_none parts.having && has_none parts.order
 
 abbrev pub is_built : Query → Bool

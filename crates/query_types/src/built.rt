@@ -152,14 +152,10 @@ fn has_no_groups(query: &Query) -> bool
     query.keys.len() == 0 && query.having.is_none() && query.order.len() == 0
 }
 
-/// Whether a query can be run: it has no aggregate, GROUPING, subquery, TOP, DISTINCT, groups, HAVING, order, or INTO other
-/// than STDOUT.
+/// Whether a query can be run: it has no aggregate, GROUPING, subquery, groups, HAVING, order, or INTO other than STDOUT.
 pub fn is_built(query: &Query) -> bool
     ensures { result ≡ is_built (query_of query.now) }
 {
-    if query.top.is_some() || query.distinct {
-        return false;
-    }
     if !are_plain_items(&query.items) || !are_plain_items(&query.aliases) {
         return false;
     }
