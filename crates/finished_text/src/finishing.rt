@@ -13,8 +13,8 @@ use std::alloc::{AllocError, Global};
 use std::marker::Model;
 use std::mem::replace;
 
-// An orderer takes fewer rows than this.
-const MOST: u64 = 0x8000_0000_0000_0000;
+// An orderer takes so many rows.
+const MOST: u64 = 0x7FFF_FFFF_FFFF_FFFF;
 
 /// The text, in a format, of the rows that an order leaves.
 #[derive(Drop)]
@@ -66,8 +66,8 @@ impl FinishedText {
         ensures stands { OnOk result ((rows : List Row) → StandsFor self.old.ordering rows → StandsFor self.new.ordering (rows ++ values.now ∷ [])) }
         ensures err { OnErr result (self.new ≡ self.old) }
     {
-        // So many rows have no room in memory, unless equal ones were let go; no output is that long.
-        if self.given >= MOST - 1 {
+        // Told as want of memory, since no run comes so far: it would take centuries.
+        if self.given >= MOST {
             return Err(AllocError);
         }
         let row = copy_values(self.alloc, values)?;
@@ -76,7 +76,7 @@ impl FinishedText {
         Ok(())
     }
 
-    // Whether a row may be left out without a look at it.
+    // Whether any further row may be left out, so that none need be copied.
     fn has_enough(&self) -> bool
         ensures { IsTrue result → self.now.ordering.finish ≡ self.now.finish → (row : Row) (rows : List Row) → StandsFor self.now.ordering rows → StandsFor self.now.ordering (rows ++ row ∷ []) }
     {

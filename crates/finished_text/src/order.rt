@@ -1,5 +1,5 @@
 // What a query asks of its rows.
-ghost use Rattle.std.specs.Prelude.{◌≡◌, [], IfOk, IsTrue};
+ghost use Rattle.std.specs.Prelude.{◌≡◌, ◌↔◌, [], IfOk, IsTrue};
 ghost use Rattle.order_top.specs.Ordering.{StandsFor};
 
 use order_top::Orderer;
@@ -24,15 +24,15 @@ impl Model for Order {
 }
 
 impl Order {
-    /// Whether rows stay in the order in which they come.
-    pub fn is_plain(&self) -> bool
-        ensures { IsTrue result → self.now.columns ≡ [] }
+    // Whether rows stay in the order in which they come.
+    pub(crate) fn is_plain(&self) -> bool
+        ensures { IsTrue result ↔ (self.now.columns ≡ []) }
     {
         self.columns.is_empty()
     }
 
-    /// An orderer that no row was given.
-    pub fn orderer(&self, alloc: Global) -> Result<Orderer, AllocError>
+    // An orderer that no row was given.
+    pub(crate) fn orderer(&self, alloc: Global) -> Result<Orderer, AllocError>
         ensures finish { IfOk result (λ orderer. orderer.finish ≡ self.now) }
         ensures places { IfOk result (λ orderer. orderer.places ≡ 0) }
         ensures stands { IfOk result (λ orderer. StandsFor orderer []) }
