@@ -14,7 +14,7 @@ length_earlier lt x (w ∷ ws) = elim (cases_Bool (lt w x)) [
   | inr fails ↦ rw fails refl
 ]
 
-length_ordered : (lt : Row → Row → Bool) (l : List Row) → length (ordered lt l) ≡ length l
+pub length_ordered : (lt : Row → Row → Bool) (l : List Row) → length (ordered lt l) ≡ length l
 length_ordered lt [] = refl
 length_ordered lt (x ∷ xs) = length_earlier lt x (ordered lt xs) ∙ ap suc (length_ordered lt xs)
 

@@ -1,0 +1,4 @@
+pub mod Counting
+pub mod Dispatching
+pub mod RowByRow
+pub mod Stages

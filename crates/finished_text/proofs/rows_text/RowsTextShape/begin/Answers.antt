@@ -1,0 +1,9 @@
+use Rattle.finished_text.specs.declared.rows_text.RowsText.TheVariants.{All, Finished}
+use Rattle.finished_text.proofs.Dispatching.{begin_err}
+use Rattle.finished_text.proofs.rows_text.RowsTextShape.begin.Goals as goal
+
+pub returns-in-All-clause-err : goal.returns-in-All-clause-err
+returns-in-All-clause-err c = begin_err c.begin.result (All c.in-All.shape) c.args.self.now c.in-All.is c.args.fresh c.args.names.now c.args.to.now c.begin.new.to c.begin.ensures.err
+
+pub returns-in-Finished-clause-err : goal.returns-in-Finished-clause-err
+returns-in-Finished-clause-err c = begin_err c.begin-in-Finished.result (Finished c.in-Finished.shape) c.args.self.now c.in-Finished.is c.args.fresh c.args.names.now c.args.to.now c.begin-in-Finished.new.to c.begin-in-Finished.ensures.err
