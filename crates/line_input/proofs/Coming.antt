@@ -8,7 +8,7 @@ use Rattle.lp_model.proofs.Feeding.{lines_to_come-first}
 use Rattle.lp_model.proofs.Ordered.{come_same}
 use Rattle.line_input.specs.Splitter.{Split}
 use Rattle.line_input.specs.Handed.{TakesFirst, TakesAll}
-use Rattle.line_input.specs.Coming.{lines_at, TellsText, TellsFirst, TellsNext, TellsLast, HandsLines, HandsLastLine}
+use Rattle.line_input.specs.Coming.{lines_at, TellsText, TellsNext, TellsLast, HandsLines, HandsLastLine}
 use Rattle.line_input.specs.declared.splitter.Next.{Next}
 use Rattle.line_input.specs.declared.splitter.Next.TheVariants as answers
 

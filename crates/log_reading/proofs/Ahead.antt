@@ -1,13 +1,12 @@
 -- How far a log was read ahead of what was taken.
-use Rattle.std.proofs.Common.{◌≡◌, ℕ, suc, ◌+◌, ◌-◌, ◌<◌, ◌≤◌, Bool, true, false, List, [], ◌∷◌, ◌++◌, length, take, drop, filter, get_or, flat_map, map, Option, Some, None, ap, sym, ◌∙◌, refl, subst, arith, inl, inr, nat_le, nat_lt, append_assoc}
+use Rattle.std.proofs.Common.{◌≡◌, ℕ, ◌+◌, ◌-◌, ◌<◌, ◌≤◌, Bool, true, false, List, [], ◌∷◌, ◌++◌, length, take, drop, filter, get_or, flat_map, Option, Some, None, ap, sym, ◌∙◌, refl, subst, arith, inl, inr, nat_le, nat_lt, append_assoc}
 use Rattle.std.proofs.lemmas.Bool.{cases_lt, le-leb}
 use Rattle.std.proofs.lemmas.Bool.Decides.{nat_tests}
-use Rattle.std.proofs.lemmas.List.{take-append-drop, take-take, get_or-take, length-take-le, length-take, length-map}
+use Rattle.std.proofs.lemmas.List.{take-append-drop, take-take, get_or-take, length-take-le, length-take}
 use Rattle.std.specs.List.{position_or_len}
 use Rattle.lp_model.specs.Lines.{Line, is_lf, lines_of}
 use Rattle.lp_model.specs.Outside.{Folder, OnlyGrow, Told, bytes_in}
-use Rattle.lp_model.specs.Pieces.{IsPiece}
-use Rattle.lp_model.specs.Reading.{Format, records_of, records_in, standing_at, standing_behind}
+use Rattle.lp_model.specs.Reading.{Format, records_in, standing_at, standing_behind}
 use Rattle.lp_model.specs.Following.{IsLineEnd}
 use Rattle.lp_model.proofs.Appending.{standing_at-stays}
 use Rattle.lp_model.proofs.Between.{is_between}
@@ -17,7 +16,7 @@ use Rattle.log_reading.specs.Found.{Met, met_of}
 use Rattle.log_reading.specs.declared.page.Page.{Page}
 use Rattle.log_reading.specs.declared.span.Span.{Span}
 use Rattle.log_reading.specs.Page.{Takes, to_come, Follows}
-use Rattle.log_reading.specs.Spans.{HasRead, ReadsAheadInLog, ReadsAheadInSpan, ReadsAhead, IsKept, AreKept, AllSpans, TakesSpans, cut_of, rows_up_to, span_rows, span_met, spans_met, spans_size}
+use Rattle.log_reading.specs.Spans.{HasRead, ReadsAheadInLog, ReadsAheadInSpan, ReadsAhead, IsKept, AreKept, AllSpans, TakesSpans, cut_of, rows_up_to, span_met, spans_met, spans_size}
 use Rattle.log_reading.proofs.Advancing.{TakesMore, follows_none, to_come-waiting}
 use Rattle.log_reading.proofs.Spanning.{IsStart, follows_whole, span_taken}
 use Rattle.log_reading.proofs.Waiting.{lines_before-alike}

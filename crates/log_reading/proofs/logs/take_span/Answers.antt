@@ -1,7 +1,7 @@
 use Rattle.lp_model.proofs.Results.{on_err}
 use Rattle.log_reading.proofs.Spanning.{told_ended, told_unended, told_in_rows}
 use Rattle.log_reading.proofs.Ahead.{span_ahead_later}
-use Rattle.log_reading.proofs.Faults.{handed_on, bad_line_so}
+use Rattle.log_reading.proofs.Faults.{handed_on}
 use Rattle.log_reading.proofs.logs.take_span.Goals as goal
 
 pub returns-in_err-read_span-clause-stops : goal.returns-in_err-read_span-clause-stops
