@@ -1,3 +1,4 @@
 pub mod Taking
 pub mod Rows
 pub mod Spelling
+pub mod ReadBack

@@ -3,3 +3,4 @@ pub mod Shapes
 pub mod Lines
 pub mod Pieces
 pub mod Spelled
+pub mod Stepping
