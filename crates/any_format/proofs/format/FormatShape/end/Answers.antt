@@ -1,5 +1,5 @@
 use Rattle.any_format.specs.declared.format.Format.TheVariants.{Csv, Tsv, W3c, Nat, Tpl}
-use Rattle.any_format.proofs.Dispatching.{end_ok, end_err}
+use Rattle.any_format.proofs.Dispatching.{end_ok, end_err, same_held}
 use Rattle.any_format.proofs.format.FormatShape.end.Goals as goal
 
 pub returns-in-Csv-clause-ok : goal.returns-in-Csv-clause-ok
@@ -28,3 +28,18 @@ returns-in-Tpl-clause-ok c = end_ok c.end-in-Tpl.result (Tpl c.in-Tpl.shape) c.a
 
 pub returns-in-Tpl-clause-err : goal.returns-in-Tpl-clause-err
 returns-in-Tpl-clause-err c = end_err c.end-in-Tpl.result (Tpl c.in-Tpl.shape) c.args.self.now c.args.to.now c.end-in-Tpl.new.to c.in-Tpl.is c.end-in-Tpl.ensures.err
+
+pub returns-in-Csv-clause-same : goal.returns-in-Csv-clause-same
+returns-in-Csv-clause-same c = same_held c.end.result Csv c.in-Csv.shape c.end.new.self c.args.self.now c.in-Csv.is c.end.ensures.same
+
+pub returns-in-Tsv-clause-same : goal.returns-in-Tsv-clause-same
+returns-in-Tsv-clause-same c = same_held c.end-in-Tsv.result Tsv c.in-Tsv.shape c.end-in-Tsv.new.self c.args.self.now c.in-Tsv.is c.end-in-Tsv.ensures.same
+
+pub returns-in-W3c-clause-same : goal.returns-in-W3c-clause-same
+returns-in-W3c-clause-same c = same_held c.end-in-W3c.result W3c c.in-W3c.shape c.end-in-W3c.new.self c.args.self.now c.in-W3c.is c.end-in-W3c.ensures.same
+
+pub returns-in-Nat-clause-same : goal.returns-in-Nat-clause-same
+returns-in-Nat-clause-same c = same_held c.end-in-Nat.result Nat c.in-Nat.shape c.end-in-Nat.new.self c.args.self.now c.in-Nat.is c.end-in-Nat.ensures.same
+
+pub returns-in-Tpl-clause-same : goal.returns-in-Tpl-clause-same
+returns-in-Tpl-clause-same c = same_held c.end-in-Tpl.result Tpl c.in-Tpl.shape c.end-in-Tpl.new.self c.args.self.now c.in-Tpl.is c.end-in-Tpl.ensures.same
