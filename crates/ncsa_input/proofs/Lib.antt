@@ -1,4 +1,3 @@
 pub mod Taking
 pub mod Rows
 pub mod Spelling
-pub mod ReadBack

@@ -1,15 +1,15 @@
 -- The fields that are read of a line are spelled there, in order, and the line is nothing else.
-use Rattle.std.proofs.Common.{◌≡◌, ℕ, zero, suc, ◌+◌, ◌<◌, Bool, true, false, cond, ◌==◌, List, [], ◌∷◌, ◌++◌, length, take, drop, replicate, get_or, not, Option, Some, None, option_map, option_and_then, position, nat_lt, refl, sym, ap, ◌∙◌, subst, inl, inr, arith, eq-eqb}
+use Rattle.std.proofs.Common.{◌≡◌, ℕ, suc, ◌+◌, ◌<◌, Bool, true, false, cond, ◌==◌, List, [], ◌∷◌, ◌++◌, length, take, drop, replicate, get_or, Option, Some, None, option_map, option_and_then, position, nat_lt, refl, sym, ap, ◌∙◌, subst, inl, inr, arith, eq-eqb}
 use Rattle.std.proofs.lemmas.Bool.{cases_Bool, eqb-true, ltb-true}
-use Rattle.std.proofs.lemmas.List.{append-nil, append_assoc, length-append, length-take-le, get_or-append-add, take-append-drop, drop_more}
-use Rattle.std.proofs.lemmas.List.Sums.{passes_at_first, prefix_len-le-length}
-use Rattle.std.specs.List.{AllByRecursion, position_or_len, prefix_len}
+use Rattle.std.proofs.lemmas.List.{append-nil, append_assoc, length-append, get_or-append-add, take-append-drop, drop_more}
+use Rattle.std.proofs.lemmas.List.Sums.{passes_at_first}
+use Rattle.std.specs.List.{position_or_len, prefix_len}
 use Rattle.std.specs.Prelude.{◌≢◌}
 use Rattle.ncsa_input.specs.declared.shape.Shape.{Shape}
 use Rattle.ncsa_input.specs.declared.shape.Shape.TheVariants.{Word, Bracketed, Quoted}
 use Rattle.ncsa_input.specs.Lines.{is_space, may_end, behind_spaces, fields_behind}
 use Rattle.ncsa_input.specs.Shapes.{behind, closed_at, closing, taken, Taken}
-use Rattle.ncsa_input.specs.Spelled.{spelled, Fits, AllFit, IsJoined, IsQuotable}
+use Rattle.ncsa_input.specs.Spelled.{spelled, IsJoined}
 use Rattle.ncsa_input.proofs.Rows.{none_there, ends_there, unparted, goes_on}
 use Rattle.ncsa_input.proofs.Taking.{opened, one_more}
 
@@ -104,99 +104,6 @@ taken_spelled Word text field rest e =
 taken_spelled Bracketed text field rest e = enclosed_spelled 91 93 text field rest (position (λ b. b == 93)) position_at (behind 91 text) refl e
 taken_spelled Quoted text field rest e = enclosed_spelled 34 34 text field rest closing closing_at (behind 34 text) refl e
 
--- ---- what was taken may stand there
-
-differs : (b close : ℕ) → (b == close) ≡ false → b ≢ close
-differs b close e = λ same. let h = eq-eqb b close same in absurd cc
-
-some_there : (n : ℕ) → (n == 0) ≡ false → 0 < n
-some_there zero e = absurd cc
-some_there (suc n) e = omega arith
-
--- none of the bytes in front of the first one that closes a part closes it
-none_before : (close : ℕ) (text : List ℕ) → AllByRecursion (λ b. b ≢ close) (take (position_or_len (λ b. b == close) text) text)
-none_before close [] = tt
-none_before close (b ∷ bs) = elim (cases_Bool (b == close)) [
-  | inl is ↦ rw is tt
-  | inr other ↦ rw (other, one_more) (differs b close other, none_before close bs)
-]
-
-bracketed_fits : (inner : List ℕ) (at : ℕ) → position (λ b. b == 93) inner ≡ Some at → AllByRecursion (λ b. b ≢ 93) (take at inner)
-bracketed_fits inner at e =
-    elim (cases_Bool (nat_lt (position_or_len (λ b. b == 93) inner) (length inner))) [
-      | inl found ↦
-          let place : position_or_len (λ b. b == 93) inner ≡ at = let h : Some (position_or_len (λ b. b == 93) inner) ≡ Some at = rw found at e in cc in
-          subst (λ (n : ℕ). AllByRecursion (λ b. b ≢ 93) (take n inner)) place (none_before 93 inner)
-      | inr lost ↦ let h : None ≡ Some at = rw lost at e in absurd cc
-    ]
-
-quotable_more : (b : ℕ) (xs : List ℕ) → b ≢ 34 → b ≢ 92 → IsQuotable xs → IsQuotable (b ∷ xs)
-quotable_more b [] quote back all = (quote, back)
-quotable_more b (c ∷ cs) quote back all = inr (quote, back, all)
-
--- behind one byte, or behind a backslash and another
-behind_one : (b : ℕ) (bs : List ℕ) (at : ℕ) (r : Option ℕ) → b ≢ 34 → b ≢ 92 → ((n : ℕ) → r ≡ Some n → IsQuotable (take n bs)) → option_map (λ n. n + 1) r ≡ Some at → IsQuotable (take at (b ∷ bs))
-behind_one b bs at None quote back fits h = absurd cc
-behind_one b bs at (Some n) quote back fits h =
-    let there : n + 1 ≡ at = cc in
-    let next : suc n ≡ at = omega arith in
-    subst (λ (m : ℕ). IsQuotable (take m (b ∷ bs))) next (quotable_more b (take n bs) quote back (fits n refl))
-
-behind_two : (b c : ℕ) (bs : List ℕ) (at : ℕ) (r : Option ℕ) → b ≡ 92 → ((n : ℕ) → r ≡ Some n → IsQuotable (take n bs)) → option_map (λ n. n + 2) r ≡ Some at → IsQuotable (take at (b ∷ c ∷ bs))
-behind_two b c bs at None back fits h = absurd cc
-behind_two b c bs at (Some n) back fits h =
-    let there : n + 2 ≡ at = cc in
-    let next : suc (suc n) ≡ at = omega arith in
-    subst (λ (m : ℕ). IsQuotable (take m (b ∷ c ∷ bs))) next (inl (back, fits n refl))
-
-quoted_fits : (text : List ℕ) (at : ℕ) → closing text ≡ Some at → IsQuotable (take at text)
-quoted_fits [] at e = absurd cc
-quoted_fits (b ∷ []) at e =
-    elim (cases_Bool (b == 34)) [
-      | inl quote ↦ let place : at ≡ 0 = let h : Some 0 ≡ Some at = sym (rw quote refl) ∙ e in cc in rw place tt
-      | inr other ↦ let h : None ≡ Some at = rw other at e in absurd cc
-    ]
-quoted_fits (b ∷ c ∷ bs) at e =
-    elim (cases_Bool (b == 34)) [
-      | inl quote ↦ let h : Some 0 ≡ Some at = rw quote at e in let place : at ≡ 0 = cc in rw place tt
-      | inr other ↦ elim (cases_Bool (b == 92)) [
-        | inl back ↦ let h : option_map (λ n. n + 2) (closing bs) ≡ Some at = rw (other, back) at e in behind_two b c bs at (closing bs) (eqb-true b 92 back) (quoted_fits bs) h
-        | inr plain ↦ let h : option_map (λ n. n + 1) (closing (c ∷ bs)) ≡ Some at = rw (other, plain) at e in behind_one b (c ∷ bs) at (closing (c ∷ bs)) (differs b 34 other) (differs b 92 plain) (quoted_fits (c ∷ bs)) h
-      ]
-    ]
-
-enclosed_fits : (opening : ℕ) (text field rest : List ℕ) (place : List ℕ → Option ℕ) (P : List ℕ → Type 0) → ((inner : List ℕ) (at : ℕ) → place inner ≡ Some at → P (take at inner))
-    → (before : Option (List ℕ)) → behind opening text ≡ before → option_and_then (λ inner. closed_at inner (place inner)) before ≡ Some (field, rest) → P field
-enclosed_fits opening text field rest place P fits None e h = absurd cc
-enclosed_fits opening text field rest place P fits (Some inner) e h = at_place (place inner) refl h
-  where
-    at_place : (r : Option ℕ) → place inner ≡ r → closed_at inner r ≡ Some (field, rest) → P field
-    at_place None found told = absurd cc
-    at_place (Some at) found told = subst P (first_is (take at inner, drop (at + 1) inner) (field, rest) told) (fits inner at found)
-
--- what a part takes may stand as that part
-taken_fits : (shape : Shape) (text field rest : List ℕ) → taken shape text ≡ Some (field, rest) → Fits shape field
-unfolding taken
-taken_fits Word text field rest e =
-    elim (cases_Bool (position_or_len is_space text == 0)) [
-      | inl none ↦ let nothing : Taken = None in let h : nothing ≡ Some (field, rest) = rw none at e in absurd cc
-      | inr some ↦
-          let n : ℕ = position_or_len is_space text in
-          let got : Taken = Some (take n text, drop n text) in
-          let h : got ≡ Some (field, rest) = rw some at e in
-          let same = first_is (take n text, drop n text) (field, rest) h in
-          let within = prefix_len-le-length (λ b. not (is_space b)) text in
-          let size : length (take n text) ≡ n = length-take-le n text (omega arith) in
-          let filled = some_there n some in
-          subst (Fits Word) same (omega (arith, size, filled), none_before 32 text)
-    ]
-taken_fits Bracketed text field rest e = enclosed_fits 91 text field rest (position (λ b. b == 93)) (Fits Bracketed) bracketed_fits (behind 91 text) refl e
-taken_fits Quoted text field rest e = enclosed_fits 34 text field rest closing (Fits Quoted) quoted_fits (behind 34 text) refl e
-
-no_fields : (shapes : List Shape) → AllFit shapes []
-no_fields [] = tt
-no_fields (shape ∷ shapes) = tt
-
 -- spaces at the front
 prefix_spelled : (text : List ℕ) → text ≡ replicate (prefix_len is_space text) 32 ++ drop (prefix_len is_space text) text
 prefix_spelled [] = refl
@@ -228,7 +135,6 @@ empty (b ∷ bs) e = absurd (omega arith)
 
 -- the text is the parts of the line, and the line may end behind the last
 pub record IsRead (parts : ℕ) (shapes : List Shape) (fields : List (List ℕ)) (text : List ℕ) : Type 0 where
-  pub fit : AllFit shapes fields
   pub joined : IsJoined shapes fields text
   pub ends : may_end (parts + length fields) ≡ true
 
@@ -253,7 +159,6 @@ by_rest parts shape shapes text field rest next fields (Some others) is there e 
     let same : field ∷ others ≡ fields = cc in
     let more = follows next others e in
     subst (λ (f : List (List ℕ)). IsRead parts (shape ∷ shapes) f text) same (record {
-      fit = (taken_fits shape text field rest is, more.fit);
       joined = joined_more shape shapes field text rest next others (taken_spelled shape text field rest is) (spaces_spelled rest next there) more.joined;
       ends = ap may_end (sums parts (length others)) ∙ more.ends;
     })
@@ -270,7 +175,6 @@ by_end parts shape shapes text field rest fields false is none ends e = absurd c
 by_end parts shape shapes text field rest fields true is none ends e =
     let same : field ∷ [] ≡ fields = cc in
     subst (λ (f : List (List ℕ)). IsRead parts (shape ∷ shapes) f text) same (record {
-      fit = (taken_fits shape text field rest is, no_fields shapes);
       joined = taken_spelled shape text field rest is ∙ (ap (λ t. spelled shape field ++ t) (empty rest none) ∙ append-nil (spelled shape field));
       ends = ends;
     })

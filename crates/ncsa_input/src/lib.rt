@@ -4,14 +4,12 @@
 //! is read. `specs` has the definitions.
 #![tactic(auto)]
 
-mod laws;
 mod pieces;
 mod reader;
 mod row;
 mod shape;
 mod table;
 
-pub use laws::fields_are_read_as_spelled;
 pub use reader::Ncsa;
 pub use shape::Shape;
 pub use table::{ncsa_names, ncsa_reading};
