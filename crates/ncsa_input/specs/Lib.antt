@@ -2,4 +2,4 @@ pub mod Table
 pub mod Shapes
 pub mod Lines
 pub mod Pieces
-pub mod Spelled
+pub mod Form
