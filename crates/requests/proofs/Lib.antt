@@ -1,4 +1,5 @@
 pub mod Growing
+pub mod Templates
 mod Cutting
 mod Naming
 mod Refusing

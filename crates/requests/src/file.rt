@@ -1,4 +1,4 @@
-// A query file.
+// A query file, and the bytes of any file.
 ghost use Rattle.std.specs.Prelude.{◌≡◌, ◌≤◌, take, length, IfOk, IfErr, IsErrOf};
 ghost use Rattle.lp_model.specs.Outside.{OnlyGrow, Rose, Told, bytes_in};
 ghost use Rattle.requests.specs.Texts.{IsCut};
@@ -13,8 +13,8 @@ use query_lexer::LONGEST_QUERY;
 use query_text::QueryFault;
 use std::alloc::Global;
 
-// A file's bytes up to a cut.
-fn read_bytes<L: Logs>(
+/// A file's bytes up to a cut.
+pub(crate) fn read_bytes<L: Logs>(
     alloc: Global,
     logs: &mut L,
     name: &Name,

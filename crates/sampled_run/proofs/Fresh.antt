@@ -45,7 +45,7 @@ fresh_in kind text has_text limit pattern moment q fresh shape target sampled (P
     record {
       rules = rules;
       fits = record { pattern = asked.pattern_is; starts = ap (λ (t : Target). reached kind t now) asked.target_is };
-      same = ap₂ (λ moment query. rules_of limit pattern moment query gathering.maker.fresh (text gathering.maker.shape)) asked.moment_is asked.query_is ∙ ap₂ (λ fresh s. rules_of limit pattern moment query fresh (text s)) asked.fresh_is asked.shape_is;
+      same = ap₂ (λ moment query. rules_of limit pattern moment query gathering.maker.fresh (text gathering.maker.shape)) asked.moment_is asked.query_is ∙ ap₂ (λ fresh s. rules_of limit pattern moment q fresh (text s)) asked.fresh_is asked.shape_is;
       holds = record {
         asks = record { limit_is = limit_is; pattern_is = pattern_is };
         phase = subst Of (sym phase_is) (record { maker = refl; first = none.first; rows = ap (map found_in) none.rows; nothing = refl });

@@ -24,8 +24,8 @@ returns-in-Err-Output-clause-stopped g c =
     stopped (g.L.Logs.folder c.run_sampled.new.logs) (reached (kind_of g.G.Stage.state g.G.Stage.ended) c.args.target c.args.stage.now) c.run_sampled.new.stage c.args.spec.now c.args.moment.seconds (query_of c.args.query.now)
     c.args.options c.args.limit c.as_slice.result.now c.args.spans.now (text_of c.args.shape) c.as_slice.ensures c.requires.text (rw c.in-Err-Output.field-0-is at c.in-Err-Output.ensures.stopped)
 
-pub returns-in-Err-Memory-clause-stopped : goal.returns-in-Err-Memory-clause-stopped
-returns-in-Err-Memory-clause-stopped g c =
+pub returns-clause-stopped : goal.returns-clause-stopped
+returns-clause-stopped g c =
     stopped (g.L.Logs.folder c.run_sampled.new.logs) (reached (kind_of g.G.Stage.state g.G.Stage.ended) c.args.target c.args.stage.now) c.run_sampled.new.stage c.args.spec.now c.args.moment.seconds (query_of c.args.query.now)
     c.args.options c.args.limit c.as_slice.result.now c.args.spans.now (text_of c.args.shape) c.as_slice.ensures c.requires.text (rw c.in-Err-Memory.field-0-is at c.in-Err-Memory.ensures.stopped)
 

@@ -32,12 +32,12 @@ returns-in-Err-Output-clause-stopped g c = inr
     (front (g.L.Logs.folder c.run_plan.new.logs) (λ text. GainsFront (reached (kind_of g.G.Stage.state g.G.Stage.ended) c.args.target c.args.stage.now) c.run_plan.new.stage text) c.args.spec.now c.args.moment.seconds (query_of c.args.query.now)
     c.args.format (planned_in c.in-Ok.plan) c.as_slice.result.now c.args.spans.now (text_of c.args.shape) c.as_slice.ensures c.in-Ok.ensures.plan c.requires.text c.in-Err-Output.ensures.front)
 
-pub returns-in-Err-Bad-clause-stopped : goal.returns-in-Err-Bad-clause-stopped
-returns-in-Err-Bad-clause-stopped g c = inr
+pub returns-clause-stopped : goal.returns-clause-stopped
+returns-clause-stopped g c = inr
     (front (g.L.Logs.folder c.run_plan.new.logs) (λ text. GainsFront (reached (kind_of g.G.Stage.state g.G.Stage.ended) c.args.target c.args.stage.now) c.run_plan.new.stage text) c.args.spec.now c.args.moment.seconds (query_of c.args.query.now)
     c.args.format (planned_in c.in-Ok.plan) c.as_slice.result.now c.args.spans.now (text_of c.args.shape) c.as_slice.ensures c.in-Ok.ensures.plan c.requires.text c.in-Err-Bad.ensures.front)
 
-pub returns-in-Err-Bad-clause-parse : goal.returns-in-Err-Bad-clause-parse
-returns-in-Err-Bad-clause-parse g c =
+pub returns-clause-parse : goal.returns-clause-parse
+returns-clause-parse g c =
     parse_error (g.L.Logs.folder c.run_plan.new.logs) c.args.spec.now c.args.moment.seconds (query_of c.args.query.now)
     c.args.format (planned_in c.in-Ok.plan) c.as_slice.result.now c.args.spans.now c.most_bad.result _ c.as_slice.ensures c.in-Ok.ensures.plan c.most_bad.ensures (rw c.in-Err-Bad.field-0-is at c.in-Err-Bad.ensures.too_many)
