@@ -9,10 +9,9 @@ use Rattle.std.proofs.lemmas.Map.Steps.{length-le_from_distinct_below}
 use Rattle.std.proofs.Math.Seq.{take-append_seam}
 use Rattle.command_words.specs.declared.setting.Setting.{Setting}
 use Rattle.command_words.specs.declared.setting.Setting.TheVariants as S
-use Rattle.command_words.specs.declared.setting.TheConstants.{SETTINGS}
 use Rattle.command_words.specs.declared.usage.UsageKind.{UsageKind}
 use Rattle.command_words.specs.declared.usage.UsageKind.TheVariants as U
-use Rattle.command_words.specs.Settings.{accepts}
+use Rattle.command_words.specs.Settings.{settings, accepts}
 use Rattle.command_words.specs.Words.{is_option, is_query, gives, setting_of, value_in}
 use Rattle.command_words.specs.Usage.{setting_fault, word_fault, fault_at}
 
@@ -37,7 +36,7 @@ place S.FileMode = 13
 place S.Template = 14
 
 abbrev setting_at : ℕ → Setting
-setting_at k = get_or SETTINGS k S.Input
+setting_at k = get_or settings k S.Input
 
 at_place : (s : Setting) → (place s < 15) × (setting_at (place s) ≡ s)
 at_place S.Input = (lit< tt, refl)
@@ -122,7 +121,7 @@ apart_at before earlier word among none same true is =
     let first = is_first before word (setting_of word) fits in
     let class_is : class word ≡ place first.0 + 1 = ap (λ b. class_of b (setting_of word)) is ∙ ap setting_class first.1 in
     let gives_it = class_more (is_option earlier) (setting_of earlier) first.0 (same ∙ class_is) in
-    let given = found (λ setting. gives setting earlier) SETTINGS first.0 gives_it in
+    let given = found (λ setting. gives setting earlier) settings first.0 gives_it in
     true≢false (sym (among (gives first.0) given) ∙ first.2)
 
 -- a word without a fault is of another class than each before it

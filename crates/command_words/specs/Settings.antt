@@ -1,5 +1,5 @@
 -- The options: their names, and the texts that each takes.
-use Rattle.std.specs.Prelude.{ℕ, Bool, List, codes, is_some}
+use Rattle.std.specs.Prelude.{ℕ, Bool, List, [], ◌∷◌, codes, is_some}
 use Rattle.command_words.specs.declared.setting.Setting.{Setting}
 use Rattle.command_words.specs.declared.setting.Setting.TheVariants as S
 use Rattle.command_words.specs.Formats.{input_in, output_in}
@@ -21,6 +21,11 @@ setting_name S.Headers = codes "-headers"
 setting_name S.OutSeparator = codes "-oSeparator"
 setting_name S.FileMode = codes "-fileMode"
 setting_name S.Template = codes "-tpl"
+
+-- all options
+abbrev pub settings : List Setting
+settings =
+    S.Input ∷ S.Output ∷ S.Errors ∷ S.Stats ∷ S.Checkpoint ∷ S.Rotation ∷ S.HeaderRow ∷ S.SampleLines ∷ S.TimeFormat ∷ S.Separator ∷ S.RowsToPage ∷ S.Headers ∷ S.OutSeparator ∷ S.FileMode ∷ S.Template ∷ []
 
 -- whether a text is a value of the option
 abbrev pub accepts : Setting → List ℕ → Bool

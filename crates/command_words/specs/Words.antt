@@ -2,9 +2,8 @@
 use Rattle.std.specs.Prelude.{ℕ, Bool, false, not, ◌&&◌, List, [], ◌∷◌, ◌==◌, find, filter, unwrap_or, Option, option_map}
 use Rattle.std.specs.List.{list_any, before_first, after_first}
 use Rattle.command_words.specs.declared.setting.Setting.{Setting}
-use Rattle.command_words.specs.declared.setting.TheConstants.{SETTINGS}
 use Rattle.command_words.specs.Texts.{same_text}
-use Rattle.command_words.specs.Settings.{setting_name}
+use Rattle.command_words.specs.Settings.{settings, setting_name}
 
 -- whether a word begins with `-`
 abbrev pub is_option : List ℕ → Bool
@@ -23,7 +22,7 @@ gives setting word = list_any is_colon word && same_text (before_first is_colon 
 
 -- the option that a word gives
 abbrev pub setting_of : List ℕ → Option Setting
-setting_of word = find (λ setting. gives setting word) SETTINGS
+setting_of word = find (λ setting. gives setting word) settings
 
 -- what stands behind a word's first colon
 abbrev pub value_in : List ℕ → List ℕ

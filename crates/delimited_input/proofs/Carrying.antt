@@ -8,6 +8,7 @@ use Rattle.lp_model.specs.Reading.{Columns, Reading, passed, bad, rows_in}
 use Rattle.delimited_input.specs.declared.options.DelimitedOptions.{DelimitedOptions}
 use Rattle.delimited_input.specs.Lines.{fields_in, is_empty, is_broken, may_set, sets_columns, columns_of, columns_after, has_columns, delimited_lines, row_reading, filled_reading}
 use Rattle.delimited_input.specs.Setting.{first_columns, filled_columns}
+use Rattle.delimited_input.specs.Stepping.{columns_step}
 
 mapped_or : {X Y : Type 0} (f : X → Y) (a b : Option X) → option_map f (option_or a b) ≡ option_or (option_map f a) (option_map f b)
 mapped_or f None b = refl
@@ -80,6 +81,22 @@ module _ (options : DelimitedOptions) where
   unfolding delimited_lines
   filled_behind line old new filled whole e before behind =
       e ∙ (set_more line old filled whole ∙ (ap (λ (columns : Option Columns). option_or columns (columns_after options (line ∷ []))) behind ∙ sym (after_more before line)))
+
+  -- ---- one line alone, whatever was in force before
+
+  none_step : (line : List ℕ) (old new : Option Columns) → may_set options line ≡ false → new ≡ old → new ≡ columns_step options old line
+  none_step line old new other same =
+      let none : columns_after options (line ∷ []) ≡ None = rw other refl in
+      same ∙ (sym (kept_or old) ∙ ap (option_or old) (sym none))
+
+  pub empty_step : (line : List ℕ) (old new : Option Columns) → is_empty line ≡ true → new ≡ old → new ≡ columns_step options old line
+  empty_step line old new e same = none_step line old new (rw e refl) same
+
+  pub broken_step : (line : List ℕ) (old new : Option Columns) → is_empty line ≡ false → is_broken line ≡ true → new ≡ old → new ≡ columns_step options old line
+  broken_step line old new filled broken same = none_step line old new (rw (filled, broken) refl) same
+
+  pub filled_step : (line : List ℕ) (old new : Option Columns) → is_empty line ≡ false → is_broken line ≡ false → new ≡ filled_columns options (fields_in options line) old → new ≡ columns_step options old line
+  filled_step line old new filled whole e = e ∙ set_more line old filled whole
 
   -- a line gives one row at most
   row_few : (many : ℕ) (fields : List (List ℕ)) → length (rows_in (row_reading many fields)) ≤ 1

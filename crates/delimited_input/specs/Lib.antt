@@ -9,3 +9,4 @@ pub mod Setting
 pub mod Kinds
 pub mod Sampled
 pub mod Values
+pub mod Stepping

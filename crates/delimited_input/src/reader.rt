@@ -7,6 +7,7 @@ ghost use Rattle.delimited_input.specs.Lines.{fields_in, is_broken, first_readin
 ghost use Rattle.delimited_input.specs.Names.{made_names, header_names};
 ghost use Rattle.delimited_input.specs.Separators.{IsRefused};
 ghost use Rattle.delimited_input.specs.Setting.{first_columns, filled_columns};
+ghost use Rattle.delimited_input.specs.Stepping.{columns_step, steps_look_back};
 
 use crate::broken::is_broken;
 use crate::cut::cut_line;
@@ -135,6 +136,8 @@ fn take_filled(
 impl LineReader for Delimited {
     ghost format = { λ s. delimited_lines s };
 
+    ghost step = { λ s. columns_step s };
+
     fn take_line(
         &self,
         alloc: Global,
@@ -152,4 +155,6 @@ impl LineReader for Delimited {
         }
         take_filled(alloc, self.options, standing, line, row)
     }
+
+    ghost folds = { λ s. steps_look_back s };
 }

@@ -1,5 +1,5 @@
 // The kinds of columns, judged from the first rows.
-ghost use Rattle.std.specs.Prelude.{◌≡◌, ◌∷◌, ◌++◌, [], List, IfOk, OnOk, map, replicate};
+ghost use Rattle.std.specs.Prelude.{◌≡◌, ◌∷◌, ◌++◌, [], List, IfOk, OnOk, OnErr, map, replicate};
 ghost use Rattle.std.specs.List.{enumerate_from};
 ghost use Rattle.delimited_input.specs.Kinds.{Row, text_in, kinds_of};
 ghost use Rattle.delimited_input.specs.Sampled.{new_tally, tally_with, kind_seen, StandsFor};
@@ -97,6 +97,7 @@ impl<'a> KindSampler<'a> {
         ensures limit { self.new.limit ≡ self.old.limit }
         ensures pattern { self.new.pattern ≡ self.old.pattern }
         ensures stands { OnOk result ((rows : List Row) → StandsFor self.old rows → StandsFor self.new (rows ++ row.now ∷ [])) }
+        ensures err { OnErr result (self.new ≡ self.old) }
     {
         self.met = true;
         if self.left == 0 {

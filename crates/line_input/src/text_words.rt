@@ -1,5 +1,5 @@
 // One row a word.
-ghost use Rattle.std.specs.Prelude.{◌≡◌, ◌∷◌, [], Some, IfOk, List, map};
+ghost use Rattle.std.specs.Prelude.{◌≡◌, ◌∷◌, [], Some, IfOk, List, map, refl};
 ghost use Rattle.line_input.specs.Words.{text_words};
 ghost use Rattle.line_input.specs.Parts.{is_gap, parts_by};
 ghost use Rattle.line_input.specs.Taken.{part_of, slots_of};
@@ -36,6 +36,8 @@ fn word_rows(alloc: Global, line: &[u8]) -> Result<FieldsList, AllocError>
 impl LineReader for TextWords {
     ghost format = { λ s. text_words };
 
+    ghost step = { λ s columns line. columns };
+
     fn take_line(
         &self,
         alloc: Global,
@@ -47,4 +49,6 @@ impl LineReader for TextWords {
         standing.pass_line();
         Ok(Taken::Rows(rows))
     }
+
+    ghost folds = { λ s before line. refl };
 }

@@ -4,6 +4,9 @@ pub mod Spanning
 pub mod SpansTaken
 pub mod Starting
 pub mod Ending
+pub mod LastEnd
 pub mod Faults
 pub mod RowsMet
 pub mod Sizes
+pub mod Waiting
+pub mod Ahead

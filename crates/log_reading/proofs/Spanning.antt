@@ -20,6 +20,7 @@ use Rattle.log_reading.specs.Page.{Takes, Stops, to_come, Follows, StopsIn, Stop
 use Rattle.log_reading.specs.Spans.{HasRead, StopsReading, ExceedsReading, BadLine, bad_line, span_bad_lines, log_to_come, IsKept, TakesRows, TakesSpan, cut_of, span_found, span_rows, span_met, span_bad, EndsSpan, took_at, took_of, span_end}
 use Rattle.log_reading.proofs.Advancing.{TakesMore, StopsHere, StopsLater, StopsMore, advances_trans, advances_none, stops_trans, follows_trans, to_come-waiting, exceeds_trans}
 use Rattle.log_reading.proofs.Ending.{standing_at_cut}
+use Rattle.log_reading.proofs.LastEnd.{span_ends}
 
 abbrev end_at : {T : Type 0} → Page T → ℕ
 end_at page = page.splitter.place + length page.splitter.left
@@ -174,13 +175,14 @@ ends_span takes format x span first read new u v w start f whole last same follo
     let history = lines_before bytes true span.from in
     let behind = follows.behind history (start.standing ∙ kept.standing) in
     let all : log_to_come true first x span.name span.listed ≡ lines_between bytes true span.from (length bytes) = span_lines true x span first format start kept ∙ sym (lines_between_end bytes true span.from kept.at_end) in
+    let end : end_of span.from (lines_between bytes true span.from (length bytes)) ≡ span_end x span = span_ends x span kept.at_end in
     let none : rest_of x span.name (end_at read) span.listed ≡ [] = rest_none x span.name (end_at read) span.listed (omega arith) in
     let lines : log_to_come true first x span.name span.listed ≡ f.advances.lines =
     ap (to_come true first) (rest_begins x span.name (end_at first) (end_at read) span.listed f.bytes f.end f.piece)
     ∙ (f.advances.taken (rest_of x span.name (end_at read) span.listed) ∙ (ap (λ t. f.advances.lines ++ to_come true read t) none ∙ (ap (λ t. f.advances.lines ++ t) (to_come-waiting read last) ∙ append-nil f.advances.lines))) in
     record {
-      place = ap (λ s. s.place) same ∙ (f.advances.place ∙ (ap (λ p. end_of p f.advances.lines) start.place ∙ ap (end_of span.from) (sym lines ∙ all)));
-      standing = behind.standing ∙ (ap (λ t. standing_behind format (history ++ t)) all ∙ standing_carried format bytes true span.from kept.at_end);
+      place = ap (λ s. s.place) same ∙ (f.advances.place ∙ (ap (λ p. end_of p f.advances.lines) start.place ∙ (ap (end_of span.from) (sym lines ∙ all) ∙ end)));
+      standing = behind.standing ∙ (ap (λ t. standing_behind format (history ++ t)) all ∙ (standing_carried format bytes true span.from kept.at_end ∙ ap (standing_at format bytes true) end));
     }
 
 pub told_ends : {T O : Type 0} (takes : Takes T O) (more : TakesMore takes) (format : Format) (told : Option Folder) (span : Span) (first read new : Page T) (u v w : O) → IsStart span first

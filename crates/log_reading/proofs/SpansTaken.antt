@@ -1,34 +1,34 @@
 -- The reading of logs, one after the other, while they grow.
+use Rattle.std.specs.Prelude.{max}
 use Rattle.std.proofs.Common.{◌≡◌, ℕ, suc, true, ◌+◌, ◌-◌, ◌<◌, ◌≤◌, Bool, List, [], ◌∷◌, ◌++◌, length, take, drop, get_or, map, flat_map, Option, Some, None, ap, sym, ◌∙◌, refl, subst, arith, length-append, append_assoc}
 use Rattle.std.proofs.lemmas.List.{take_more, take-append-drop, get_or-take, append-nil, length-take-le, map-append, length-map}
 use Rattle.std.proofs.lemmas.List.Sums.{sum_by-append}
 use Rattle.std.proofs.lemmas.Grind.{flat_map-append}
 use Rattle.lp_model.specs.Outside.{Folder, OnlyGrow, Told, bytes_in}
-use Rattle.lp_model.specs.Reading.{Format, records_of, bad_lines_of, standing_at, lines_between}
-use Rattle.lp_model.specs.Following.{end_of}
+use Rattle.lp_model.specs.Reading.{Format, records_of, bad_lines_of, standing_at}
 use Rattle.lp_model.proofs.Pieces.{take_grown, there_grown}
 use Rattle.log_reading.specs.Found.{Met, found_of, met_of, log_ended}
 use Rattle.log_reading.specs.declared.page.Page.{Page}
 use Rattle.log_reading.specs.declared.span.Span.{Span}
 use Rattle.log_reading.specs.declared.span.Took.{Took}
 use Rattle.log_reading.specs.Page.{Takes, Stops, IsTooMany}
-use Rattle.log_reading.specs.Spans.{BadLine, bad_line, span_bad_lines, spans_bad_lines, IsKept, TakesSpan, TakesSpans, AllSpans, AreKept, cut_of, span_found, span_met, span_bad, spans_found, spans_met, spans_bad, spans_size, took_of, took_at}
+use Rattle.log_reading.specs.Spans.{BadLine, bad_line, span_bad_lines, spans_bad_lines, IsKept, TakesSpan, TakesSpans, AllSpans, AreKept, cut_of, span_found, span_met, span_bad, spans_found, spans_met, spans_bad, spans_size, last_end, took_of, took_at}
 use Rattle.log_reading.proofs.Advancing.{TakesMore, StopsLater, StopsMore, too_many_more, too_many_later}
 
 -- what a span's bytes say, where they are the same in two folders
-kept_along : (format : Format) (waits : Bool) (a b : Folder) (span : Span) → cut_of b span ≡ cut_of a span → IsKept format waits (cut_of b span) span → IsKept format waits (cut_of a span) span
+pub kept_along : (format : Format) (waits : Bool) (a b : Folder) (span : Span) → cut_of b span ≡ cut_of a span → IsKept format waits (cut_of b span) span → IsKept format waits (cut_of a span) span
 kept_along format waits a b span same kept = subst (λ (t : List ℕ). IsKept format waits t span) same kept
 
 found_along : (format : Format) (waits : Bool) (a b : Folder) (span : Span) → cut_of b span ≡ cut_of a span → span_found format waits b span ≡ span_found format waits a span
 found_along format waits a b span same = ap (λ t. found_of span.identity (records_of format t waits span.from (length t))) same
 
-met_along : (format : Format) (waits : Bool) (a b : Folder) (span : Span) → cut_of b span ≡ cut_of a span → span_met format waits b span ≡ span_met format waits a span
+pub met_along : (format : Format) (waits : Bool) (a b : Folder) (span : Span) → cut_of b span ≡ cut_of a span → span_met format waits b span ≡ span_met format waits a span
 met_along format waits a b span same = ap (λ (t : List ℕ). met_of span.identity (records_of format t waits span.from (length t)) ++ log_ended span.identity (standing_at format t waits (length t)).columns ∷ []) same
 
 bad_along : (format : Format) (waits : Bool) (a b : Folder) (span : Span) → cut_of b span ≡ cut_of a span → span_bad format waits b span ≡ span_bad format waits a span
 bad_along format waits a b span same = ap (λ t. bad_lines_of format t waits span.from (length t)) same
 
-flat_map-same : {Y : Type 0} (f g : Span → List Y) (spans : List Span) → AllSpans spans (λ s. f s ≡ g s) → flat_map f spans ≡ flat_map g spans
+pub flat_map-same : {Y : Type 0} (f g : Span → List Y) (spans : List Span) → AllSpans spans (λ s. f s ≡ g s) → flat_map f spans ≡ flat_map g spans
 flat_map-same f g [] same = refl
 flat_map-same f g (span ∷ spans) same =
     let first : f span ≡ g span = same 0 span (omega arith) refl in
@@ -36,10 +36,10 @@ flat_map-same f g (span ∷ spans) same =
     ap (λ t. t ++ flat_map f spans) first ∙ ap (λ t. g span ++ t) rest
 
 -- the cuts of spans stay
-cuts_stay : (a b : Folder) (spans : List Span) → OnlyGrow (Some a) (Some b) → AllSpans spans (λ s. s.listed ≤ length (bytes_in a s.name)) → AllSpans spans (λ s. cut_of b s ≡ cut_of a s)
+pub cuts_stay : (a b : Folder) (spans : List Span) → OnlyGrow (Some a) (Some b) → AllSpans spans (λ s. s.listed ≤ length (bytes_in a s.name)) → AllSpans spans (λ s. cut_of b s ≡ cut_of a s)
 cuts_stay a b spans grows there = λ k s lt is. take_grown a b s.name s.listed grows (there k s lt is)
 
-front_all : (spans : List Span) (P : Span → Type 0) (i : ℕ) → i ≤ length spans → AllSpans spans P → AllSpans (take i spans) P
+pub front_all : (spans : List Span) (P : Span → Type 0) (i : ℕ) → i ≤ length spans → AllSpans spans P → AllSpans (take i spans) P
 front_all spans P i fits all = λ k s lt is.
     let size : length (take i spans) ≡ i = length-take-le i spans fits in
     all k s (omega arith) (is ∙ get_or-take i spans k s (omega arith))
@@ -60,7 +60,7 @@ pub spans_none : {T O : Type 0} (takes : Takes T O) (format : Format) (waits : B
 spans_none takes format waits None spans page w nothing = tt
 spans_none takes format waits (Some x) spans page w nothing = λ kept. record { done = nothing; rows = omega arith; bad = omega arith }
 
-one_more : (spans : List Span) (i : ℕ) (span : Span) → i < length spans → span ≡ get_or spans i span → take (i + 1) spans ≡ take i spans ++ span ∷ []
+pub one_more : (spans : List Span) (i : ℕ) (span : Span) → i < length spans → span ≡ get_or spans i span → take (i + 1) spans ≡ take i spans ++ span ∷ []
 one_more spans i span lt is = take_more spans i span lt ∙ ap (λ s. take i spans ++ s ∷ []) (sym is)
 
 pub size_more : (spans : List Span) (i : ℕ) (span : Span) → i < length spans → span ≡ get_or spans i span → spans_size (take (i + 1) spans) ≡ spans_size (take i spans) + (span.listed - span.from)
@@ -177,7 +177,7 @@ spans_exceeded takes format waits (Some x) (Some y) spans i span a b u v line lt
 
 -- what a run notes of a log
 took_along : (format : Format) (a b : Folder) (span : Span) → cut_of b span ≡ cut_of a span → took_of format b span ≡ took_of format a span
-took_along format a b span same = ap (λ (t : List ℕ). let to : ℕ = end_of span.from (lines_between t true span.from (length t)) in took_at span.identity span.from to (standing_at format t true to)) same
+took_along format a b span same = ap (λ (t : List ℕ). let to : ℕ = max span.from (last_end t) in took_at span.identity span.from to (standing_at format t true to)) same
 
 map-same : {Y : Type 0} (f g : Span → Y) (spans : List Span) → AllSpans spans (λ s. f s ≡ g s) → map f spans ≡ map g spans
 map-same f g [] same = refl

@@ -1,10 +1,11 @@
 -- Spans of logs, and what a run makes of them.
-use Rattle.std.specs.Prelude.{◌≡◌, ◌+◌, ◌-◌, ◌≤◌, ◌<◌, ◌^◌, ℕ, Bool, true, List, [], ◌∷◌, ◌++◌, length, map, take, flat_map, sum_by, get_or, Option, ⊤}
-use Rattle.lp_model.specs.Lines.{Line}
+use Rattle.std.specs.Prelude.{◌≡◌, ◌+◌, ◌-◌, ◌≤◌, ◌<◌, ◌^◌, ℕ, Bool, true, List, [], ◌∷◌, ◌++◌, length, map, max, take, reverse, flat_map, sum_by, get_or, Option, ⊤}
+use Rattle.std.specs.List.{position_or_len}
+use Rattle.lp_model.specs.Lines.{Line, is_lf}
 use Rattle.lp_model.specs.Outside.{Folder, Told, bytes_in}
 use Rattle.lp_model.specs.Pieces.{IsPiece, rest_of}
-use Rattle.lp_model.specs.Reading.{Format, Standing, standing_at, records_of, bad_lines_of, lines_between}
-use Rattle.lp_model.specs.Following.{IsLineEnd, end_of}
+use Rattle.lp_model.specs.Reading.{Format, Standing, standing_at, records_of, bad_lines_of}
+use Rattle.lp_model.specs.Following.{IsLineEnd}
 use Rattle.log_reading.specs.Found.{Found, Met, found_of, met_of, log_ended}
 use Rattle.log_reading.specs.declared.page.Page.{Page}
 use Rattle.log_reading.specs.declared.span.Span.{Span}
@@ -125,9 +126,13 @@ pub record TakesSpans {T O : Type 0} (takes : Takes T O) (format : Format) (wait
 abbrev pub AreKept : Format → Bool → List Span → Folder → Type 0
 AreKept format waits spans folder = AllSpans spans (λ span. IsKept format waits (cut_of folder span) span)
 
--- where a span ends: the place behind its last line, or its start
+-- the place behind the last LF, or the start
+unfoldable pub last_end : List ℕ → ℕ
+last_end bytes = length bytes - position_or_len is_lf (reverse bytes)
+
+-- where a span ends: behind the last LF of its log up to the cut, or where it begins, if that is later
 abbrev pub span_end : Folder → Span → ℕ
-span_end folder span = let bytes = cut_of folder span in end_of span.from (lines_between bytes true span.from (length bytes))
+span_end folder span = max span.from (last_end (cut_of folder span))
 
 -- how the page stands at a span's end
 pub record EndsSpan {T : Type 0} (format : Format) (folder : Folder) (span : Span) (new : Page T) : Type 0 where
@@ -140,3 +145,45 @@ took_at identity from to standing = record { identity = identity; from = from; t
 -- what a run takes of a span, where lines wait
 abbrev pub took_of : Format → Folder → Span → Took
 took_of format folder span = took_at span.identity span.from (span_end folder span) (standing_at format (cut_of folder span) true (span_end folder span))
+
+-- the rows of those lines of a span that LF ends up to a place
+abbrev pub rows_up_to : Format → Folder → Span → ℕ → List Met
+rows_up_to format folder span place = let bytes = take place (bytes_in folder span.name) in met_of span.identity (records_of format bytes true span.from (length bytes))
+
+-- a log was read at most one piece ahead of a page: the taker had all lines that LF ends up to where that page is
+pub record ReadsAheadInLog {T O : Type 0} (takes : Takes T O) (goes : O → O → Type 0) (format : Format) (identity : List ℕ) (told : Option Folder) (name : List ℕ) (cut piece given_before given_now : ℕ) (old : Page T) (before now : O) : Type 0 where
+  pub page : Page T
+  pub out : O
+  pub read : HasRead takes format identity true told name cut old page before out
+  pub last : length page.splitter.left ≤ position_or_len is_lf page.splitter.left
+  pub later : goes out now
+  pub given : given_now + old.splitter.place ≤ given_before + (page.splitter.place + length page.splitter.left) + piece
+  pub below : given_now + old.splitter.place ≤ given_before + cut
+
+-- a span was read at most one piece ahead of a place, and nothing behind its cut: the taker had the rows of all lines that LF ends up to that place
+pub record ReadsAheadInSpan {T O : Type 0} (takes : Takes T O) (goes : O → O → Type 0) (format : Format) (waits : Bool) (told : Option Folder) (span : Span) (piece given_before given_now : ℕ) (old : T) (before now : O) : Type 0 where
+  pub place : ℕ
+  pub start : span.from ≤ place
+  pub cut : place ≤ span.listed
+  pub taker : T
+  pub out : O
+  pub taken : Told told (λ folder. IsKept format waits (cut_of folder span) span → takes old before (rows_up_to format folder span place) taker out)
+  pub later : goes out now
+  pub given : given_now + span.from ≤ given_before + place + piece
+  pub below : given_now + span.from ≤ given_before + span.listed
+
+-- the same of spans: the taker had all of those in front of one
+pub record ReadsAhead {T O : Type 0} (takes : Takes T O) (goes : O → O → Type 0) (format : Format) (waits : Bool) (told : Option Folder) (spans : List Span) (piece given_before given_now : ℕ) (old : T) (before now : O) : Type 0 where
+  pub front : List Span
+  pub span : Span
+  pub rest : List Span
+  pub stands : spans ≡ front ++ span ∷ rest
+  pub place : ℕ
+  pub start : span.from ≤ place
+  pub cut : place ≤ span.listed
+  pub taker : T
+  pub out : O
+  pub taken : Told told (λ folder. AreKept format waits spans folder → takes old before (spans_met format waits folder front ++ rows_up_to format folder span place) taker out)
+  pub later : goes out now
+  pub given : given_now + span.from ≤ given_before + spans_size front + place + piece
+  pub below : given_now + span.from ≤ given_before + spans_size front + span.listed

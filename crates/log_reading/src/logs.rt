@@ -6,7 +6,7 @@ ghost use Rattle.lp_model.specs.Lines.{is_lf};
 ghost use Rattle.lp_model.specs.Reading.{standing_at};
 ghost use Rattle.log_reading.specs.Page.{HasRoom, Spends, Follows, StopsIn, ExceedsIn, IsTooMany, IsWithin, OnBad, to_come};
 ghost use Rattle.log_reading.specs.Found.{log_ended};
-ghost use Rattle.log_reading.specs.Spans.{HasRead, StopsReading, ExceedsReading, IsKept, TakesRows, TakesSpan, EndsSpan, OnBadLine, span_rows, span_met, span_bad_lines, cut_of, took_at, took_of};
+ghost use Rattle.log_reading.specs.Spans.{HasRead, ReadsAheadInLog, ReadsAheadInSpan, StopsReading, ExceedsReading, IsKept, TakesRows, TakesSpan, EndsSpan, OnBadLine, span_rows, span_met, span_bad_lines, cut_of, took_at, took_of};
 
 use crate::lines::take_rest;
 use crate::pieces::{read_some, take_piece};
@@ -54,6 +54,7 @@ fn read_piece<R: LineReader, L: Logs, T: Taker<O>, O>(
     ensures room { OnOk result (HasRoom T.count page.new (span.now.listed - page.new.splitter.place + 1)) }
     ensures spends { OnOk result (Spends T.count page.old page.new ((page.new.splitter.place + length page.new.splitter.left) - (page.old.splitter.place + length page.old.splitter.left))) }
     ensures given { OnOk result (L.given logs.new + (page.old.splitter.place + length page.old.splitter.left) ≡ L.given logs.old + (page.new.splitter.place + length page.new.splitter.left)) }
+    ensures once { L.given logs.new ≤ L.given logs.old + length chunk.new }
     ensures given_at_most { OnErr result (L.given logs.new + (page.old.splitter.place + length page.old.splitter.left) ≤ L.given logs.old + span.now.listed) }
     ensures later_logs { L.faults logs.old ≤ L.faults logs.new }
     ensures logs { IsErrOf result RunFault.Logs → Rose (L.faults logs.old) (L.faults logs.new) }
@@ -105,6 +106,7 @@ fn read_log<R: LineReader, L: Logs, T: Taker<O>, O>(
     ensures room { OnOk result (HasRoom T.count page.new (span.now.listed - page.new.splitter.place + 1)) }
     ensures spends { OnOk result (Spends T.count page.old page.new (span.now.listed - page.old.splitter.place)) }
     ensures given { L.given logs.new + page.old.splitter.place ≤ L.given logs.old + span.now.listed }
+    ensures ahead { ReadsAheadInLog T.takes T.goes (R.format reader.now) span.now.identity (L.folder logs.new) span.now.name span.now.listed (length chunk.old) (L.given logs.old) (L.given logs.new) page.old out.old out.new }
     ensures later_logs { L.faults logs.old ≤ L.faults logs.new }
     ensures logs { IsErrOf result RunFault.Logs → Rose (L.faults logs.old) (L.faults logs.new) }
     ensures goes { T.goes out.old out.new }
@@ -203,6 +205,7 @@ fn read_span<R: LineReader, L: Logs, T: Taker<O>, O>(
     ensures bad { OnOk result (page.new.bad ≤ page.old.bad + (span.now.listed - span.now.from) + 1) }
     ensures taken { OnOk result (T.count page.new.taker ≤ T.count page.old.taker + (span.now.listed - span.now.from) + 1) }
     ensures given { L.given logs.new + span.now.from ≤ L.given logs.old + span.now.listed }
+    ensures ahead { ReadsAheadInSpan T.takes T.goes (R.format reader.now) waits (L.folder logs.new) span.now (length chunk.old) (L.given logs.old) (L.given logs.new) page.old.taker out.old out.new }
     ensures later_logs { L.faults logs.old ≤ L.faults logs.new }
     ensures logs { IsErrOf result RunFault.Logs → Rose (L.faults logs.old) (L.faults logs.new) }
     ensures goes { T.goes out.old out.new }
@@ -291,6 +294,7 @@ fn take_span<R: LineReader, L: Logs, T: Taker<O>, O>(
     ensures bad { OnOk result (page.new.bad ≤ page.old.bad + (span.now.listed - span.now.from) + 1) }
     ensures taken { OnOk result (T.count page.new.taker ≤ T.count page.old.taker + (span.now.listed - span.now.from) + 1) }
     ensures given { L.given logs.new + span.now.from ≤ L.given logs.old + span.now.listed }
+    ensures ahead { ReadsAheadInSpan T.takes T.goes (R.format reader.now) waits (L.folder logs.new) span.now (length chunk.old) (L.given logs.old) (L.given logs.new) page.old.taker out.old out.new }
     ensures later_logs { L.faults logs.old ≤ L.faults logs.new }
     ensures logs { IsErrOf result RunFault.Logs → Rose (L.faults logs.old) (L.faults logs.new) }
     ensures goes { T.goes out.old out.new }
@@ -360,6 +364,7 @@ pub(crate) fn take_noted<R: LineReader, L: Logs, T: Taker<O>, O>(
     ensures bad { OnOk result (page.new.bad ≤ page.old.bad + (span.now.listed - span.now.from) + 1) }
     ensures taken { OnOk result (T.count page.new.taker ≤ T.count page.old.taker + (span.now.listed - span.now.from) + 1) }
     ensures given { L.given logs.new + span.now.from ≤ L.given logs.old + span.now.listed }
+    ensures ahead { ReadsAheadInSpan T.takes T.goes (R.format reader.now) waits (L.folder logs.new) span.now (length chunk.old) (L.given logs.old) (L.given logs.new) page.old.taker out.old out.new }
     ensures later_logs { L.faults logs.old ≤ L.faults logs.new }
     ensures logs { IsErrOf result RunFault.Logs → Rose (L.faults logs.old) (L.faults logs.new) }
     ensures goes { T.goes out.old out.new }

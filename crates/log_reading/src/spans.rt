@@ -2,7 +2,7 @@
 ghost use Rattle.std.specs.Prelude.{◌≡◌, ◌≤◌, ◌<◌, ◌^◌, ◌+◌, ◌-◌, ◌++◌, ℕ, List, Bool, true, length, map, Option, OnOk, OnErr, IfOk, IfErr, IsErrOf};
 ghost use Rattle.lp_model.specs.Outside.{Rose, OnlyGrow, Told, bytes_in};
 ghost use Rattle.log_reading.specs.Page.{IsTooMany, IsWithin};
-ghost use Rattle.log_reading.specs.Spans.{AllSpans, IsSpan, AreKept, TakesSpans, OnBadLine, spans_met, spans_bad_lines, spans_size, took_of};
+ghost use Rattle.log_reading.specs.Spans.{AllSpans, IsSpan, AreKept, TakesSpans, ReadsAhead, OnBadLine, spans_met, spans_bad_lines, spans_size, took_of};
 
 use crate::logs::take_noted;
 use crate::{Page, RunFault, Span, Taker, TookList};
@@ -41,6 +41,7 @@ pub fn take_spans<R: LineReader, L: Logs, T: Taker<O>, O>(
     ensures took { OnOk result (waits ≡ true → Told (L.folder logs.new) (λ folder. AreKept (R.format reader.now) true spans.now folder
         → took.new ≡ took.old ++ map (took_of (R.format reader.now) folder) spans.now)) }
     ensures given { L.given logs.new ≤ L.given logs.old + spans_size spans.now }
+    ensures ahead { OnErr result (ReadsAhead T.takes T.goes (R.format reader.now) waits (L.folder logs.new) spans.now (length chunk.old) (L.given logs.old) (L.given logs.new) page.old.taker out.old out.new) }
     ensures later_logs { L.faults logs.old ≤ L.faults logs.new }
     ensures logs { IsErrOf result RunFault.Logs → Rose (L.faults logs.old) (L.faults logs.new) }
     ensures goes { T.goes out.old out.new }

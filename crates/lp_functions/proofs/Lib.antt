@@ -6,4 +6,5 @@ pub mod NameLemmas
 pub mod KindLemmas
 pub mod NullLemmas
 pub mod PrintedLemmas
+pub mod WrittenLemmas
 pub mod RowLemmas

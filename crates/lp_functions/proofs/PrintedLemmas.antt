@@ -14,14 +14,14 @@ use Rattle.lp_values.specs.declared.part.Part.TheVariants as P
 use Rattle.lp_values.specs.Digits.{two_digits, four_digits, six_digits}
 use Rattle.lp_values.specs.Printed.{printed_real, printed_date, printed_time, printed_stamp}
 
-ascii_cons : (b : ℕ) (bs : List ℕ) → b < 128 → IsAscii bs → IsAscii (b ∷ bs)
+pub ascii_cons : (b : ℕ) (bs : List ℕ) → b < 128 → IsAscii bs → IsAscii (b ∷ bs)
 ascii_cons b bs small rest zero = small
 ascii_cons b bs small rest (suc i) = rest i
 
-two : (n : ℕ) → IsAscii (two_digits n)
+pub two : (n : ℕ) → IsAscii (two_digits n)
 two n = ascii_cons (48 + n / 10 % 10) ((48 + n % 10) ∷ []) (omega arith) (ascii_cons (48 + n % 10) [] (omega arith) IsAscii-nil)
 
-four : (n : ℕ) → IsAscii (four_digits n)
+pub four : (n : ℕ) → IsAscii (four_digits n)
 four n = IsAscii-append (two_digits (n / 100 % 100)) (two_digits (n % 100)) (two (n / 100 % 100)) (two (n % 100))
 
 six : (n : ℕ) → IsAscii (six_digits n)

@@ -22,6 +22,6 @@ mod urls;
 
 pub use applying::{apply, apply_to_one, apply_to_three, apply_to_two};
 pub use function::Function;
-pub use laws::kind_is_told;
+pub use laws::{kind_is_told, written_is_text};
 pub use moments::{read_as, to_date, to_time};
 pub use texts::write_as;

@@ -1,25 +1,40 @@
--- The fields that are read of a line are spelled there, in order, and the line is nothing else.
+-- The fields that are read of a line may stand there and are spelled there, in order, and the line is nothing else.
 use Rattle.std.proofs.Common.{◌≡◌, ℕ, suc, ◌+◌, ◌<◌, Bool, true, false, cond, ◌==◌, List, [], ◌∷◌, ◌++◌, length, take, drop, replicate, get_or, Option, Some, None, option_map, option_and_then, position, nat_lt, refl, sym, ap, ◌∙◌, subst, inl, inr, arith, eq-eqb}
 use Rattle.std.proofs.lemmas.Bool.{cases_Bool, eqb-true, ltb-true}
 use Rattle.std.proofs.lemmas.List.{append-nil, append_assoc, length-append, get_or-append-add, take-append-drop, drop_more}
 use Rattle.std.proofs.lemmas.List.Sums.{passes_at_first}
+use Rattle.std.specs.Bool.{⊤}
 use Rattle.std.specs.List.{position_or_len, prefix_len}
 use Rattle.std.specs.Prelude.{◌≢◌}
 use Rattle.ncsa_input.specs.declared.shape.Shape.{Shape}
 use Rattle.ncsa_input.specs.declared.shape.Shape.TheVariants.{Word, Bracketed, Quoted}
 use Rattle.ncsa_input.specs.Lines.{is_space, may_end, behind_spaces, fields_behind}
 use Rattle.ncsa_input.specs.Shapes.{behind, closed_at, closing, taken, Taken}
-use Rattle.ncsa_input.specs.Spelled.{spelled, IsJoined}
+use Rattle.ncsa_input.specs.Form.{in_brackets, in_quotes}
+use Rattle.ncsa_input.proofs.Fitting.{Fits, first_is, taken_fits}
 use Rattle.ncsa_input.proofs.Rows.{none_there, ends_there, unparted, goes_on}
 use Rattle.ncsa_input.proofs.Taking.{opened, one_more}
 
--- the two parts of what was taken
-first_is : (a b : List ℕ × List ℕ) → Some a ≡ Some b → a.0 ≡ b.0
-first_is a b e = ap (λ (p : List ℕ × List ℕ). p.0) (some_is a b e)
-  where
-    some_is : (a b : List ℕ × List ℕ) → Some a ≡ Some b → a ≡ b
-    some_is a b e = cc
+-- a part as it stands in a line
+abbrev pub spelled : Shape → List ℕ → List ℕ
+spelled Word field = field
+spelled Bracketed field = in_brackets field
+spelled Quoted field = in_quotes field
 
+-- the text is these parts of these shapes, one or more spaces apart
+abbrev pub IsJoined : List Shape → List (List ℕ) → List ℕ → Type 0
+IsJoined [] fields text = ⊥
+IsJoined (shape ∷ shapes) [] text = ⊥
+IsJoined (shape ∷ shapes) (field ∷ []) text = text ≡ spelled shape field
+IsJoined (shape ∷ shapes) (field ∷ next ∷ fields) text = (more : ℕ) × ((rest : List ℕ) × ((text ≡ spelled shape field ++ (replicate (more + 1) 32 ++ rest)) × IsJoined shapes (next ∷ fields) rest))
+
+-- each part may stand there
+abbrev pub AreFit : List Shape → List (List ℕ) → Type 0
+AreFit shapes [] = ⊤
+AreFit [] (field ∷ fields) = ⊥
+AreFit (shape ∷ shapes) (field ∷ fields) = Fits shape field × AreFit shapes fields
+
+-- what was left
 second_is : (a b : List ℕ × List ℕ) → Some a ≡ Some b → a.1 ≡ b.1
 second_is a b e = ap (λ (p : List ℕ × List ℕ). p.1) (some_is a b e)
   where
@@ -135,6 +150,7 @@ empty (b ∷ bs) e = absurd (omega arith)
 
 -- the text is the parts of the line, and the line may end behind the last
 pub record IsRead (parts : ℕ) (shapes : List Shape) (fields : List (List ℕ)) (text : List ℕ) : Type 0 where
+  pub fit : AreFit shapes fields
   pub joined : IsJoined shapes fields text
   pub ends : may_end (parts + length fields) ≡ true
 
@@ -159,6 +175,7 @@ by_rest parts shape shapes text field rest next fields (Some others) is there e 
     let same : field ∷ others ≡ fields = cc in
     let more = follows next others e in
     subst (λ (f : List (List ℕ)). IsRead parts (shape ∷ shapes) f text) same (record {
+      fit = (taken_fits shape text field rest is, more.fit);
       joined = joined_more shape shapes field text rest next others (taken_spelled shape text field rest is) (spaces_spelled rest next there) more.joined;
       ends = ap may_end (sums parts (length others)) ∙ more.ends;
     })
@@ -175,6 +192,7 @@ by_end parts shape shapes text field rest fields false is none ends e = absurd c
 by_end parts shape shapes text field rest fields true is none ends e =
     let same : field ∷ [] ≡ fields = cc in
     subst (λ (f : List (List ℕ)). IsRead parts (shape ∷ shapes) f text) same (record {
+      fit = (taken_fits shape text field rest is, tt);
       joined = taken_spelled shape text field rest is ∙ (ap (λ t. spelled shape field ++ t) (empty rest none) ∙ append-nil (spelled shape field));
       ends = ends;
     })

@@ -18,7 +18,7 @@ word_none line at size e none =
     let zero : (position_or_len is_space (drop at line) == 0) ≡ true = eq-eqb (position_or_len is_space (drop at line)) 0 (sym e ∙ none) in
     rw zero refl
 
-word_taken : (text : List ℕ) (size : ℕ) → size ≡ position_or_len is_space text → size ≢ 0 → taken Word text ≡ Some (take size text, drop size text)
+pub word_taken : (text : List ℕ) (size : ℕ) → size ≡ position_or_len is_space text → size ≢ 0 → taken Word text ≡ Some (take size text, drop size text)
 unfolding taken
 word_taken text size e some =
     let more : (position_or_len is_space text == 0) ≡ false = search (rules, tests) in
@@ -79,18 +79,18 @@ quote_none text none = ap (option_and_then (λ t. closed_at t (closing t))) (sym
 
 -- ---- the quote that ends a part
 
-closing_quote : (b : ℕ) (rest : List ℕ) → b ≡ 34 → closing (b ∷ rest) ≡ Some 0
+pub closing_quote : (b : ℕ) (rest : List ℕ) → b ≡ 34 → closing (b ∷ rest) ≡ Some 0
 closing_quote b [] e = let is : (b == 34) ≡ true = eq-eqb b 34 e in rw is refl
 closing_quote b (c ∷ bs) e = let is : (b == 34) ≡ true = eq-eqb b 34 e in rw is refl
 
-closing_back : (b : ℕ) (rest : List ℕ) → b ≡ 92 → closing (b ∷ rest) ≡ option_map (λ n. n + 2) (closing (drop 1 rest))
+pub closing_back : (b : ℕ) (rest : List ℕ) → b ≡ 92 → closing (b ∷ rest) ≡ option_map (λ n. n + 2) (closing (drop 1 rest))
 closing_back b [] e = let no : (b == 34) ≡ false = search (rules, tests) in rw no refl
 closing_back b (c ∷ bs) e =
     let no : (b == 34) ≡ false = search (rules, tests) in
     let is : (b == 92) ≡ true = eq-eqb b 92 e in
     rw (no, is) refl
 
-closing_other : (b : ℕ) (rest : List ℕ) → b ≢ 34 → b ≢ 92 → closing (b ∷ rest) ≡ option_map (λ n. n + 1) (closing rest)
+pub closing_other : (b : ℕ) (rest : List ℕ) → b ≢ 34 → b ≢ 92 → closing (b ∷ rest) ≡ option_map (λ n. n + 1) (closing rest)
 closing_other b [] quote back = let no : (b == 34) ≡ false = search (rules, tests) in rw no refl
 closing_other b (c ∷ bs) quote back =
     let no : (b == 34) ≡ false = search (rules, tests) in

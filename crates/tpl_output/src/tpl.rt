@@ -78,15 +78,18 @@ impl Shape for Tpl {
     ghost shown = { λ s rows. rows };
 
     fn begin(&mut self, names: &TextList, fresh: bool, to: &mut Bytes) -> Result<(), AllocError> {
-        self.body = fill(self.alloc, names, self.moment, true, self.template.body())?;
-        self.footer = fill(
+        let body = fill(self.alloc, names, self.moment, true, self.template.body())?;
+        let footer = fill(
             self.alloc,
             names,
             self.moment,
             false,
             self.template.footer(),
         )?;
-        add_filled(self.alloc, names, self.moment, self.template.header(), to)
+        add_filled(self.alloc, names, self.moment, self.template.header(), to)?;
+        self.body = body;
+        self.footer = footer;
+        Ok(())
     }
 
     fn row(&mut self, values: &ValueList, to: &mut Bytes) -> Result<(), AllocError> {

@@ -1,8 +1,9 @@
-use Rattle.std.proofs.Common.{◌≡◌, Bool, length, ap, refl, ◌∙◌, arith}
+use Rattle.std.proofs.Common.{◌≡◌, Bool, true, length, ap, refl, ◌∙◌, arith}
 use Rattle.lp_model.proofs.Growing.{OnlyGrow-refl, OnlyGrow-trans}
 use Rattle.lp_model.proofs.Pieces.{there_grown}
 use Rattle.lp_model.proofs.Results.{on_err}
 use Rattle.log_reading.proofs.Spanning.{has_read_none, has_read_trans, stops_behind, exceeds_behind}
+use Rattle.log_reading.proofs.Ahead.{has_read_grown}
 use Rattle.log_reading.proofs.Faults.{handed_on, bad_line_so}
 use Rattle.log_reading.specs.Spans.{BadLine, OnBadLine, ExceedsReading}
 use Rattle.log_reading.proofs.logs.read_log.Goals as goal
@@ -81,3 +82,38 @@ returns-in_err-read_piece-clause-too_many g c =
     handed_on c.from_residual.result _ (λ fault. OnBadLine fault Q) c.from_residual.ensures.1
     (bad_line_so _ _ Q (λ line s. (s.0, λ waits. exceeds_behind g.T.Taker.takes format span.identity waits _ _ span.name span.listed page c.log.page _ _ line.row here.grows so_far.most (so_far.read waits) (s.1 waits)))
     here.too_many)
+
+pub returns-in_err-read_piece-clause-ahead : goal.returns-in_err-read_piece-clause-ahead
+returns-in_err-read_piece-clause-ahead g c =
+    let span = c.args.span.now in
+    let so_far = c.log.invariant in
+    let here = c.in_err-read_piece.ensures in
+    let given_before = so_far.given in
+    let once = here.once in
+    let most = here.given_at_most in
+    let chunk = c.log.auto.chunk in
+    let same = c.read_piece.auto.chunk in
+    record {
+      page = c.log.page;
+      out = c.log.out;
+      read = has_read_grown g.T.Taker.takes (g.R.LineReader.format c.args.reader.now) span.identity true _ _ span.name span.listed _ _ _ _ here.grows (so_far.read true);
+      last = so_far.last;
+      later = here.goes;
+      given = omega arith;
+      below = omega arith;
+    }
+
+pub returns-clause-ahead : goal.returns-clause-ahead
+returns-clause-ahead g c =
+    let so_far = c.log.invariant in
+    let given_before = so_far.given in
+    let fits = so_far.fits in
+    record {
+      page = c.log.page;
+      out = c.log.out;
+      read = so_far.read true;
+      last = so_far.last;
+      later = g.met.T.Taker.goes_nowhere _;
+      given = omega arith;
+      below = omega arith;
+    }

@@ -2,6 +2,7 @@ use Rattle.std.proofs.Common.{◌≡◌, [], length, ap, refl, sym, arith, subst
 use Rattle.log_reading.specs.Page.{Follows, IsTooMany, to_come}
 use Rattle.lp_model.proofs.Results.{on_err}
 use Rattle.log_reading.proofs.Spanning.{IsStart, told_taken, told_stopped, told_at_once, stops_at_end, told_ends, told_exceeded, told_standing, exceeds_at_end}
+use Rattle.log_reading.proofs.Ahead.{span_ahead, span_unread}
 use Rattle.log_reading.proofs.Faults.{handed_on, bad_line_so}
 use Rattle.log_reading.specs.declared.span.RunFault.{RunFault}
 use Rattle.lp_model.specs.Outside.{Told}
@@ -148,3 +149,57 @@ returns-in-Ok-finish_log-clause-standing g c =
     let start : IsStart c.args.span.now first = record { place = began.place; left = began.left; standing = began.standing } in
     told_standing g.T.Taker.takes g.met.T.Taker.takes_more (g.R.LineReader.format c.args.reader.now) c.args.waits _ c.args.span.now first c.read_log.new.page c.finish_log.new.page _ _ _ start
     (read.read c.args.waits) read.whole c.in-Ok-finish_log.ensures.takes
+
+pub returns-in_default-clause-ahead : goal.returns-in_default-clause-ahead
+returns-in_default-clause-ahead g c =
+    let page = c.args.page.now in
+    let w = c.args.out.now in
+    span_unread g.T.Taker.takes g.T.Taker.goes (g.R.LineReader.format c.args.reader.now) c.args.waits _ c.args.span.now _ _ page.taker w (g.met.T.Taker.takes_none page.taker w) (g.met.T.Taker.goes_nowhere w) c.requires.start
+
+pub returns-in_err-read_log-clause-ahead : goal.returns-in_err-read_log-clause-ahead
+returns-in_err-read_log-clause-ahead g c =
+    let first = c.start_log.new.page in
+    let began = c.in-Ok.ensures in
+    let start : IsStart c.args.span.now first = record { place = began.place; left = began.left; standing = began.standing } in
+    span_ahead g.T.Taker.takes g.T.Taker.goes g.met.T.Taker.takes_none g.met.T.Taker.takes_more g.met.T.Taker.goes_on (g.R.LineReader.format c.args.reader.now) c.args.waits _ c.args.span.now _ _ _ c.args.page.now first _ _ _
+    start began.taker c.requires.start c.in_err-read_log.ensures.ahead (g.met.T.Taker.goes_nowhere _)
+
+pub returns-in-Ok-finish_log-clause-ahead : goal.returns-in-Ok-finish_log-clause-ahead
+returns-in-Ok-finish_log-clause-ahead g c =
+    let first = c.start_log.new.page in
+    let began = c.in-Ok.ensures in
+    let start : IsStart c.args.span.now first = record { place = began.place; left = began.left; standing = began.standing } in
+    span_ahead g.T.Taker.takes g.T.Taker.goes g.met.T.Taker.takes_none g.met.T.Taker.takes_more g.met.T.Taker.goes_on (g.R.LineReader.format c.args.reader.now) c.args.waits _ c.args.span.now _ _ _ c.args.page.now first _ _ _
+    start began.taker c.requires.start c.in_ok-read_log.ensures.ahead c.in-Ok-finish_log.ensures.goes
+
+pub returns-in-Err-Memory-clause-ahead : goal.returns-in-Err-Memory-clause-ahead
+returns-in-Err-Memory-clause-ahead g c =
+    let first = c.start_log.new.page in
+    let began = c.in-Ok.ensures in
+    let start : IsStart c.args.span.now first = record { place = began.place; left = began.left; standing = began.standing } in
+    span_ahead g.T.Taker.takes g.T.Taker.goes g.met.T.Taker.takes_none g.met.T.Taker.takes_more g.met.T.Taker.goes_on (g.R.LineReader.format c.args.reader.now) c.args.waits _ c.args.span.now _ _ _ c.args.page.now first _ _ _
+    start began.taker c.requires.start c.in_ok-read_log.ensures.ahead c.in-Err-Memory.ensures.goes
+
+pub returns-in-Err-Failed-clause-ahead : goal.returns-in-Err-Failed-clause-ahead
+returns-in-Err-Failed-clause-ahead g c =
+    let first = c.start_log.new.page in
+    let began = c.in-Ok.ensures in
+    let start : IsStart c.args.span.now first = record { place = began.place; left = began.left; standing = began.standing } in
+    span_ahead g.T.Taker.takes g.T.Taker.goes g.met.T.Taker.takes_none g.met.T.Taker.takes_more g.met.T.Taker.goes_on (g.R.LineReader.format c.args.reader.now) c.args.waits _ c.args.span.now _ _ _ c.args.page.now first _ _ _
+    start began.taker c.requires.start c.in_ok-read_log.ensures.ahead c.in-Err-Failed.ensures.goes
+
+pub returns-in-Err-Stopped-clause-ahead : goal.returns-in-Err-Stopped-clause-ahead
+returns-in-Err-Stopped-clause-ahead g c =
+    let first = c.start_log.new.page in
+    let began = c.in-Ok.ensures in
+    let start : IsStart c.args.span.now first = record { place = began.place; left = began.left; standing = began.standing } in
+    span_ahead g.T.Taker.takes g.T.Taker.goes g.met.T.Taker.takes_none g.met.T.Taker.takes_more g.met.T.Taker.goes_on (g.R.LineReader.format c.args.reader.now) c.args.waits _ c.args.span.now _ _ _ c.args.page.now first _ _ _
+    start began.taker c.requires.start c.in_ok-read_log.ensures.ahead c.in-Err-Stopped.ensures.goes
+
+pub returns-in-Err-Bad-clause-ahead : goal.returns-in-Err-Bad-clause-ahead
+returns-in-Err-Bad-clause-ahead g c =
+    let first = c.start_log.new.page in
+    let began = c.in-Ok.ensures in
+    let start : IsStart c.args.span.now first = record { place = began.place; left = began.left; standing = began.standing } in
+    span_ahead g.T.Taker.takes g.T.Taker.goes g.met.T.Taker.takes_none g.met.T.Taker.takes_more g.met.T.Taker.goes_on (g.R.LineReader.format c.args.reader.now) c.args.waits _ c.args.span.now _ _ _ c.args.page.now first _ _ _
+    start began.taker c.requires.start c.in_ok-read_log.ensures.ahead c.in-Err-Bad.ensures.goes

@@ -1,6 +1,7 @@
 use Rattle.lp_model.proofs.Results.{on_err}
 use Rattle.log_reading.proofs.Spanning.{told_ended, told_unended, told_in_rows}
-use Rattle.log_reading.proofs.Faults.{handed_on, bad_line_so}
+use Rattle.log_reading.proofs.Ahead.{span_ahead_later}
+use Rattle.log_reading.proofs.Faults.{handed_on}
 use Rattle.log_reading.proofs.logs.take_span.Goals as goal
 
 pub returns-in_err-read_span-clause-stops : goal.returns-in_err-read_span-clause-stops
@@ -21,3 +22,11 @@ returns-clause-takes g c =
     let read = c.in_ok-read_span.ensures in
     let end = c.in_ok-end_span.ensures in
     told_ended g.T.Taker.takes g.met.T.Taker.takes_more (g.R.LineReader.format c.args.reader.now) c.args.waits _ c.args.span.now c.args.page.now c.read_span.new.page c.end_span.new.page _ _ _ read.takes read.standing end.takes end.rows end.bad
+
+pub returns-in_err-end_span-clause-ahead : goal.returns-in_err-end_span-clause-ahead
+returns-in_err-end_span-clause-ahead g c =
+    span_ahead_later g.T.Taker.takes g.T.Taker.goes g.met.T.Taker.goes_on (g.R.LineReader.format c.args.reader.now) c.args.waits _ c.args.span.now _ _ _ c.args.page.now.taker _ _ _ c.in_ok-read_span.ensures.ahead c.in_err-end_span.ensures.goes
+
+pub returns-clause-ahead : goal.returns-clause-ahead
+returns-clause-ahead g c =
+    span_ahead_later g.T.Taker.takes g.T.Taker.goes g.met.T.Taker.goes_on (g.R.LineReader.format c.args.reader.now) c.args.waits _ c.args.span.now _ _ _ c.args.page.now.taker _ _ _ c.in_ok-read_span.ensures.ahead c.in_ok-end_span.ensures.goes

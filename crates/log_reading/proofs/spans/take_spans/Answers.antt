@@ -2,6 +2,7 @@ use Rattle.std.proofs.Common.{◌∙◌, arith}
 use Rattle.lp_model.proofs.Growing.{OnlyGrow-trans}
 use Rattle.lp_model.proofs.Results.{on_err}
 use Rattle.log_reading.proofs.SpansTaken.{there_all, spans_more, spans_stopped, spans_exceeded, size_more, took_more}
+use Rattle.log_reading.proofs.Ahead.{spans_ahead}
 use Rattle.log_reading.proofs.Faults.{handed_on, bad_line_so}
 use Rattle.lp_model.specs.Outside.{Told}
 use Rattle.log_reading.specs.Page.{IsTooMany}
@@ -59,3 +60,10 @@ returns-in_err-take_noted-clause-too_many g c =
     handed_on c.from_residual.result _ (λ fault. OnBadLine fault Q) c.from_residual.ensures.1
     (bad_line_so _ _ Q (λ line s. spans_exceeded g.T.Taker.takes format c.args.waits _ _ spans c.loop-span.span-index c.span-item.result page c.loop-span.page _ _ line c.loop-span-test.true c.span-item.is here.grows so_far.there so_far.most so_far.takes s)
     here.too_many)
+
+pub returns-in_err-take_noted-clause-ahead : goal.returns-in_err-take_noted-clause-ahead
+returns-in_err-take_noted-clause-ahead g c = on_err _ c.from_residual.result (
+    let so_far = c.loop-span.invariant in
+    let here = c.in_err-take_noted.ensures in
+    spans_ahead g.T.Taker.takes g.T.Taker.goes g.met.T.Taker.takes_more (g.R.LineReader.format c.args.reader.now) c.args.waits _ _ c.args.spans.now c.loop-span.span-index c.span-item.result _ _ _ _ _ c.args.page.now c.loop-span.page _ _ _
+    c.loop-span-test.true c.span-item.is here.grows so_far.there so_far.takes so_far.given c.loop-span.auto.chunk here.ahead)

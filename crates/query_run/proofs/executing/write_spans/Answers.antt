@@ -22,8 +22,8 @@ returns-in_default-clause-front g c =
     let text : Folder → List ℕ = λ folder. g.F.Shape.text c.args.shape c.args.fresh c.args.names.now (picked (g.P.Picker.picks c.args.picker) (spans_found (g.R.LineReader.format c.args.reader.now) c.args.waits folder c.args.spans.now)) in
     told_all _ (λ folder. AreKept (g.R.LineReader.format c.args.reader.now) c.args.waits c.args.spans.now folder → GainsFront u c.args.stage.now (text folder)) (λ folder kept. front_none u (text folder))
 
-pub returns-in_default-zeros-clause-front : goal.returns-in_default-zeros-clause-front
-returns-in_default-zeros-clause-front g c =
+pub returns-in_default-new_chunk-clause-front : goal.returns-in_default-new_chunk-clause-front
+returns-in_default-new_chunk-clause-front g c =
     let kind = kind_of g.G.Stage.state g.G.Stage.ended in
     let u = (reached kind c.args.target c.args.stage.now) in
     let text : Folder → List ℕ = λ folder. g.F.Shape.text c.args.shape c.args.fresh c.args.names.now (picked (g.P.Picker.picks c.args.picker) (spans_found (g.R.LineReader.format c.args.reader.now) c.args.waits folder c.args.spans.now)) in

@@ -1,4 +1,4 @@
-use Rattle.std.proofs.Common.{◌≡◌, ◌++◌, List, drop, arith, rules}
+use Rattle.std.proofs.Common.{◌≡◌, ◌++◌, drop, arith, rules}
 use Rattle.std.proofs.lemmas.Grind.{common_steps}
 use Rattle.lp_model.specs.Lines.{is_lf}
 use Rattle.line_input.proofs.Split.{first_later}

@@ -1,0 +1,5 @@
+mod Moves
+mod Handed
+mod Written
+mod Taken
+mod Ends

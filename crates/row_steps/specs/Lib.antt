@@ -1,0 +1,4 @@
+pub mod Grouped
+pub mod Widths
+pub mod Gathered
+pub mod Rows
