@@ -28,7 +28,7 @@ on_table_map (F.Sampled options limit) pattern None spans P Q so p = tt
 on_table_map (F.Sampled options limit) pattern (Some folder) spans P Q so p = λ kept. so _ (p kept)
 
 writes_map : (Has Other : List ℕ → Type 0) → ((text : List ℕ) → Has text → Other text) → (spec : Spec) (moment : ℤ) (q : model.Query) (format : LogFormat) (plan : Planned) (spans : List Span) (counts : Counts) (folder : Folder) → Writes Has spec moment q format plan spans counts folder → Writes Other spec moment q format plan spans counts folder
-writes_map Has Other so spec moment q format plan spans counts folder w = record { text = so (text_in spec moment q format plan folder spans) w.text; processed = w.processed; output = w.output; bad = w.bad; within = w.within }
+writes_map Has Other so spec moment q format plan spans counts folder w = record { text = so (text_in spec moment q format plan folder spans) w.text; processed = w.processed; output = w.output; bad = w.bad }
 
 pub executed_map : (format : LogFormat) (told : Option Folder) (Has Other : List ℕ → Type 0) (spec : Spec) (moment : ℤ) (q : model.Query) (spans : List Span) (counts : Counts) → ((text : List ℕ) → Has text → Other text)
     → IsExecuted format told Has spec moment q spans counts → IsExecuted format told Other spec moment q spans counts

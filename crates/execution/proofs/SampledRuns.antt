@@ -6,7 +6,7 @@ use Rattle.command_words.specs.declared.spec.Spec.{Spec}
 use Rattle.delimited_input.specs.declared.options.DelimitedOptions.{DelimitedOptions}
 use Rattle.delimited_input.specs.Lines.{delimited_lines}
 use Rattle.log_reading.specs.declared.span.Span.{Span}
-use Rattle.log_reading.specs.Page.{IsTooMany, IsWithin}
+use Rattle.log_reading.specs.Page.{IsTooMany}
 use Rattle.log_reading.specs.Spans.{AreKept, BadLine, spans_bad_lines}
 use Rattle.query_run.specs.Output.{StageKind, OutputAt, placed_at, GainsText, GainsFront}
 use Rattle.query_run.specs.declared.executing.Written.{Written}
@@ -39,26 +39,24 @@ Front before now text = GainsFront before now text
 
 written_all : {S : Type 0} {kind : StageKind S} (told : Option Folder) (before : OutputAt kind) (now : S) (spec : Spec) (moment : ℤ) (q : model.Query) (options : DelimitedOptions) (limit : ℕ) (spans : List Span) (run : Written)
     → Told told (λ folder. Kept options spans folder → IsSampled (rules_in limit spec moment q) before (past_of (delimited_lines options) false folder spans) (delimited_lines options) false folder spans run now)
-    → IsWithin spec.errors run.counts.bad
     → IsExecuted (F.Sampled options limit) told (Has before run now) spec moment q spans run.counts
-written_all None before now spec moment q options limit spans run ran within = tt
-written_all (Some folder) before now spec moment q options limit spans run ran within = λ kept.
+written_all None before now spec moment q options limit spans run ran = tt
+written_all (Some folder) before now spec moment q options limit spans run ran = λ kept.
     let all = ran kept in
     record {
       plan = all.written.plan;
       is_planned = all.written.planned;
-      written = λ again. record { text = all.written.text; processed = all.processed; output = all.written.rows; bad = all.bad; within = within };
+      written = λ again. record { text = all.written.text; processed = all.processed; output = all.written.rows; bad = all.bad };
     }
 
-pub executed : {S : Type 0} {kind : StageKind S} (told : Option Folder) (before : OutputAt kind) (now : S) (spec : Spec) (moment : ℤ) (q : model.Query) (options : DelimitedOptions) (limit : ℕ) (slice spans : List Span) (run : Written) (most : Option ℕ) (text : RowsText) (shown : RowsShown)
-    → slice ≡ spans → most ≡ spec.errors → text ≡ run_text spec moment q → shown ≡ run_shown q
+pub executed : {S : Type 0} {kind : StageKind S} (told : Option Folder) (before : OutputAt kind) (now : S) (spec : Spec) (moment : ℤ) (q : model.Query) (options : DelimitedOptions) (limit : ℕ) (slice spans : List Span) (run : Written) (text : RowsText) (shown : RowsShown)
+    → slice ≡ spans → text ≡ run_text spec moment q → shown ≡ run_shown q
     → Told told (λ folder. Kept options slice folder → IsSampled (rules_with limit spec moment q text shown) before (past_of (delimited_lines options) false folder slice) (delimited_lines options) false folder slice run now)
-    → IsWithin most run.counts.bad
     → IsExecuted (F.Sampled options limit) told (Has before run now) spec moment q spans run.counts
-executed told before now spec moment q options limit slice spans run most text shown listed same asked shows ran within =
+executed told before now spec moment q options limit slice spans run text shown listed asked shows ran =
     let Of : Rules → Type 0 = λ rules. Told told (λ folder. Kept options slice folder → IsSampled rules before (past_of (delimited_lines options) false folder slice) (delimited_lines options) false folder slice run now) in
     subst (λ (s : List Span). IsExecuted (F.Sampled options limit) told (Has before run now) spec moment q s run.counts) listed
-    (written_all told before now spec moment q options limit slice run (as_asked limit spec moment q text shown asked shows Of ran) (subst (λ (m : Option ℕ). IsWithin m run.counts.bad) same within))
+    (written_all told before now spec moment q options limit slice run (as_asked limit spec moment q text shown asked shows Of ran))
 
 stopped_all : {S : Type 0} {kind : StageKind S} (told : Option Folder) (before : OutputAt kind) (now : S) (spec : Spec) (moment : ℤ) (q : model.Query) (options : DelimitedOptions) (limit : ℕ) (spans : List Span)
     → Told told (λ folder. Kept options spans folder → IsFront (rules_in limit spec moment q) before (past_of (delimited_lines options) false folder spans) now)

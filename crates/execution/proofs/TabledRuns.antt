@@ -4,7 +4,7 @@ use Rattle.grammar.specs.Trees as model
 use Rattle.lp_model.specs.Outside.{Folder, Told}
 use Rattle.command_words.specs.declared.spec.Spec.{Spec}
 use Rattle.log_reading.specs.declared.span.Span.{Span}
-use Rattle.log_reading.specs.Page.{IsTooMany, IsWithin}
+use Rattle.log_reading.specs.Page.{IsTooMany}
 use Rattle.log_reading.specs.Spans.{AreKept, BadLine, spans_found, spans_bad, spans_bad_lines}
 use Rattle.query_run.specs.declared.executing.Counts.{Counts}
 use Rattle.query_types.specs.Planned.{Planned, plan_of}
@@ -26,28 +26,26 @@ written_all : (told : Option Folder) (Has : List ℕ → Type 0) (spec : Spec) (
     → Told told (λ folder. Kept format spans folder → counts.processed ≡ length (spans_found (lines_of format) false folder spans))
     → Told told (λ folder. Kept format spans folder → counts.output ≡ length (run_shown q (plan_rows (readings_of format) plan (lines_of format) false folder spans)))
     → Told told (λ folder. Kept format spans folder → counts.bad ≡ length (spans_bad (lines_of format) false folder spans))
-    → IsWithin spec.errors counts.bad
     → Told told (λ folder. Kept format spans folder → Writes Has spec moment q (F.Tabled format) plan spans counts folder)
-written_all None Has spec moment q format plan spans counts text processed output bad within = tt
-written_all (Some folder) Has spec moment q format plan spans counts text processed output bad within =
-    λ kept. record { text = text kept; processed = processed kept; output = output kept; bad = bad kept; within = within }
+written_all None Has spec moment q format plan spans counts text processed output bad = tt
+written_all (Some folder) Has spec moment q format plan spans counts text processed output bad =
+    λ kept. record { text = text kept; processed = processed kept; output = output kept; bad = bad kept }
 
-pub executed : (told : Option Folder) (Has : List ℕ → Type 0) (spec : Spec) (moment : ℤ) (q : model.Query) (format : TableFormat) (plan : Planned) (slice spans : List Span) (counts : Counts) (most : Option ℕ) (text : RowsText) (shown : RowsShown)
-    → slice ≡ spans → plan_of (table_of format) moment q ≡ Ok plan → most ≡ spec.errors → text ≡ run_text spec moment q → shown ≡ run_shown q
+pub executed : (told : Option Folder) (Has : List ℕ → Type 0) (spec : Spec) (moment : ℤ) (q : model.Query) (format : TableFormat) (plan : Planned) (slice spans : List Span) (counts : Counts) (text : RowsText) (shown : RowsShown)
+    → slice ≡ spans → plan_of (table_of format) moment q ≡ Ok plan → text ≡ run_text spec moment q → shown ≡ run_shown q
     → Told told (λ folder. Kept format slice folder → Has (text_with text format plan folder slice))
     → Told told (λ folder. Kept format slice folder → counts.processed ≡ length (spans_found (lines_of format) false folder slice))
     → Told told (λ folder. Kept format slice folder → counts.output ≡ length (shown (plan_rows (readings_of format) plan (lines_of format) false folder slice)))
     → Told told (λ folder. Kept format slice folder → counts.bad ≡ length (spans_bad (lines_of format) false folder slice))
-    → IsWithin most counts.bad
     → IsExecuted (F.Tabled format) told Has spec moment q spans counts
-executed told Has spec moment q format plan slice spans counts most text shown listed planned limit as_asked shows gained processed output bad within =
+executed told Has spec moment q format plan slice spans counts text shown listed planned as_asked shows gained processed output bad =
     let Of : List Span → Type 0 = λ s. Told told (λ folder. Kept format s folder → Writes Has spec moment q (F.Tabled format) plan s counts folder) in
     let asked = subst (λ (t : RowsText). Told told (λ folder. Kept format slice folder → Has (text_with t format plan folder slice))) as_asked gained in
     let left = subst (λ (s : RowsShown). Told told (λ folder. Kept format slice folder → counts.output ≡ length (s (plan_rows (readings_of format) plan (lines_of format) false folder slice)))) shows output in
     record {
       plan = plan;
       is_planned = planned;
-      written = subst Of listed (written_all told Has spec moment q format plan slice counts asked processed left bad (subst (λ (m : Option ℕ). IsWithin m counts.bad) limit within));
+      written = subst Of listed (written_all told Has spec moment q format plan slice counts asked processed left bad);
     }
 
 pub front : (told : Option Folder) (Front : List ℕ → Type 0) (spec : Spec) (moment : ℤ) (q : model.Query) (format : TableFormat) (plan : Planned) (slice spans : List Span) (text : RowsText)

@@ -8,7 +8,7 @@ use Rattle.command_words.specs.declared.spec.Spec.{Spec}
 use Rattle.delimited_input.specs.declared.options.DelimitedOptions.{DelimitedOptions}
 use Rattle.delimited_input.specs.Lines.{delimited_lines}
 use Rattle.log_reading.specs.declared.span.Span.{Span}
-use Rattle.log_reading.specs.Page.{IsTooMany, IsWithin}
+use Rattle.log_reading.specs.Page.{IsTooMany}
 use Rattle.log_reading.specs.Spans.{AreKept, BadLine, spans_found, spans_bad, spans_bad_lines}
 use Rattle.query_run.specs.declared.executing.Counts.{Counts}
 use Rattle.query_types.specs.declared.fault.TypeFault.{TypeFault}
@@ -53,13 +53,12 @@ rows_in (F.Sampled options limit) pattern plan folder spans = rows_with pattern 
 abbrev pub text_in : Spec → ℤ → model.Query → LogFormat → Planned → Folder → List Span → List ℕ
 text_in spec moment q format plan folder spans = run_text spec moment q true plan.names (rows_in format spec.ts_format plan folder spans)
 
--- an output has gained the text of what a query leaves of a plan's rows, in a given sense; so many records, rows and bad lines were met, of these no more than there may be
+-- an output has gained the text of what a query leaves of a plan's rows, in a given sense; so many records, rows and bad lines were met
 pub record Writes (Has : List ℕ → Type 0) (spec : Spec) (moment : ℤ) (q : model.Query) (format : LogFormat) (plan : Planned) (spans : List Span) (counts : Counts) (folder : Folder) : Type 0 where
   pub text : Has (text_in spec moment q format plan folder spans)
   pub processed : counts.processed ≡ length (spans_found (lines_in format) false folder spans)
   pub output : counts.output ≡ length (run_shown q (rows_in format spec.ts_format plan folder spans))
   pub bad : counts.bad ≡ length (spans_bad (lines_in format) false folder spans)
-  pub within : IsWithin spec.errors counts.bad
 
 -- where each span begins as its log was kept, the output gains the text of the rows of the query's plan over a table
 pub record WritesAll (format : LogFormat) (told : Option Folder) (Has : List ℕ → Type 0) (spec : Spec) (moment : ℤ) (q : model.Query) (spans : List Span) (counts : Counts) (table : TableColumns) : Type 0 where

@@ -2,6 +2,7 @@
 ghost use Rattle.std.specs.Prelude.{◌≡◌, ◌≤◌, ◌+◌, true, length, IfOk, OnErr, IsErrOf};
 ghost use Rattle.lp_model.specs.Outside.{Rose, OnlyGrow, Told, bytes_in};
 ghost use Rattle.command_words.specs.Table.{IsInRange};
+ghost use Rattle.log_reading.specs.Page.{IsWithin};
 ghost use Rattle.log_reading.specs.Spans.{AllSpans, IsSpan, spans_size};
 ghost use Rattle.query_run.specs.Output.{kind_of, placed_at, GainsText, GainsFront};
 ghost use Rattle.query_tree.specs.Views.{query_of};
@@ -54,6 +55,7 @@ pub fn execute<L: Logs, I: Source, G: Stage>(
     requires there { Told (L.folder logs.old) (λ folder. AllSpans spans.now (λ span. span.listed ≤ length (bytes_in folder span.name))) }
     ensures grows { OnlyGrow (L.folder logs.old) (L.folder logs.new) }
     ensures ran { IfOk result (λ ran. IsExecuted (log_format spec.now (query_of query.now)) (L.folder logs.new) (λ text. GainsText (standard_at (kind_of G.state G.ended) stage.old) (placed_at (kind_of G.state G.ended) 0 ran.output stage.new) text) spec.now moment (query_of query.now) spans.now ran.counts) }
+    ensures within { IfOk result (λ ran. IsWithin spec.now.errors ran.counts.bad) }
     ensures ended { IfOk result (λ ran. G.ended stage.new ran.output.name ran.output.base ran.output.mark) }
     ensures stopped { OnErr result (IsStopped (log_format spec.now (query_of query.now)) (L.folder logs.new) (stage.new ≡ stage.old) (λ text. GainsFront (standard_at (kind_of G.state G.ended) stage.old) stage.new text) spec.now moment (query_of query.now) spans.now) }
     ensures plan { IfPlan result (IsUnplanned (log_format spec.now (query_of query.now)) (L.folder logs.new) spec.now moment (query_of query.now) spans.now) }

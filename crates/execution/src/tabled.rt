@@ -1,6 +1,7 @@
 // A query over logs of a format that has a table.
 ghost use Rattle.std.specs.Prelude.{◌≡◌, ◌≤◌, ◌+◌, true, length, IfOk, OnErr, IsErrOf};
 ghost use Rattle.lp_model.specs.Outside.{Rose, OnlyGrow, Told, bytes_in};
+ghost use Rattle.log_reading.specs.Page.{IsWithin};
 ghost use Rattle.log_reading.specs.Spans.{AllSpans, IsSpan, spans_size};
 ghost use Rattle.query_run.specs.Output.{kind_of, placed_at, reached, GainsText, GainsFront};
 ghost use Rattle.finished_text.specs.RowsTexts.{rows_text_of, shown_of};
@@ -58,6 +59,7 @@ pub(crate) fn execute_tabled<L: Logs, G: Stage>(
     requires there { Told (L.folder logs.old) (λ folder. AllSpans spans.now (λ span. span.listed ≤ length (bytes_in folder span.name))) }
     ensures grows { OnlyGrow (L.folder logs.old) (L.folder logs.new) }
     ensures ran { IfOk result (λ ran. IsExecuted (F.Tabled format) (L.folder logs.new) (λ text. GainsText (reached (kind_of G.state G.ended) target stage.old) (placed_at (kind_of G.state G.ended) target.output ran.output stage.new) text) spec.now moment.seconds (query_of query.now) spans.now ran.counts) }
+    ensures within { IfOk result (λ ran. IsWithin spec.now.errors ran.counts.bad) }
     ensures ended { IfOk result (λ ran. G.ended stage.new ran.output.name ran.output.base ran.output.mark) }
     ensures stopped { OnErr result (IsStopped (F.Tabled format) (L.folder logs.new) (stage.new ≡ stage.old) (λ text. GainsFront (reached (kind_of G.state G.ended) target stage.old) stage.new text) spec.now moment.seconds (query_of query.now) spans.now) }
     ensures plan { IfPlan result (IsUnplanned (F.Tabled format) (L.folder logs.new) spec.now moment.seconds (query_of query.now) spans.now) }

@@ -11,7 +11,7 @@ use Rattle.execution.specs.Faults.{IfParse, IfPlan}
 use Rattle.execution.specs.declared.fault.RunFault.{RunFault}
 use Rattle.execution.specs.declared.fault.RunFault.TheVariants as X
 use Rattle.log_reading.specs.declared.span.Span.{Span}
-use Rattle.log_reading.specs.Page.{IsTooMany}
+use Rattle.log_reading.specs.Page.{IsTooMany, IsWithin}
 use Rattle.log_reading.specs.Spans.{BadLine, spans_bad_lines, bad_line}
 use Rattle.query_run.specs.declared.executing.Counts.{Counts}
 use Rattle.query_text.specs.declared.fault.QueryFault.{QueryFault}
@@ -67,8 +67,8 @@ unlisted_answers old new spec moment q (ParseErrors log row) is same rose = absu
 
 -- a query was run over whole logs
 pub whole : (old new : World) (mid : Option Folder) (spec : Spec) (moment : ℤ) (q : model.Query) (spans : List Span) (counts : Counts) → AreSpans old.folder mid q spans → OnlyGrow mid new.folder
-    → IsExecuted (log_format spec q) new.folder (λ (t : List ℕ). Gains old.out new.out t) spec moment q spans counts → Tells old.err new.err (told_statistics spec.stats counts) (Rose old.err_faults new.err_faults) → IsWhole old new spec moment q
-whole old new mid spec moment q spans counts found grow ran told = record {
+    → IsExecuted (log_format spec q) new.folder (λ (t : List ℕ). Gains old.out new.out t) spec moment q spans counts → IsWithin spec.errors counts.bad → Tells old.err new.err (told_statistics spec.stats counts) (Rose old.err_faults new.err_faults) → IsWhole old new spec moment q
+whole old new mid spec moment q spans counts found grow ran within told = record {
   logs = found.logs;
   are_logs = logs_later old.folder mid new.folder q found.logs grow found.are_logs;
   counts = counts;
@@ -79,6 +79,7 @@ whole old new mid spec moment q spans counts found grow ran told = record {
         written = whole_told new.folder (log_format spec q) found.logs spans (λ s folder. Writes (λ (t : List ℕ). Gains old.out new.out t) spec moment q (log_format spec q) w.plan s counts folder) found.wholes w.written;
       })
       ran;
+  within = within;
   told = told;
 }
 
@@ -156,7 +157,7 @@ unplannable_earlier mid new before faults spec moment q (Q.Plan fault) grow s =
 
 built_earlier : (mid new : World) (before : Option Folder) (faults : ℕ) (spec : Spec) (moment : ℤ) (q : model.Query) (status : Status) → OnlyGrow before mid.folder → faults ≤ mid.logs_faults
     → AnswersBuilt mid new spec moment q status → AnswersBuilt (with_logs mid before faults) new spec moment q status
-built_earlier mid new before faults spec moment q Done grow later w = record { logs = w.logs; are_logs = logs_earlier before mid.folder new.folder q w.logs grow w.are_logs; counts = w.counts; written = w.written; told = w.told }
+built_earlier mid new before faults spec moment q Done grow later w = record { logs = w.logs; are_logs = logs_earlier before mid.folder new.folder q w.logs grow w.are_logs; counts = w.counts; written = w.written; within = w.within; told = w.told }
 built_earlier mid new before faults spec moment q Memory grow later s = stop_earlier mid new before faults spec moment q grow s
 built_earlier mid new before faults spec moment q (Clock at) grow later s = absurd s
 built_earlier mid new before faults spec moment q (Usage fault) grow later s = absurd s

@@ -12,7 +12,7 @@ use Rattle.execution.specs.declared.formats.LogFormat.{LogFormat}
 use Rattle.execution.specs.declared.formats.LogFormat.TheVariants as F
 use Rattle.input_tables.specs.Tables.{table_of}
 use Rattle.log_listing.specs.declared.lengths.NameLength.{NameLength}
-use Rattle.log_reading.specs.Page.{IsTooMany}
+use Rattle.log_reading.specs.Page.{IsTooMany, IsWithin}
 use Rattle.log_reading.specs.Spans.{BadLine, spans_bad_lines}
 use Rattle.query_run.specs.declared.executing.Counts.{Counts}
 use Rattle.query_types.specs.declared.fault.TypeFault.{TypeFault}
@@ -49,12 +49,14 @@ pub record WritesAll (told : Option Folder) (before now : Option (List ℕ)) (sp
   pub is_planned : plan_of table moment q ≡ Ok plan
   pub written : Told told (Writes (λ (t : List ℕ). Gains before now t) spec moment q (log_format spec q) plan (whole_spans logs) counts)
 
--- a whole run: the output gains the text of the query's rows over the whole logs, and the other output the statistics
+-- a whole run: the output gains the text of the query's rows over the whole logs, and the other output the statistics; of bad
+-- lines there were no more than there may be
 pub record IsWhole (old new : World) (spec : Spec) (moment : ℤ) (q : model.Query) : Type 0 where
   pub logs : List NameLength
   pub are_logs : AreLogs old.folder new.folder q logs
   pub counts : Counts
   pub written : OnWhole (log_format spec q) spec.ts_format new.folder logs (WritesAll new.folder old.out new.out spec moment q logs counts)
+  pub within : IsWithin spec.errors counts.bad
   pub told : Tells old.err new.err (told_statistics spec.stats counts) (Rose old.err_faults new.err_faults)
 
 -- the output holds the front of that text

@@ -1,3 +1,5 @@
+use Rattle.std.proofs.Common.{ℕ, Option, subst}
+use Rattle.log_reading.specs.Page.{IsWithin}
 use Rattle.query_run.specs.Output.{kind_of, reached}
 use Rattle.finished_text.specs.RowsTexts.{rows_text_of, shown_of}
 use Rattle.query_tree.specs.Views.{query_of}
@@ -7,7 +9,10 @@ use Rattle.execution.proofs.sampled.execute_sampled.Goals as goal
 pub returns-in-Ok-clause-ran : goal.returns-in-Ok-clause-ran
 returns-in-Ok-clause-ran g c =
     executed (g.L.Logs.folder c.run_sampled.new.logs) (reached (kind_of g.G.Stage.state g.G.Stage.ended) c.args.target c.args.stage.now) c.run_sampled.new.stage c.args.spec.now c.args.moment.seconds (query_of c.args.query.now)
-    c.args.options c.args.limit c.as_slice.result.now c.args.spans.now c.in-Ok.run' c.most_bad.result (rows_text_of c.args.shape) (shown_of c.args.shape) c.as_slice.ensures c.most_bad.ensures c.requires.text c.requires.shown c.in-Ok.ensures.ran c.in-Ok.ensures.within
+    c.args.options c.args.limit c.as_slice.result.now c.args.spans.now c.in-Ok.run' (rows_text_of c.args.shape) (shown_of c.args.shape) c.as_slice.ensures c.requires.text c.requires.shown c.in-Ok.ensures.ran
+
+pub returns-in-Ok-clause-within : goal.returns-in-Ok-clause-within
+returns-in-Ok-clause-within g c = subst (λ (most : Option ℕ). IsWithin most c.in-Ok.run'.counts.bad) c.most_bad.ensures c.in-Ok.ensures.within
 
 pub returns-in-Err-Bad-clause-stopped : goal.returns-in-Err-Bad-clause-stopped
 returns-in-Err-Bad-clause-stopped g c =

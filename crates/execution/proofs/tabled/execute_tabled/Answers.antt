@@ -1,5 +1,6 @@
-use Rattle.std.proofs.Common.{inr}
+use Rattle.std.proofs.Common.{ℕ, Option, inr, subst}
 use Rattle.lp_model.proofs.Growing.{OnlyGrow-refl}
+use Rattle.log_reading.specs.Page.{IsWithin}
 use Rattle.query_run.specs.Output.{kind_of, placed_at, reached, GainsText, GainsFront}
 use Rattle.finished_text.specs.RowsTexts.{rows_text_of, shown_of}
 use Rattle.query_tree.specs.Views.{query_of}
@@ -14,8 +15,11 @@ pub returns-in-Ok-run_plan-clause-ran : goal.returns-in-Ok-run_plan-clause-ran
 returns-in-Ok-run_plan-clause-ran g c =
     let run = c.in-Ok-run_plan.ensures in
     executed (g.L.Logs.folder c.run_plan.new.logs) (λ text. GainsText (reached (kind_of g.G.Stage.state g.G.Stage.ended) c.args.target c.args.stage.now) (placed_at (kind_of g.G.Stage.state g.G.Stage.ended) c.args.target.output c.in-Ok-run_plan.run'.output c.run_plan.new.stage) text) c.args.spec.now c.args.moment.seconds (query_of c.args.query.now)
-    c.args.format (planned_in c.in-Ok.plan) c.as_slice.result.now c.args.spans.now c.in-Ok-run_plan.run'.counts c.most_bad.result (rows_text_of c.args.shape) (shown_of c.args.shape) c.as_slice.ensures c.in-Ok.ensures.plan c.most_bad.ensures c.requires.text c.requires.shown
-    run.text run.processed run.output run.bad run.within
+    c.args.format (planned_in c.in-Ok.plan) c.as_slice.result.now c.args.spans.now c.in-Ok-run_plan.run'.counts (rows_text_of c.args.shape) (shown_of c.args.shape) c.as_slice.ensures c.in-Ok.ensures.plan c.requires.text c.requires.shown
+    run.text run.processed run.output run.bad
+
+pub returns-in-Ok-run_plan-clause-within : goal.returns-in-Ok-run_plan-clause-within
+returns-in-Ok-run_plan-clause-within g c = subst (λ (most : Option ℕ). IsWithin most c.in-Ok-run_plan.run'.counts.bad) c.most_bad.ensures c.in-Ok-run_plan.ensures.within
 
 pub returns-in-Err-Memory-clause-stopped : goal.returns-in-Err-Memory-clause-stopped
 returns-in-Err-Memory-clause-stopped g c = inr

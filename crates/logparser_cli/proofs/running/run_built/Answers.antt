@@ -18,7 +18,7 @@ returns-in-Ok-execute-clause-answers g c =
     let range : FitsSigned w64 c.args.moment = c.ranges.moment in
     let old : World = record { folder = g.L.Logs.folder c.args.logs.now; logs_faults = g.L.Logs.faults c.args.logs.now; out = g.S.Sink.written c.args.out.now; out_faults = g.S.Sink.faults c.args.out.now; err = g.E.Sink.written c.args.err.now; err_faults = g.E.Sink.faults c.args.err.now } in
     let new : World = record { folder = g.L.Logs.folder c.execute.new.logs; logs_faults = g.L.Logs.faults c.execute.new.logs; out = g.S.Sink.written c.execute.new.stage; out_faults = g.S.Sink.faults c.execute.new.stage; err = g.E.Sink.written c.tell_statistics.new.err; err_faults = g.E.Sink.faults c.tell_statistics.new.err } in
-    whole old new (g.L.Logs.folder c.find_spans.new.logs) c.args.spec.now c.args.moment (query_of c.args.query.now) c.in-Ok.spans c.in-Ok-execute.ran.counts c.in-Ok.ensures.found c.in-Ok-execute.ensures.grows (executed_map (log_format c.args.spec.now (query_of c.args.query.now)) new.folder _ (λ (t : List ℕ). Gains old.out new.out t) c.args.spec.now c.args.moment (query_of c.args.query.now) c.in-Ok.spans c.in-Ok-execute.ran.counts (λ text gains. written_whole g.S.Sink.written _ c.args.out.now c.execute.new.stage c.in-Ok-execute.ran.output text gains) (simp to_z-of_z at c.in-Ok-execute.ensures.ran)) c.tell_statistics.ensures.told
+    whole old new (g.L.Logs.folder c.find_spans.new.logs) c.args.spec.now c.args.moment (query_of c.args.query.now) c.in-Ok.spans c.in-Ok-execute.ran.counts c.in-Ok.ensures.found c.in-Ok-execute.ensures.grows (executed_map (log_format c.args.spec.now (query_of c.args.query.now)) new.folder _ (λ (t : List ℕ). Gains old.out new.out t) c.args.spec.now c.args.moment (query_of c.args.query.now) c.in-Ok.spans c.in-Ok-execute.ran.counts (λ text gains. written_whole g.S.Sink.written _ c.args.out.now c.execute.new.stage c.in-Ok-execute.ran.output text gains) (simp to_z-of_z at c.in-Ok-execute.ensures.ran)) c.in-Ok-execute.ensures.within c.tell_statistics.ensures.told
 
 pub returns-clause-answers : goal.returns-clause-answers
 returns-clause-answers g c =
