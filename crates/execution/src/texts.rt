@@ -8,7 +8,7 @@ ghost use Rattle.execution.specs.Texts.{finish_in, has_text, output_by_into, out
 
 use any_format::Format;
 use command_words::{OutputFormat, Spec};
-use finished_text::{FinishedText, Order, RowsText};
+use finished_text::{Order, RowsText};
 use output_formats::CsvOut;
 use query_tree::{Placed, Query};
 use sampled_run::Moment;
@@ -86,9 +86,5 @@ pub(crate) fn rows_text(alloc: Global, spec: &Spec, query: &Query, moment: Momen
     ensures shown { shown_of result ≡ run_shown (query_of query.now) }
 {
     let format = text_as(alloc, spec, output_of(spec, query), moment);
-    if query.top.is_none() && !query.distinct {
-        RowsText::All(format)
-    } else {
-        RowsText::Finished(FinishedText::new(alloc, format, order_of(alloc, query)))
-    }
+    RowsText::new(alloc, format, order_of(alloc, query))
 }

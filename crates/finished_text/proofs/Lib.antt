@@ -1,4 +1,5 @@
 pub mod Counting
 pub mod Dispatching
+pub mod Plain
 pub mod RowByRow
 pub mod Stages

@@ -1,6 +1,7 @@
 // What a query asks of its rows.
 ghost use Rattle.std.specs.Prelude.{◌≡◌, ◌↔◌, [], IfOk, IsTrue};
 ghost use Rattle.order_top.specs.Ordering.{StandsFor};
+ghost use Rattle.finished_text.specs.Finishing.{IsPlain};
 
 use order_top::Orderer;
 use std::alloc::{AllocError, Global};
@@ -29,6 +30,13 @@ impl Order {
         ensures { IsTrue result ↔ (self.now.columns ≡ []) }
     {
         self.columns.is_empty()
+    }
+
+    // Whether it leaves all rows as they come.
+    pub(crate) fn keeps_all(&self) -> bool
+        ensures { IsTrue result → IsPlain self.now }
+    {
+        self.is_plain() && !self.distinct && self.top.is_none()
     }
 
     // An orderer that no row was given.

@@ -1,17 +1,34 @@
 // The text of all rows, or of those that an order leaves.
+ghost use Rattle.std.specs.Prelude.{◌≡◌, List};
+ghost use Rattle.order_top.specs.Finish.{Row, finished};
+ghost use Rattle.finished_text.specs.Finishing.{text_under};
 ghost use Rattle.finished_text.specs.RowsTexts.{rows_text_of, HasRowsText, shown_of, rows_text_begins};
 
-use crate::FinishedText;
+use crate::{FinishedText, Order};
 use any_format::Format;
 use lp_values::{Bytes, TextList, ValueList};
 use output_formats::Shape;
-use std::alloc::AllocError;
+use std::alloc::{AllocError, Global};
 
 /// The text of a query's rows: of all as they come, or of those that an order leaves.
 #[derive(Drop)]
 pub enum RowsText {
     All(Format),
     Finished(FinishedText),
+}
+
+impl RowsText {
+    /// The text, in a format, of the rows that an order leaves. Where it leaves them all they go straight through.
+    pub fn new(alloc: Global, format: Format, order: Order) -> RowsText
+        ensures text { rows_text_of result ≡ text_under format order }
+        ensures shown { (rows : List Row) → shown_of result rows ≡ finished order rows }
+    {
+        if order.keeps_all() {
+            RowsText::All(format)
+        } else {
+            RowsText::Finished(FinishedText::new(alloc, format, order))
+        }
+    }
 }
 
 impl Shape for RowsText {
