@@ -75,7 +75,7 @@ Examples
   logparser -o:CSV \"SELECT name, MUL(price, 2) AS twice FROM list.csv WHERE name LIKE 'a%'\"
 
 Not built yet, and answered so: templates (-o:TPL, -tpl), INTO files, -iCheckpoint, COUNT and
-the like, TOP, DISTINCT, GROUP BY, HAVING, ORDER BY, subqueries, standard input.
+the like, GROUP BY, HAVING, ORDER BY, subqueries, standard input.
 
 The manual is docs/manual.md in the repository; docs/examples.md answers common questions.
 
