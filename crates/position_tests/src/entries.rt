@@ -103,16 +103,32 @@ fn add_entry(disk: &mut MemoryDisk, ledger: &Name, pair: u32, entry: &Entry) -> 
     Ok(pair.wrapping_add(10).wrapping_add(size))
 }
 
+// A disk with the ledger `cp`, which has no entries.
+fn new_disk(alloc: Global, ledger: &Name) -> Result<MemoryDisk, Fail> {
+    let mut disk = MemoryDisk::new(alloc);
+    if create(&mut disk, ledger).is_err() {
+        return Err(Fail::from("not made"));
+    }
+    Ok(disk)
+}
+
 /// A disk with the ledger `cp` of runs that read these lines.
 pub fn disk_with(alloc: Global, runs: &[&[Read]]) -> Result<MemoryDisk, Fail> {
     let ledger = named("cp")?;
-    let mut disk = MemoryDisk::new(alloc);
-    if create(&mut disk, &ledger).is_err() {
-        return Err(Fail::from("not made"));
-    }
+    let mut disk = new_disk(alloc, &ledger)?;
     let mut pair = 16;
     for reads in runs {
         pair = add_entry(&mut disk, &ledger, pair, &entry_of(alloc, reads)?)?;
+    }
+    Ok(disk)
+}
+
+/// The same of one run, or of none where it read nothing.
+pub fn disk_with_one(alloc: Global, reads: &[Read]) -> Result<MemoryDisk, Fail> {
+    let ledger = named("cp")?;
+    let mut disk = new_disk(alloc, &ledger)?;
+    if !reads.is_empty() {
+        add_entry(&mut disk, &ledger, 16, &entry_of(alloc, reads)?)?;
     }
     Ok(disk)
 }

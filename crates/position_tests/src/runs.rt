@@ -1,5 +1,5 @@
 // What runs read of the logs behind FROM, worked out by hand.
-use crate::entries::{COLUMNS, ONE, Read, disk_with, named};
+use crate::entries::{COLUMNS, ONE, Read, disk_with_one, named};
 use checkpoint::{Rotation, Sources};
 use ledger::InputText;
 use log_reading::Span;
@@ -52,18 +52,20 @@ fn read_of<'a>(identity: &'a str, place: &str) -> Read<'a> {
     }
 }
 
-fn positions_of(alloc: Global, reads: &str) -> Result<Positions, Fail> {
+// What an earlier run read, each log between spaces.
+fn reads_in<'a>(alloc: Global, reads: &'a str) -> Result<Vec<Read<'a>>, Fail> {
     let mut list = Vec::new(alloc);
     for word in reads.split(' ') {
         if let Some((identity, place)) = word.split_once('=') {
             list.push(read_of(identity, place))?;
         }
     }
-    let mut disk = if list.is_empty() {
-        disk_with(alloc, &[])?
-    } else {
-        disk_with(alloc, &[list.as_slice()])?
-    };
+    Ok(list)
+}
+
+fn positions_of(alloc: Global, reads: &str) -> Result<Positions, Fail> {
+    let list = reads_in(alloc, reads)?;
+    let mut disk = disk_with_one(alloc, list.as_slice())?;
     match Positions::load(alloc, &mut disk, &named("cp")?) {
         Ok(positions) => Ok(positions),
         Err(_) => Err(Fail::from("not loaded")),

@@ -22,7 +22,7 @@ use std::alloc::Global;
 #[derive(Drop)]
 pub struct Finished {
     pub output: Output,
-    /// How many rows it has.
+    /// How many rows were put.
     pub rows: u64,
 }
 
@@ -50,11 +50,9 @@ fn put_groups<F: Shape + Drop, G: Stage>(
         return Err(TakeFault::Memory);
     };
     write_groups(alloc, plan, &mut groups, &mut writer, stage)?;
+    let rows = writer.output;
     let output = finish(&mut writer, stage)?;
-    Ok(Finished {
-        output,
-        rows: writer.output,
-    })
+    Ok(Finished { output, rows })
 }
 
 /// Writes what HAVING and SELECT make of the groups, and ends the output.

@@ -60,5 +60,4 @@ pub returns-clause-rows : goal.returns-clause-rows
 returns-clause-rows g c =
     let none = c.in-Ok.ensures.output in
     let written = c.in_ok-write_groups.ensures.writes.output in
-    let stays = c.in_ok-output.ensures.output in
     omega arith
