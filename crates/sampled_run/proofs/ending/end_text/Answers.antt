@@ -9,7 +9,7 @@ use Rattle.sampled_run.proofs.ending.end_text.Goals as goal
 pub returns-in-Ok-clause-written : goal.returns-in-Ok-clause-written
 returns-in-Ok-clause-written g c = λ rules begin start past fits begun.
     written_is (kind_of g.G.Stage.state g.G.Stage.ended) g.F.Shape.text g.F.Shape.has_text g.F.Shape.shown rules begin start past c.args.writer c.args.stage.now c.finish.new.stage c.finish.new.writer.output c.in-Ok.output
-    fits c.finish.ensures.output c.in-Ok.ensures.text begun
+    fits c.in-Ok.ensures.output c.in-Ok.ensures.text begun
 
 pub returns-clause-stopped : goal.returns-clause-stopped
 returns-clause-stopped g c = λ rules begin start past fits begun.
