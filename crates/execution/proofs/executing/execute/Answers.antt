@@ -12,8 +12,11 @@ use Rattle.execution.proofs.Standard.{standard_is}
 use Rattle.execution.specs.Executed.{IsExecuted, IsParseError, IsStopped, IsUnplanned, IsUntouched}
 use Rattle.execution.specs.Faults.{IfParse, IfPlan}
 use Rattle.execution.specs.Formats.{input_of}
-use Rattle.execution.proofs.FormatLemmas.{built_query, separated}
+use Rattle.execution.proofs.FormatLemmas.{built_query, built_text, separated}
 use Rattle.execution.proofs.executing.execute.Goals as goal
+
+pub rows_text-shape-requires-clause-built : goal.rows_text-shape-requires-clause-built
+rows_text-shape-requires-clause-built g c = built_text c.args.spec.now (query_of c.args.query.now) c.requires.built
 
 pub execute_tabled-requires-clause-built : goal.execute_tabled-requires-clause-built
 execute_tabled-requires-clause-built g c = built_query c.args.spec.now (query_of c.args.query.now) c.requires.built
