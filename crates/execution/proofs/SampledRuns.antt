@@ -16,7 +16,7 @@ use Rattle.sampled_run.specs.Rules.{Rules, rules_of}
 use Rattle.column_kinds.specs.Spans.{past_of}
 use Rattle.execution.specs.declared.formats.LogFormat.TheVariants as F
 use Rattle.execution.specs.Executed.{IsExecuted, IsStopped, IsParseError, IsUnplanned, IsUntouched}
-use Rattle.execution.specs.Texts.{RowsText, run_text}
+use Rattle.execution.specs.Texts.{RowsText}
 
 abbrev Kept : DelimitedOptions → List Span → Folder → Type 0
 Kept options spans folder = AreKept (delimited_lines options) false spans folder
@@ -24,59 +24,50 @@ Kept options spans folder = AreKept (delimited_lines options) false spans folder
 abbrev pub rules_with : ℕ → Spec → ℤ → model.Query → RowsText → Rules
 rules_with limit spec moment q text = rules_of limit spec.ts_format moment q true text
 
-abbrev pub rules_in : ℕ → Spec → ℤ → model.Query → Rules
-rules_in limit spec moment q = rules_with limit spec moment q (run_text spec moment q)
-
--- a text that is the one asked for
-as_asked : (limit : ℕ) (spec : Spec) (moment : ℤ) (q : model.Query) (text : RowsText) → text ≡ run_text spec moment q → (P : Rules → Type 0) → P (rules_with limit spec moment q text) → P (rules_in limit spec moment q)
-as_asked limit spec moment q text is P p = subst (λ (t : RowsText). P (rules_with limit spec moment q t)) is p
-
 abbrev Has : {S : Type 0} → {kind : StageKind S} → OutputAt kind → Written → S → List ℕ → Type 0
 Has {kind = kind} before run now text = GainsText before (placed_at kind before.output run.output now) text
 
 abbrev Front : {S : Type 0} → {kind : StageKind S} → OutputAt kind → S → List ℕ → Type 0
 Front before now text = GainsFront before now text
 
-written_all : {S : Type 0} {kind : StageKind S} (told : Option Folder) (before : OutputAt kind) (now : S) (spec : Spec) (moment : ℤ) (q : model.Query) (options : DelimitedOptions) (limit : ℕ) (spans : List Span) (run : Written)
-    → Told told (λ folder. Kept options spans folder → IsSampled (rules_in limit spec moment q) before (past_of (delimited_lines options) false folder spans) (delimited_lines options) false folder spans run now)
+written_all : {S : Type 0} {kind : StageKind S} (told : Option Folder) (before : OutputAt kind) (now : S) (text : RowsText) (spec : Spec) (moment : ℤ) (q : model.Query) (options : DelimitedOptions) (limit : ℕ) (spans : List Span) (run : Written)
+    → Told told (λ folder. Kept options spans folder → IsSampled (rules_with limit spec moment q text) before (past_of (delimited_lines options) false folder spans) (delimited_lines options) false folder spans run now)
     → IsWithin spec.errors run.counts.bad
-    → IsExecuted (F.Sampled options limit) told (Has before run now) spec moment q spans run.counts
-written_all None before now spec moment q options limit spans run ran within = tt
-written_all (Some folder) before now spec moment q options limit spans run ran within = λ kept.
+    → IsExecuted (F.Sampled options limit) told (Has before run now) text spec moment q spans run.counts
+written_all None before now text spec moment q options limit spans run ran within = tt
+written_all (Some folder) before now text spec moment q options limit spans run ran within = λ kept.
     let all = ran kept in
     record {
       plan = all.written.plan;
       is_planned = all.written.planned;
-      written = λ again. record { text = all.written.text; processed = all.processed; output = all.written.rows; bad = all.bad; within = within };
+      written = λ again. record { has = all.written.text; processed = all.processed; output = all.written.rows; bad = all.bad; within = within };
     }
 
-pub executed : {S : Type 0} {kind : StageKind S} (told : Option Folder) (before : OutputAt kind) (now : S) (spec : Spec) (moment : ℤ) (q : model.Query) (options : DelimitedOptions) (limit : ℕ) (slice spans : List Span) (run : Written) (most : Option ℕ) (text : RowsText)
-    → slice ≡ spans → most ≡ spec.errors → text ≡ run_text spec moment q
+pub executed : {S : Type 0} {kind : StageKind S} (told : Option Folder) (before : OutputAt kind) (now : S) (text : RowsText) (spec : Spec) (moment : ℤ) (q : model.Query) (options : DelimitedOptions) (limit : ℕ) (slice spans : List Span) (run : Written) (most : Option ℕ)
+    → slice ≡ spans → most ≡ spec.errors
     → Told told (λ folder. Kept options slice folder → IsSampled (rules_with limit spec moment q text) before (past_of (delimited_lines options) false folder slice) (delimited_lines options) false folder slice run now)
     → IsWithin most run.counts.bad
-    → IsExecuted (F.Sampled options limit) told (Has before run now) spec moment q spans run.counts
-executed told before now spec moment q options limit slice spans run most text listed same asked ran within =
-    let Of : Rules → Type 0 = λ rules. Told told (λ folder. Kept options slice folder → IsSampled rules before (past_of (delimited_lines options) false folder slice) (delimited_lines options) false folder slice run now) in
-    subst (λ (s : List Span). IsExecuted (F.Sampled options limit) told (Has before run now) spec moment q s run.counts) listed
-    (written_all told before now spec moment q options limit slice run (as_asked limit spec moment q text asked Of ran) (subst (λ (m : Option ℕ). IsWithin m run.counts.bad) same within))
+    → IsExecuted (F.Sampled options limit) told (Has before run now) text spec moment q spans run.counts
+executed told before now text spec moment q options limit slice spans run most listed same ran within =
+    subst (λ (s : List Span). IsExecuted (F.Sampled options limit) told (Has before run now) text spec moment q s run.counts) listed
+    (written_all told before now text spec moment q options limit slice run ran (subst (λ (m : Option ℕ). IsWithin m run.counts.bad) same within))
 
-stopped_all : {S : Type 0} {kind : StageKind S} (told : Option Folder) (before : OutputAt kind) (now : S) (spec : Spec) (moment : ℤ) (q : model.Query) (options : DelimitedOptions) (limit : ℕ) (spans : List Span)
-    → Told told (λ folder. Kept options spans folder → IsFront (rules_in limit spec moment q) before (past_of (delimited_lines options) false folder spans) now)
-    → IsStopped (F.Sampled options limit) told (now ≡ before.stage) (Front before now) spec moment q spans
-stopped_all None before now spec moment q options limit spans front = tt
-stopped_all (Some folder) before now spec moment q options limit spans front = λ kept. elim (front kept) [
+stopped_all : {S : Type 0} {kind : StageKind S} (told : Option Folder) (before : OutputAt kind) (now : S) (text : RowsText) (spec : Spec) (moment : ℤ) (q : model.Query) (options : DelimitedOptions) (limit : ℕ) (spans : List Span)
+    → Told told (λ folder. Kept options spans folder → IsFront (rules_with limit spec moment q text) before (past_of (delimited_lines options) false folder spans) now)
+    → IsStopped (F.Sampled options limit) told (now ≡ before.stage) (Front before now) text spec moment q spans
+stopped_all None before now text spec moment q options limit spans front = tt
+stopped_all (Some folder) before now text spec moment q options limit spans front = λ kept. elim (front kept) [
   | inl same ↦ inl same
   | inr within ↦ inr (record { plan = within.plan; is_planned = within.planned; front = λ again. within.front })
 ]
 
-pub stopped : {S : Type 0} {kind : StageKind S} (told : Option Folder) (before : OutputAt kind) (now : S) (spec : Spec) (moment : ℤ) (q : model.Query) (options : DelimitedOptions) (limit : ℕ) (slice spans : List Span) (text : RowsText)
-    → slice ≡ spans → text ≡ run_text spec moment q
+pub stopped : {S : Type 0} {kind : StageKind S} (told : Option Folder) (before : OutputAt kind) (now : S) (text : RowsText) (spec : Spec) (moment : ℤ) (q : model.Query) (options : DelimitedOptions) (limit : ℕ) (slice spans : List Span)
+    → slice ≡ spans
     → Told told (λ folder. Kept options slice folder → IsFront (rules_with limit spec moment q text) before (past_of (delimited_lines options) false folder slice) now)
-    → IsStopped (F.Sampled options limit) told (now ≡ before.stage) (Front before now) spec moment q spans
-stopped told before now spec moment q options limit slice spans text listed asked front =
-    let Of : Rules → Type 0 = λ rules. Told told (λ folder. Kept options slice folder → IsFront rules before (past_of (delimited_lines options) false folder slice) now) in
-    subst (λ (s : List Span). IsStopped (F.Sampled options limit) told (now ≡ before.stage) (Front before now) spec moment q s) listed
-    (stopped_all told before now spec moment q options limit slice (as_asked limit spec moment q text asked Of front))
+    → IsStopped (F.Sampled options limit) told (now ≡ before.stage) (Front before now) text spec moment q spans
+stopped told before now text spec moment q options limit slice spans listed front =
+    subst (λ (s : List Span). IsStopped (F.Sampled options limit) told (now ≡ before.stage) (Front before now) text spec moment q s) listed
+    (stopped_all told before now text spec moment q options limit slice front)
 
 -- no plan was made, and nothing written
 
@@ -104,9 +95,9 @@ untouched told before now spec moment q text options limit slice spans fault lis
     subst (λ (s : List Span). IsUntouched (F.Sampled options limit) told (now ≡ before.stage) spec s) listed (untouched_all told before now spec moment q text options limit slice fault refused)
 
 pub refused_stopped : {S : Type 0} {kind : StageKind S} (told : Option Folder) (before : OutputAt kind) (now : S) (spec : Spec) (moment : ℤ) (q : model.Query) (text : RowsText) (options : DelimitedOptions) (limit : ℕ) (slice spans : List Span) (fault : TypeFault)
-    → slice ≡ spans → text ≡ run_text spec moment q → Refuses told before now spec moment q text options limit slice fault → IsStopped (F.Sampled options limit) told (now ≡ before.stage) (Front before now) spec moment q spans
-refused_stopped told before now spec moment q text options limit slice spans fault listed asked refused =
-    stopped told before now spec moment q options limit slice spans text listed asked (front_of told refused)
+    → slice ≡ spans → Refuses told before now spec moment q text options limit slice fault → IsStopped (F.Sampled options limit) told (now ≡ before.stage) (Front before now) text spec moment q spans
+refused_stopped told before now spec moment q text options limit slice spans fault listed refused =
+    stopped told before now text spec moment q options limit slice spans listed (front_of told refused)
   where
     front_of : (told : Option Folder) → Refuses told before now spec moment q text options limit slice fault
         → Told told (λ folder. Kept options slice folder → IsFront (rules_with limit spec moment q text) before (past_of (delimited_lines options) false folder slice) now)

@@ -13,7 +13,7 @@ use Rattle.input_tables.specs.Tables.{lines_of, readings_of, table_of}
 use Rattle.plan_run.specs.Rows.{plan_rows}
 use Rattle.execution.specs.declared.formats.LogFormat.TheVariants as F
 use Rattle.execution.specs.Executed.{Writes, HoldsFront, IsExecuted, IsParseError}
-use Rattle.execution.specs.Texts.{RowsText, run_text}
+use Rattle.execution.specs.Texts.{RowsText}
 
 abbrev Kept : TableFormat → List Span → Folder → Type 0
 Kept format spans folder = AreKept (lines_of format) false spans folder
@@ -21,41 +21,39 @@ Kept format spans folder = AreKept (lines_of format) false spans folder
 abbrev text_with : RowsText → TableFormat → Planned → Folder → List Span → List ℕ
 text_with text format plan folder spans = text true plan.names (plan_rows (readings_of format) plan (lines_of format) false folder spans)
 
-written_all : (told : Option Folder) (Has : List ℕ → Type 0) (spec : Spec) (moment : ℤ) (q : model.Query) (format : TableFormat) (plan : Planned) (spans : List Span) (counts : Counts)
-    → Told told (λ folder. Kept format spans folder → Has (text_with (run_text spec moment q) format plan folder spans))
+written_all : (told : Option Folder) (Has : List ℕ → Type 0) (text : RowsText) (spec : Spec) (format : TableFormat) (plan : Planned) (spans : List Span) (counts : Counts)
+    → Told told (λ folder. Kept format spans folder → Has (text_with text format plan folder spans))
     → Told told (λ folder. Kept format spans folder → counts.processed ≡ length (spans_found (lines_of format) false folder spans))
     → Told told (λ folder. Kept format spans folder → counts.output ≡ length (plan_rows (readings_of format) plan (lines_of format) false folder spans))
     → Told told (λ folder. Kept format spans folder → counts.bad ≡ length (spans_bad (lines_of format) false folder spans))
     → IsWithin spec.errors counts.bad
-    → Told told (λ folder. Kept format spans folder → Writes Has spec moment q (F.Tabled format) plan spans counts folder)
-written_all None Has spec moment q format plan spans counts text processed output bad within = tt
-written_all (Some folder) Has spec moment q format plan spans counts text processed output bad within =
-    λ kept. record { text = text kept; processed = processed kept; output = output kept; bad = bad kept; within = within }
+    → Told told (λ folder. Kept format spans folder → Writes Has text spec (F.Tabled format) plan spans counts folder)
+written_all None Has text spec format plan spans counts gained processed output bad within = tt
+written_all (Some folder) Has text spec format plan spans counts gained processed output bad within =
+    λ kept. record { has = gained kept; processed = processed kept; output = output kept; bad = bad kept; within = within }
 
-pub executed : (told : Option Folder) (Has : List ℕ → Type 0) (spec : Spec) (moment : ℤ) (q : model.Query) (format : TableFormat) (plan : Planned) (slice spans : List Span) (counts : Counts) (most : Option ℕ) (text : RowsText)
-    → slice ≡ spans → plan_of (table_of format) moment q ≡ Ok plan → most ≡ spec.errors → text ≡ run_text spec moment q
+pub executed : (told : Option Folder) (Has : List ℕ → Type 0) (text : RowsText) (spec : Spec) (moment : ℤ) (q : model.Query) (format : TableFormat) (plan : Planned) (slice spans : List Span) (counts : Counts) (most : Option ℕ)
+    → slice ≡ spans → plan_of (table_of format) moment q ≡ Ok plan → most ≡ spec.errors
     → Told told (λ folder. Kept format slice folder → Has (text_with text format plan folder slice))
     → Told told (λ folder. Kept format slice folder → counts.processed ≡ length (spans_found (lines_of format) false folder slice))
     → Told told (λ folder. Kept format slice folder → counts.output ≡ length (plan_rows (readings_of format) plan (lines_of format) false folder slice))
     → Told told (λ folder. Kept format slice folder → counts.bad ≡ length (spans_bad (lines_of format) false folder slice))
     → IsWithin most counts.bad
-    → IsExecuted (F.Tabled format) told Has spec moment q spans counts
-executed told Has spec moment q format plan slice spans counts most text listed planned limit as_asked gained processed output bad within =
-    let Of : List Span → Type 0 = λ s. Told told (λ folder. Kept format s folder → Writes Has spec moment q (F.Tabled format) plan s counts folder) in
-    let asked = subst (λ (t : RowsText). Told told (λ folder. Kept format slice folder → Has (text_with t format plan folder slice))) as_asked gained in
+    → IsExecuted (F.Tabled format) told Has text spec moment q spans counts
+executed told Has text spec moment q format plan slice spans counts most listed planned limit gained processed output bad within =
+    let Of : List Span → Type 0 = λ s. Told told (λ folder. Kept format s folder → Writes Has text spec (F.Tabled format) plan s counts folder) in
     record {
       plan = plan;
       is_planned = planned;
-      written = subst Of listed (written_all told Has spec moment q format plan slice counts asked processed output bad (subst (λ (m : Option ℕ). IsWithin m counts.bad) limit within));
+      written = subst Of listed (written_all told Has text spec format plan slice counts gained processed output bad (subst (λ (m : Option ℕ). IsWithin m counts.bad) limit within));
     }
 
-pub front : (told : Option Folder) (Front : List ℕ → Type 0) (spec : Spec) (moment : ℤ) (q : model.Query) (format : TableFormat) (plan : Planned) (slice spans : List Span) (text : RowsText)
-    → slice ≡ spans → plan_of (table_of format) moment q ≡ Ok plan → text ≡ run_text spec moment q
+pub front : (told : Option Folder) (Front : List ℕ → Type 0) (text : RowsText) (spec : Spec) (moment : ℤ) (q : model.Query) (format : TableFormat) (plan : Planned) (slice spans : List Span)
+    → slice ≡ spans → plan_of (table_of format) moment q ≡ Ok plan
     → Told told (λ folder. Kept format slice folder → Front (text_with text format plan folder slice))
-    → HoldsFront (F.Tabled format) told Front spec moment q spans (table_of format)
-front told Front spec moment q format plan slice spans text listed planned as_asked gained =
-    let Of : List Span → RowsText → Type 0 = λ s t. Told told (λ folder. Kept format s folder → Front (text_with t format plan folder s)) in
-    record { plan = plan; is_planned = planned; front = subst (λ (t : RowsText). Of spans t) as_asked (subst (λ (s : List Span). Of s text) listed gained) }
+    → HoldsFront (F.Tabled format) told Front text spec moment q spans (table_of format)
+front told Front text spec moment q format plan slice spans listed planned gained =
+    record { plan = plan; is_planned = planned; front = subst (λ (s : List Span). Told told (λ folder. Kept format s folder → Front (text_with text format plan folder s))) listed gained }
 
 pub parse_error : (told : Option Folder) (spec : Spec) (moment : ℤ) (q : model.Query) (format : TableFormat) (plan : Planned) (slice spans : List Span) (most : Option ℕ) (line : BadLine)
     → slice ≡ spans → plan_of (table_of format) moment q ≡ Ok plan → most ≡ spec.errors

@@ -7,7 +7,6 @@ ghost use Rattle.any_format.specs.Formats.{text_of};
 ghost use Rattle.query_tree.specs.Views.{query_of};
 ghost use Rattle.query_types.specs.Built.{is_built};
 ghost use Rattle.execution.specs.Executed.{IsExecuted, IsParseError, IsStopped, IsUnplanned, IsUntouched};
-ghost use Rattle.execution.specs.Texts.{run_text};
 ghost use Rattle.execution.specs.Faults.{IfParse, IfPlan, unplanned};
 ghost use Rattle.execution.specs.declared.formats.LogFormat.TheVariants as F;
 
@@ -50,15 +49,14 @@ pub(crate) fn execute_tabled<L: Logs, G: Stage>(
     target: Target,
     stage: &mut G,
 ) -> Result<Ran, RunFault>
-    requires text { text_of shape ≡ run_text spec.now moment.seconds (query_of query.now) }
     requires built { is_built (query_of query.now) ≡ true }
     requires few { length spans.now ≤ 100000 }
     requires spans { AllSpans spans.now IsSpan }
     requires there { Told (L.folder logs.old) (λ folder. AllSpans spans.now (λ span. span.listed ≤ length (bytes_in folder span.name))) }
     ensures grows { OnlyGrow (L.folder logs.old) (L.folder logs.new) }
-    ensures ran { IfOk result (λ ran. IsExecuted (F.Tabled format) (L.folder logs.new) (λ text. GainsText (reached (kind_of G.state G.ended) target stage.old) (placed_at (kind_of G.state G.ended) target.output ran.output stage.new) text) spec.now moment.seconds (query_of query.now) spans.now ran.counts) }
+    ensures ran { IfOk result (λ ran. IsExecuted (F.Tabled format) (L.folder logs.new) (λ text. GainsText (reached (kind_of G.state G.ended) target stage.old) (placed_at (kind_of G.state G.ended) target.output ran.output stage.new) text) (text_of shape) spec.now moment.seconds (query_of query.now) spans.now ran.counts) }
     ensures ended { IfOk result (λ ran. G.ended stage.new ran.output.name ran.output.base ran.output.mark) }
-    ensures stopped { OnErr result (IsStopped (F.Tabled format) (L.folder logs.new) (stage.new ≡ stage.old) (λ text. GainsFront (reached (kind_of G.state G.ended) target stage.old) stage.new text) spec.now moment.seconds (query_of query.now) spans.now) }
+    ensures stopped { OnErr result (IsStopped (F.Tabled format) (L.folder logs.new) (stage.new ≡ stage.old) (λ text. GainsFront (reached (kind_of G.state G.ended) target stage.old) stage.new text) (text_of shape) spec.now moment.seconds (query_of query.now) spans.now) }
     ensures plan { IfPlan result (IsUnplanned (F.Tabled format) (L.folder logs.new) spec.now moment.seconds (query_of query.now) spans.now) }
     ensures before { IfPlan result (λ fault. IsUntouched (F.Tabled format) (L.folder logs.new) (stage.new ≡ stage.old) spec.now spans.now) }
     ensures parse { IfParse result (IsParseError (F.Tabled format) (L.folder logs.new) spec.now moment.seconds (query_of query.now) spans.now) }

@@ -6,33 +6,33 @@ use Rattle.execution.proofs.sampled.execute_sampled.Goals as goal
 
 pub returns-in-Ok-clause-ran : goal.returns-in-Ok-clause-ran
 returns-in-Ok-clause-ran g c =
-    executed (g.L.Logs.folder c.run_sampled.new.logs) (reached (kind_of g.G.Stage.state g.G.Stage.ended) c.args.target c.args.stage.now) c.run_sampled.new.stage c.args.spec.now c.args.moment.seconds (query_of c.args.query.now)
-    c.args.options c.args.limit c.as_slice.result.now c.args.spans.now c.in-Ok.run' c.most_bad.result (text_of c.args.shape) c.as_slice.ensures c.most_bad.ensures c.requires.text c.in-Ok.ensures.ran c.in-Ok.ensures.within
+    executed (g.L.Logs.folder c.run_sampled.new.logs) (reached (kind_of g.G.Stage.state g.G.Stage.ended) c.args.target c.args.stage.now) c.run_sampled.new.stage (text_of c.args.shape) c.args.spec.now c.args.moment.seconds (query_of c.args.query.now)
+    c.args.options c.args.limit c.as_slice.result.now c.args.spans.now c.in-Ok.run' c.most_bad.result c.as_slice.ensures c.most_bad.ensures c.in-Ok.ensures.ran c.in-Ok.ensures.within
 
 pub returns-in-Err-Bad-clause-stopped : goal.returns-in-Err-Bad-clause-stopped
 returns-in-Err-Bad-clause-stopped g c =
-    stopped (g.L.Logs.folder c.run_sampled.new.logs) (reached (kind_of g.G.Stage.state g.G.Stage.ended) c.args.target c.args.stage.now) c.run_sampled.new.stage c.args.spec.now c.args.moment.seconds (query_of c.args.query.now)
-    c.args.options c.args.limit c.as_slice.result.now c.args.spans.now (text_of c.args.shape) c.as_slice.ensures c.requires.text (rw c.in-Err-Bad.field-0-is at c.in-Err-Bad.ensures.stopped)
+    stopped (g.L.Logs.folder c.run_sampled.new.logs) (reached (kind_of g.G.Stage.state g.G.Stage.ended) c.args.target c.args.stage.now) c.run_sampled.new.stage (text_of c.args.shape) c.args.spec.now c.args.moment.seconds (query_of c.args.query.now)
+    c.args.options c.args.limit c.as_slice.result.now c.args.spans.now c.as_slice.ensures (rw c.in-Err-Bad.field-0-is at c.in-Err-Bad.ensures.stopped)
 
 pub returns-in-Err-Logs-clause-stopped : goal.returns-in-Err-Logs-clause-stopped
 returns-in-Err-Logs-clause-stopped g c =
-    stopped (g.L.Logs.folder c.run_sampled.new.logs) (reached (kind_of g.G.Stage.state g.G.Stage.ended) c.args.target c.args.stage.now) c.run_sampled.new.stage c.args.spec.now c.args.moment.seconds (query_of c.args.query.now)
-    c.args.options c.args.limit c.as_slice.result.now c.args.spans.now (text_of c.args.shape) c.as_slice.ensures c.requires.text (rw c.in-Err-Logs.field-0-is at c.in-Err-Logs.ensures.stopped)
+    stopped (g.L.Logs.folder c.run_sampled.new.logs) (reached (kind_of g.G.Stage.state g.G.Stage.ended) c.args.target c.args.stage.now) c.run_sampled.new.stage (text_of c.args.shape) c.args.spec.now c.args.moment.seconds (query_of c.args.query.now)
+    c.args.options c.args.limit c.as_slice.result.now c.args.spans.now c.as_slice.ensures (rw c.in-Err-Logs.field-0-is at c.in-Err-Logs.ensures.stopped)
 
 pub returns-in-Err-Output-clause-stopped : goal.returns-in-Err-Output-clause-stopped
 returns-in-Err-Output-clause-stopped g c =
-    stopped (g.L.Logs.folder c.run_sampled.new.logs) (reached (kind_of g.G.Stage.state g.G.Stage.ended) c.args.target c.args.stage.now) c.run_sampled.new.stage c.args.spec.now c.args.moment.seconds (query_of c.args.query.now)
-    c.args.options c.args.limit c.as_slice.result.now c.args.spans.now (text_of c.args.shape) c.as_slice.ensures c.requires.text (rw c.in-Err-Output.field-0-is at c.in-Err-Output.ensures.stopped)
+    stopped (g.L.Logs.folder c.run_sampled.new.logs) (reached (kind_of g.G.Stage.state g.G.Stage.ended) c.args.target c.args.stage.now) c.run_sampled.new.stage (text_of c.args.shape) c.args.spec.now c.args.moment.seconds (query_of c.args.query.now)
+    c.args.options c.args.limit c.as_slice.result.now c.args.spans.now c.as_slice.ensures (rw c.in-Err-Output.field-0-is at c.in-Err-Output.ensures.stopped)
 
 pub returns-clause-stopped : goal.returns-clause-stopped
 returns-clause-stopped g c =
-    stopped (g.L.Logs.folder c.run_sampled.new.logs) (reached (kind_of g.G.Stage.state g.G.Stage.ended) c.args.target c.args.stage.now) c.run_sampled.new.stage c.args.spec.now c.args.moment.seconds (query_of c.args.query.now)
-    c.args.options c.args.limit c.as_slice.result.now c.args.spans.now (text_of c.args.shape) c.as_slice.ensures c.requires.text (rw c.in-Err-Memory.field-0-is at c.in-Err-Memory.ensures.stopped)
+    stopped (g.L.Logs.folder c.run_sampled.new.logs) (reached (kind_of g.G.Stage.state g.G.Stage.ended) c.args.target c.args.stage.now) c.run_sampled.new.stage (text_of c.args.shape) c.args.spec.now c.args.moment.seconds (query_of c.args.query.now)
+    c.args.options c.args.limit c.as_slice.result.now c.args.spans.now c.as_slice.ensures (rw c.in-Err-Memory.field-0-is at c.in-Err-Memory.ensures.stopped)
 
 pub returns-in-Err-Plan-clause-stopped : goal.returns-in-Err-Plan-clause-stopped
 returns-in-Err-Plan-clause-stopped g c =
     refused_stopped (g.L.Logs.folder c.run_sampled.new.logs) (reached (kind_of g.G.Stage.state g.G.Stage.ended) c.args.target c.args.stage.now) c.run_sampled.new.stage c.args.spec.now c.args.moment.seconds (query_of c.args.query.now)
-    (text_of c.args.shape) c.args.options c.args.limit c.as_slice.result.now c.args.spans.now _ c.as_slice.ensures c.requires.text (rw c.in-Err-Plan.field-0-is at c.in-Err-Plan.ensures.stopped)
+    (text_of c.args.shape) c.args.options c.args.limit c.as_slice.result.now c.args.spans.now _ c.as_slice.ensures (rw c.in-Err-Plan.field-0-is at c.in-Err-Plan.ensures.stopped)
 
 pub returns-in-Err-Plan-clause-plan : goal.returns-in-Err-Plan-clause-plan
 returns-in-Err-Plan-clause-plan g c =
