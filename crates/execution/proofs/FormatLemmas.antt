@@ -66,11 +66,6 @@ first_of_three : (a b c : Bool) → (a && b && c) ≡ true → a ≡ true
 first_of_three true b c is = refl
 first_of_three false b c is = let same : false ≡ true = is in absurd cc
 
--- where all is built, the text is
-pub built_text : (spec : Spec) (q : Query) → all_built spec q ≡ true → has_text (output_of spec q) ≡ true
-built_text spec q built =
-    first_true (has_text (output_of spec q)) (is_none spec.checkpoint) (first_of_three (are_options_built spec q) (is_built q) (not (reads_stdin (names_in q))) built)
-
 -- where all is built, the query is
 pub built_query : (spec : Spec) (q : Query) → all_built spec q ≡ true → is_built q ≡ true
 built_query spec q built = middle_true (are_options_built spec q) (is_built q) (not (reads_stdin (names_in q))) built

@@ -40,7 +40,7 @@ pub record IsWritten {S : Type 0} {kind : StageKind S} (rules : Rules) (start : 
   pub plan : Planned
   pub planned : plan_at rules past ≡ Ok plan
   pub text : GainsText start (placed_at kind start.output output now) (text_at rules past plan)
-  pub rows : many ≡ length (rules.shown (rows_at rules past plan))
+  pub rows : many ≡ length (rules.shown plan (rows_at rules past plan))
 
 -- the whole text was written, and its counts are those of the spans
 pub record IsSampled {S : Type 0} {kind : StageKind S} (rules : Rules) (start : OutputAt kind) (past : Past) (format : Format) (waits : Bool) (folder : Folder) (spans : List Span) (run : Written) (now : S) : Type 0 where

@@ -8,17 +8,19 @@ ghost use Rattle.query_tree.specs.Views.{query_of};
 ghost use Rattle.query_types.specs.Built.{is_built};
 ghost use Rattle.column_kinds.specs.Spans.{past_behind};
 ghost use Rattle.sampled_run.specs.Fresh.{IsFresh};
+ghost use Rattle.sampled_run.specs.Finishes.{shown_by, text_by};
 ghost use Rattle.sampled_run.specs.Rules.{rules_of};
 ghost use Rattle.sampled_run.specs.Ran.{IsSampled, IsStoppedBy, OnBadOne, fault_in, fault_of};
 
 use crate::ending::finish_run;
 use crate::{Moment, SampleFault, TextMaker};
+use any_format::Format;
 use column_kinds::{Gathering, KeptRows, Phase, Sampled, Stop};
+use finished_text::RowsText;
 use line_input::{Fields, LineReader, Splitter, Standing};
 use log_reading::{Page, RunFault, Span, TookList, take_spans};
 use lp_outside::{Logs, Stage};
 use lp_time::Pattern;
-use output_formats::Shape;
 use query_run::{Counts, Target, Writer, Written};
 use query_tree::Query;
 use sampled_table::SampledPicker;
@@ -60,7 +62,7 @@ fn fault_of(stop: Stop) -> SampleFault
 }
 
 // The page before the first log.
-fn first_page<'a, F: Shape + Drop>(
+fn first_page<'a>(
     alloc: Global,
     limit: u32,
     pattern: &'a Pattern,
@@ -68,11 +70,11 @@ fn first_page<'a, F: Shape + Drop>(
     query: &'a Query,
     fresh: bool,
     most_bad: Option<u64>,
-    shape: F,
+    format: Format,
     target: Target,
-) -> Page<Sampled<'a, TextMaker<'a, F>, Writer<F, SampledPicker<'a>>>>
+) -> Page<Sampled<'a, TextMaker<'a>, Writer<RowsText, SampledPicker<'a>>>>
     requires { is_built (query_of query.now) ≡ true }
-    ensures fresh { IsFresh limit pattern.now moment.seconds (query_of query.now) fresh shape target result.taker }
+    ensures fresh { IsFresh limit pattern.now moment.seconds (query_of query.now) fresh format target result.taker }
     ensures rows { result.rows ≡ 0 }
     ensures bad { result.bad ≡ 0 }
     ensures most { result.most_bad ≡ most_bad }
@@ -89,7 +91,7 @@ fn first_page<'a, F: Shape + Drop>(
                     moment,
                     query,
                     fresh,
-                    shape,
+                    format,
                     target,
                 },
             }),
@@ -104,7 +106,7 @@ fn first_page<'a, F: Shape + Drop>(
 }
 
 /// Writes the output rows of a query over the records of spans, joined in order, whose columns they tell, by a reader of their format.
-pub(crate) fn sample_reader<'a, R: LineReader, L: Logs, F: Shape + Drop, G: Stage>(
+pub(crate) fn sample_reader<'a, R: LineReader, L: Logs, G: Stage>(
     alloc: Global,
     reader: &R,
     limit: u32,
@@ -116,7 +118,7 @@ pub(crate) fn sample_reader<'a, R: LineReader, L: Logs, F: Shape + Drop, G: Stag
     waits: bool,
     logs: &mut L,
     spans: &[Span],
-    shape: F,
+    format: Format,
     target: Target,
     took: &mut TookList,
     stage: &mut G,
@@ -127,10 +129,10 @@ pub(crate) fn sample_reader<'a, R: LineReader, L: Logs, F: Shape + Drop, G: Stag
     requires there { Told (L.folder logs.old) (λ folder. AllSpans spans.now (λ span. span.listed ≤ length (bytes_in folder span.name))) }
     ensures grows { OnlyGrow (L.folder logs.old) (L.folder logs.new) }
     ensures ran { IfOk result (λ run. Told (L.folder logs.new) (λ folder. AreKept (R.format reader.now) waits spans.now folder
-        → IsSampled (rules_of limit pattern.now moment.seconds (query_of query.now) fresh (F.text shape) (F.shown shape)) (reached (kind_of G.state G.ended) target stage.old) (past_behind (R.format reader.now) waits folder (record { first = None; founds = [] }) spans.now) (R.format reader.now) waits folder spans.now run stage.new)) }
+        → IsSampled (rules_of limit pattern.now moment.seconds (query_of query.now) fresh (text_by format (query_of query.now)) (shown_by (query_of query.now))) (reached (kind_of G.state G.ended) target stage.old) (past_behind (R.format reader.now) waits folder (record { first = None; founds = [] }) spans.now) (R.format reader.now) waits folder spans.now run stage.new)) }
     ensures ended { IfOk result (λ run. G.ended stage.new run.output.name run.output.base run.output.mark) }
     ensures stopped { IfErr result (λ fault. Told (L.folder logs.new) (λ folder. AreKept (R.format reader.now) waits spans.now folder
-        → IsStoppedBy (rules_of limit pattern.now moment.seconds (query_of query.now) fresh (F.text shape) (F.shown shape)) (reached (kind_of G.state G.ended) target stage.old) (past_behind (R.format reader.now) waits folder (record { first = None; founds = [] }) spans.now) fault stage.new)) }
+        → IsStoppedBy (rules_of limit pattern.now moment.seconds (query_of query.now) fresh (text_by format (query_of query.now)) (shown_by (query_of query.now))) (reached (kind_of G.state G.ended) target stage.old) (past_behind (R.format reader.now) waits folder (record { first = None; founds = [] }) spans.now) fault stage.new)) }
     ensures within { IfOk result (λ run. IsWithin most_bad run.counts.bad) }
     ensures too_many { IfErr result (λ fault. OnBadOne fault (λ line. Told (L.folder logs.new) (λ folder. AreKept (R.format reader.now) waits spans.now folder
         → IsTooMany most_bad 0 (spans_bad_lines (R.format reader.now) waits folder spans.now) line))) }
@@ -147,7 +149,7 @@ pub(crate) fn sample_reader<'a, R: LineReader, L: Logs, F: Shape + Drop, G: Stag
         return Err(SampleFault::Memory);
     };
     let mut page = first_page(
-        alloc, limit, pattern, moment, query, fresh, most_bad, shape, target,
+        alloc, limit, pattern, moment, query, fresh, most_bad, format, target,
     );
     match take_spans(
         alloc, reader, waits, logs, spans, &mut chunk, &mut page, took, stage,

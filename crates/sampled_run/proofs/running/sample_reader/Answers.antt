@@ -1,4 +1,6 @@
 use Rattle.std.proofs.Common.{[], refl, sym, ◌∙◌, ap, subst, Err, false, ℕ, Option, None, arith}
+use Rattle.finished_text.specs.RowsTexts.{rows_text_of, HasRowsText, shown_of}
+use Rattle.sampled_run.specs.Finishes.{shown_by, text_by}
 use Rattle.lp_model.proofs.Growing.{OnlyGrow-refl}
 use Rattle.lp_model.specs.Outside.{Told}
 use Rattle.query_run.specs.Output.{kind_of, reached}
@@ -33,7 +35,7 @@ take_spans-requires-clause-bad g c =
 pub take_spans-requires-clause-taken : goal.take_spans-requires-clause-taken
 take_spans-requires-clause-taken g c =
     let room = has_room c.args.spans.now c.requires.spans c.requires.few in
-    let none = taken_none (λ w. w.taken) c.args.pattern.now c.args.moment.seconds (query_of c.args.query.now) c.args.fresh c.args.shape c.args.target c.first_page-page.result.taker.phase c.first_page-page.ensures.fresh.phase in
+    let none = taken_none (λ w. w.taken) c.args.pattern.now c.args.moment.seconds (query_of c.args.query.now) c.args.fresh c.args.format c.args.target c.first_page-page.result.taker.phase c.first_page-page.ensures.fresh.phase in
     omega arith
 
 pub take_spans-requires-clause-within : goal.take_spans-requires-clause-within
@@ -46,19 +48,19 @@ returns-in_default-clause-grows g c = OnlyGrow-refl _
 
 pub returns-in_default-clause-stopped : goal.returns-in_default-clause-stopped
 returns-in_default-clause-stopped g c =
-    stopped_at_once (rules_of c.args.limit c.args.pattern.now c.args.moment.seconds (query_of c.args.query.now) c.args.fresh (g.F.Shape.text c.args.shape) (g.F.Shape.shown c.args.shape)) (g.R.LineReader.format c.args.reader.now) c.args.waits (g.L.Logs.folder c.args.logs.now) c.args.spans.now (reached (kind_of g.G.Stage.state g.G.Stage.ended) c.args.target c.args.stage.now)
+    stopped_at_once (rules_of c.args.limit c.args.pattern.now c.args.moment.seconds (query_of c.args.query.now) c.args.fresh (text_by c.args.format (query_of c.args.query.now)) (shown_by (query_of c.args.query.now))) (g.R.LineReader.format c.args.reader.now) c.args.waits (g.L.Logs.folder c.args.logs.now) c.args.spans.now (reached (kind_of g.G.Stage.state g.G.Stage.ended) c.args.target c.args.stage.now)
 
 pub returns-in-Err-clause-stopped : goal.returns-in-Err-clause-stopped
 returns-in-Err-clause-stopped g c =
-    let rules = rules_of c.args.limit c.args.pattern.now c.args.moment.seconds (query_of c.args.query.now) c.args.fresh (g.F.Shape.text c.args.shape) (g.F.Shape.shown c.args.shape) in
+    let rules = rules_of c.args.limit c.args.pattern.now c.args.moment.seconds (query_of c.args.query.now) c.args.fresh (text_by c.args.format (query_of c.args.query.now)) (shown_by (query_of c.args.query.now)) in
     let format = g.R.LineReader.format c.args.reader.now in
     let told = g.L.Logs.folder c.take_spans.new.logs in
     let u = (reached (kind_of g.G.Stage.state g.G.Stage.ended) c.args.target c.args.stage.now) in
     let v = c.take_spans.new.out in
     let Of : SampleFault → Type 0 = λ fault. Told told (λ folder. AreKept format c.args.waits c.args.spans.now folder → IsStoppedBy rules u (past_behind format c.args.waits folder (record { first = None; founds = [] }) c.args.spans.now) fault v) in
     subst Of (sym c.fault_in.ensures)
-    (stopped_reading (kind_of g.G.Stage.state g.G.Stage.ended) g.F.Shape.text g.F.Shape.has_text g.F.Shape.shown rules format c.args.waits told c.args.spans.now c.first_page-page.result c.take_spans.new.page c.args.target c.args.stage.now v c.in-Err.fault (fresh_begins (kind_of g.G.Stage.state g.G.Stage.ended) g.F.Shape.text g.F.Shape.has_text g.F.Shape.shown c.args.limit c.args.pattern.now c.args.moment.seconds (query_of c.args.query.now) c.args.fresh c.args.shape c.args.target c.first_page-page.result.taker c.args.stage.now c.first_page-page.ensures.fresh)
-    (halts_spans (writer_kind (kind_of g.G.Stage.state g.G.Stage.ended) g.F.Shape.text g.F.Shape.has_text g.F.Shape.shown) format c.args.waits told c.args.spans.now c.first_page-page.result.taker c.take_spans.new.page.taker c.args.stage.now v c.in-Err.ensures.stops))
+    (stopped_reading (kind_of g.G.Stage.state g.G.Stage.ended) rows_text_of HasRowsText shown_of rules format c.args.waits told c.args.spans.now c.first_page-page.result c.take_spans.new.page c.args.target c.args.stage.now v c.in-Err.fault (fresh_begins (kind_of g.G.Stage.state g.G.Stage.ended) rows_text_of HasRowsText shown_of c.args.limit c.args.pattern.now c.args.moment.seconds (query_of c.args.query.now) c.args.fresh c.args.format c.args.target c.first_page-page.result.taker c.args.stage.now c.first_page-page.ensures.fresh)
+    (halts_spans (writer_kind (kind_of g.G.Stage.state g.G.Stage.ended) rows_text_of HasRowsText shown_of) format c.args.waits told c.args.spans.now c.first_page-page.result.taker c.take_spans.new.page.taker c.args.stage.now v c.in-Err.ensures.stops))
 
 pub returns-in-Err-clause-too_many : goal.returns-in-Err-clause-too_many
 returns-in-Err-clause-too_many g c =
@@ -81,20 +83,20 @@ returns-in-Err-clause-output g c = λ is. c.in-Err.ensures.output (ap (λ (f : R
 
 pub returns-in-Ok-finish_run-clause-ran : goal.returns-in-Ok-finish_run-clause-ran
 returns-in-Ok-finish_run-clause-ran g c =
-    let rules = rules_of c.args.limit c.args.pattern.now c.args.moment.seconds (query_of c.args.query.now) c.args.fresh (g.F.Shape.text c.args.shape) (g.F.Shape.shown c.args.shape) in
+    let rules = rules_of c.args.limit c.args.pattern.now c.args.moment.seconds (query_of c.args.query.now) c.args.fresh (text_by c.args.format (query_of c.args.query.now)) (shown_by (query_of c.args.query.now)) in
     let format = g.R.LineReader.format c.args.reader.now in
     let told = g.L.Logs.folder c.take_spans.new.logs in
-    ran (kind_of g.G.Stage.state g.G.Stage.ended) g.F.Shape.text g.F.Shape.has_text g.F.Shape.shown rules format c.args.waits told c.args.spans.now c.first_page-page.result c.take_spans.new.page c.args.target c.args.stage.now c.take_spans.new.out c.finish_run.new.stage
+    ran (kind_of g.G.Stage.state g.G.Stage.ended) rows_text_of HasRowsText shown_of rules format c.args.waits told c.args.spans.now c.first_page-page.result c.take_spans.new.page c.args.target c.args.stage.now c.take_spans.new.out c.finish_run.new.stage
     (record { counts = record { processed = c.take_spans.new.page.rows; output = c.in-Ok-finish_run.end.rows; bad = c.take_spans.new.page.bad }; output = c.in-Ok-finish_run.end.output })
-    (fresh_begins (kind_of g.G.Stage.state g.G.Stage.ended) g.F.Shape.text g.F.Shape.has_text g.F.Shape.shown c.args.limit c.args.pattern.now c.args.moment.seconds (query_of c.args.query.now) c.args.fresh c.args.shape c.args.target c.first_page-page.result.taker c.args.stage.now c.first_page-page.ensures.fresh) c.first_page-page.ensures.rows c.first_page-page.ensures.bad refl refl (samples_spans (writer_kind (kind_of g.G.Stage.state g.G.Stage.ended) g.F.Shape.text g.F.Shape.has_text g.F.Shape.shown) format c.args.waits told c.args.spans.now c.first_page-page.result c.take_spans.new.page c.args.stage.now c.take_spans.new.out c.in-Ok-take_spans.ensures.takes) c.in-Ok-finish_run.ensures.written
+    (fresh_begins (kind_of g.G.Stage.state g.G.Stage.ended) rows_text_of HasRowsText shown_of c.args.limit c.args.pattern.now c.args.moment.seconds (query_of c.args.query.now) c.args.fresh c.args.format c.args.target c.first_page-page.result.taker c.args.stage.now c.first_page-page.ensures.fresh) c.first_page-page.ensures.rows c.first_page-page.ensures.bad refl refl (samples_spans (writer_kind (kind_of g.G.Stage.state g.G.Stage.ended) rows_text_of HasRowsText shown_of) format c.args.waits told c.args.spans.now c.first_page-page.result c.take_spans.new.page c.args.stage.now c.take_spans.new.out c.in-Ok-take_spans.ensures.takes) c.in-Ok-finish_run.ensures.written
 
 pub returns-clause-stopped : goal.returns-clause-stopped
 returns-clause-stopped g c =
-    let rules = rules_of c.args.limit c.args.pattern.now c.args.moment.seconds (query_of c.args.query.now) c.args.fresh (g.F.Shape.text c.args.shape) (g.F.Shape.shown c.args.shape) in
+    let rules = rules_of c.args.limit c.args.pattern.now c.args.moment.seconds (query_of c.args.query.now) c.args.fresh (text_by c.args.format (query_of c.args.query.now)) (shown_by (query_of c.args.query.now)) in
     let format = g.R.LineReader.format c.args.reader.now in
     let told = g.L.Logs.folder c.take_spans.new.logs in
     let u = (reached (kind_of g.G.Stage.state g.G.Stage.ended) c.args.target c.args.stage.now) in
     let w = c.finish_run.new.stage in
     let Of : SampleFault → Type 0 = λ fault. Told told (λ folder. AreKept format c.args.waits c.args.spans.now folder → IsStoppedBy rules u (past_behind format c.args.waits folder (record { first = None; founds = [] }) c.args.spans.now) fault w) in
     subst Of (sym c.fault_of.ensures)
-    (stopped_ending (kind_of g.G.Stage.state g.G.Stage.ended) g.F.Shape.text g.F.Shape.has_text g.F.Shape.shown rules format c.args.waits told c.args.spans.now c.first_page-page.result c.take_spans.new.page c.args.target c.args.stage.now c.take_spans.new.out w c.in-Err-finish_run.stop (fresh_begins (kind_of g.G.Stage.state g.G.Stage.ended) g.F.Shape.text g.F.Shape.has_text g.F.Shape.shown c.args.limit c.args.pattern.now c.args.moment.seconds (query_of c.args.query.now) c.args.fresh c.args.shape c.args.target c.first_page-page.result.taker c.args.stage.now c.first_page-page.ensures.fresh) (samples_spans (writer_kind (kind_of g.G.Stage.state g.G.Stage.ended) g.F.Shape.text g.F.Shape.has_text g.F.Shape.shown) format c.args.waits told c.args.spans.now c.first_page-page.result c.take_spans.new.page c.args.stage.now c.take_spans.new.out c.in-Ok-take_spans.ensures.takes) c.in-Err-finish_run.ensures.stopped)
+    (stopped_ending (kind_of g.G.Stage.state g.G.Stage.ended) rows_text_of HasRowsText shown_of rules format c.args.waits told c.args.spans.now c.first_page-page.result c.take_spans.new.page c.args.target c.args.stage.now c.take_spans.new.out w c.in-Err-finish_run.stop (fresh_begins (kind_of g.G.Stage.state g.G.Stage.ended) rows_text_of HasRowsText shown_of c.args.limit c.args.pattern.now c.args.moment.seconds (query_of c.args.query.now) c.args.fresh c.args.format c.args.target c.first_page-page.result.taker c.args.stage.now c.first_page-page.ensures.fresh) (samples_spans (writer_kind (kind_of g.G.Stage.state g.G.Stage.ended) rows_text_of HasRowsText shown_of) format c.args.waits told c.args.spans.now c.first_page-page.result c.take_spans.new.page c.args.stage.now c.take_spans.new.out c.in-Ok-take_spans.ensures.takes) c.in-Err-finish_run.ensures.stopped)
