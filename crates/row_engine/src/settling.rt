@@ -275,11 +275,11 @@ pub fn settled(alloc: Global, plan: &Plan) -> Result<Plan, AllocError>
     ensures settled_items { IfOk result (λ now. list_all is_settled now.items ≡ true) }
     ensures settled_where { IfOk result (λ now. is_settled_where (option_map filter_of now.condition) ≡ true) }
 {
-    let kinds = copied(alloc, &plan.kinds)?;
-    let used = copied(alloc, &plan.used)?;
-    let names = copy_texts(alloc, &plan.names)?;
     let items = settled_meanings(alloc, &plan.items)?;
     let condition = settled_where(alloc, &plan.condition)?;
+    let names = copy_texts(alloc, &plan.names)?;
+    let kinds = copied(alloc, &plan.kinds)?;
+    let used = copied(alloc, &plan.used)?;
     Ok(Plan {
         items,
         names,
