@@ -24,6 +24,7 @@ fn status(word: &str) -> Result<Status, Fail> {
         }),
         "open" => Status::Query(QueryFault::Lex(LexFault::OpenBracket { at: 65535 })),
         "few" => Status::Query(QueryFault::Plan(TypeFault::TooFewColumns { at: 21 })),
+        "select" => Status::Query(QueryFault::Plan(TypeFault::NotInSelect { at: 33 })),
         "logs" => Status::LogsFault,
         _ => parse_errors()?,
     })
@@ -42,6 +43,7 @@ clock => 2 Some(\"logparser: clock\\n\")
 usage => 2 Some(\"logparser: usage: word 4294967295: needs -tpl\\n\")
 open => 3 Some(\"logparser: query: at 65535: open bracket\\n\")
 few => 3 Some(\"logparser: query: at 21: too few columns\\n\")
+select => 3 Some(\"logparser: query: at 33: not in select\\n\")
 logs => 5 Some(\"logparser: read fault: logs\\n\")
 row => 8 Some(\"logparser: parse errors: logs/ex 1.log row 4096\\n\")";
 

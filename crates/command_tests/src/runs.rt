@@ -26,10 +26,25 @@ fn sink(alloc: Global, is_failing: bool, call: u64) -> Result<MemorySink, AllocE
     Ok(sink)
 }
 
-fn words(alloc: Global, name: &str) -> Result<TextList, AllocError> {
+// What stands behind FROM, with `+` for a blank, and the log that it begins with.
+fn query(alloc: Global, from: &str) -> Result<Text, AllocError> {
+    let mut query = Bytes::new(alloc);
+    query.add(b"SELECT * FROM")?;
+    for word in from.split('+') {
+        query.push(b' ')?;
+        query.add(word.as_bytes())?;
+    }
+    Text::read(alloc, query.as_slice())
+}
+
+fn log(from: &str) -> &str {
+    from.split('+').next().unwrap_or("")
+}
+
+fn words(alloc: Global, from: &str) -> Result<TextList, AllocError> {
     let mut words = TextList::new(alloc);
     words.push(Text::from_str(alloc, "-o:CSV")?)?;
-    words.push(Text::from_string(format!(in alloc; "SELECT * FROM {name}")?))?;
+    words.push(query(alloc, from)?)?;
     Ok(words)
 }
 
@@ -47,11 +62,11 @@ fn status_of(
 }
 
 // The code of a run over a log at a moment, where a call of an object fails, and what it writes, with `/` for a line's end.
-fn told(alloc: Global, name: &str, moment: i64, failing: &str, call: u64) -> Result<Bytes, Fail> {
-    let mut logs = logs(alloc, name, failing, call)?;
+fn told(alloc: Global, from: &str, moment: i64, failing: &str, call: u64) -> Result<Bytes, Fail> {
+    let mut logs = logs(alloc, log(from), failing, call)?;
     let mut out = sink(alloc, failing == "out", call)?;
     let mut err = sink(alloc, failing == "err", call)?;
-    let words = words(alloc, name)?;
+    let words = words(alloc, from)?;
     let status = status_of(alloc, &words, moment, &mut logs, &mut out, &mut err);
     let mut told = Bytes::new(alloc);
     told.add(format!(in alloc; "{} ", status.code())?.as_str().as_bytes())?;
@@ -64,6 +79,10 @@ fn told(alloc: Global, name: &str, moment: i64, failing: &str, call: u64) -> Res
 const ROWS: &str = "\
 a.log 0 none 0 => 0 LogFilename,Index,Text/a.log,1,a/a.log,2,b/Statistics:/-----------/Elements processed: 2/Elements output:    2/
 a.csv 253402300799 none 0 => 0 Filename,RowNumber,a/a.csv,2,b/Statistics:/-----------/Elements processed: 1/Elements output:    1/
+a.log+ORDER+BY+Text+DESC 0 none 0 => 0 LogFilename,Index,Text/a.log,2,b/a.log,1,a/Statistics:/-----------/Elements processed: 2/Elements output:    2/
+a.csv+ORDER+BY+a 0 none 0 => 0 Filename,RowNumber,a/a.csv,2,b/Statistics:/-----------/Elements processed: 1/Elements output:    1/
+a.log+ORDER+BY+Text,STRLEN(Text) 0 none 0 => 3 logparser: query: at 34: not in select/
+a.csv+ORDER+BY+Text 0 none 0 => 3 logparser: query: at 29: unknown field/
 a.log -1 none 0 => 2 logparser: clock/
 a.log 253402300800 none 0 => 2 logparser: clock/
 a.log 0 logs 0 => 5 logparser: read fault: logs/

@@ -1,5 +1,5 @@
 -- How the logs of a run are read.
-use Rattle.std.proofs.Common.{◌≡◌, ℕ, Bool, true, false, not, ◌&&◌, [], None, is_none, refl, subst, sym, inl, inr, arith}
+use Rattle.std.proofs.Common.{◌≡◌, ℕ, Bool, true, false, not, ◌&&◌, [], None, refl, subst, sym, inl, inr, arith}
 use Rattle.grammar.specs.Trees.{Query}
 use Rattle.query_text.specs.Stdin.{names_in}
 use Rattle.query_types.specs.Built.{is_built}
@@ -15,7 +15,6 @@ use Rattle.input_tables.proofs.Formats.{lines_start as table_start}
 use Rattle.execution.specs.declared.formats.LogFormat.{LogFormat}
 use Rattle.execution.specs.declared.formats.LogFormat.TheVariants as F
 use Rattle.execution.specs.Formats.{csv_options, format_of, lines_in, tsv_options}
-use Rattle.execution.specs.Texts.{has_text, output_of}
 
 -- no columns are in force before the first line
 pub lines_start : (format : LogFormat) → (lines_in format).columns_after [] ≡ None
@@ -65,11 +64,6 @@ first_true false b is = let same : false ≡ true = is in absurd cc
 first_of_three : (a b c : Bool) → (a && b && c) ≡ true → a ≡ true
 first_of_three true b c is = refl
 first_of_three false b c is = let same : false ≡ true = is in absurd cc
-
--- where all is built, the text is
-pub built_text : (spec : Spec) (q : Query) → all_built spec q ≡ true → has_text (output_of spec q) ≡ true
-built_text spec q built =
-    first_true (has_text (output_of spec q)) (is_none spec.checkpoint) (first_of_three (are_options_built spec q) (is_built q) (not (reads_stdin (names_in q))) built)
 
 -- where all is built, the query is
 pub built_query : (spec : Spec) (q : Query) → all_built spec q ≡ true → is_built q ≡ true

@@ -1,5 +1,5 @@
 -- What a query writes, told in other words for an output.
-use Rattle.std.proofs.Common.{◌≡◌, ◌⊎◌, ℕ, ℤ, false, List, Option, Some, None, Result, Ok, Err, inl, inr}
+use Rattle.std.proofs.Common.{◌⊎◌, ℕ, ℤ, false, List, Option, Some, None, Result, Ok, Err, inl, inr}
 use Rattle.grammar.specs.Trees as model
 use Rattle.lp_model.specs.Outside.{Folder, Told}
 use Rattle.lp_time.specs.declared.piece.Piece.{Piece}
@@ -16,6 +16,7 @@ use Rattle.execution.specs.Faults.{IfPlan}
 use Rattle.execution.specs.declared.fault.RunFault.{RunFault}
 use Rattle.execution.specs.declared.fault.RunFault.TheVariants as X
 use Rattle.query_types.specs.declared.fault.TypeFault.{TypeFault}
+use Rattle.execution.specs.Texts.{RowsText}
 use Rattle.execution.specs.Executed.{OnTable, Writes, WritesAll, HoldsFront, IsExecuted, IsStopped, IsUntouched, text_in}
 
 told_map : (told : Option Folder) (P Q : Folder → Type 0) → ((folder : Folder) → P folder → Q folder) → Told told P → Told told Q
@@ -27,35 +28,35 @@ on_table_map (F.Tabled format) pattern told spans P Q so p = so _ p
 on_table_map (F.Sampled options limit) pattern None spans P Q so p = tt
 on_table_map (F.Sampled options limit) pattern (Some folder) spans P Q so p = λ kept. so _ (p kept)
 
-writes_map : (Has Other : List ℕ → Type 0) → ((text : List ℕ) → Has text → Other text) → (spec : Spec) (moment : ℤ) (q : model.Query) (format : LogFormat) (plan : Planned) (spans : List Span) (counts : Counts) (folder : Folder) → Writes Has spec moment q format plan spans counts folder → Writes Other spec moment q format plan spans counts folder
-writes_map Has Other so spec moment q format plan spans counts folder w = record { text = so (text_in spec moment q format plan folder spans) w.text; processed = w.processed; output = w.output; bad = w.bad }
+writes_map : (Has Other : List ℕ → Type 0) → ((t : List ℕ) → Has t → Other t) → (text : RowsText) (spec : Spec) (q : model.Query) (format : LogFormat) (plan : Planned) (spans : List Span) (counts : Counts) (folder : Folder) → Writes Has text spec q format plan spans counts folder → Writes Other text spec q format plan spans counts folder
+writes_map Has Other so text spec q format plan spans counts folder w = record { has = so (text_in text spec q format plan folder spans) w.has; processed = w.processed; output = w.output; bad = w.bad }
 
-pub executed_map : (format : LogFormat) (told : Option Folder) (Has Other : List ℕ → Type 0) (spec : Spec) (moment : ℤ) (q : model.Query) (spans : List Span) (counts : Counts) → ((text : List ℕ) → Has text → Other text)
-    → IsExecuted format told Has spec moment q spans counts → IsExecuted format told Other spec moment q spans counts
-executed_map format told Has Other spec moment q spans counts so ran =
-    on_table_map format spec.ts_format told spans (WritesAll format told Has spec moment q spans counts) (WritesAll format told Other spec moment q spans counts)
+pub executed_map : (format : LogFormat) (told : Option Folder) (Has Other : List ℕ → Type 0) (text : RowsText) (spec : Spec) (moment : ℤ) (q : model.Query) (spans : List Span) (counts : Counts) → ((t : List ℕ) → Has t → Other t)
+    → IsExecuted format told Has text spec moment q spans counts → IsExecuted format told Other text spec moment q spans counts
+executed_map format told Has Other text spec moment q spans counts so ran =
+    on_table_map format spec.ts_format told spans (WritesAll format told Has text spec moment q spans counts) (WritesAll format told Other text spec moment q spans counts)
     (λ table w. record {
       plan = w.plan;
       is_planned = w.is_planned;
-      written = told_map told (λ folder. AreKept (lines_in format) false spans folder → Writes Has spec moment q format w.plan spans counts folder) (λ folder. AreKept (lines_in format) false spans folder → Writes Other spec moment q format w.plan spans counts folder)
-          (λ folder f kept. writes_map Has Other so spec moment q format w.plan spans counts folder (f kept)) w.written;
+      written = told_map told (λ folder. AreKept (lines_in format) false spans folder → Writes Has text spec q format w.plan spans counts folder) (λ folder. AreKept (lines_in format) false spans folder → Writes Other text spec q format w.plan spans counts folder)
+          (λ folder f kept. writes_map Has Other so text spec q format w.plan spans counts folder (f kept)) w.written;
     }) ran
 
-front_map : (format : LogFormat) (told : Option Folder) (Nothing None' : Type 0) (Front Other : List ℕ → Type 0) (spec : Spec) (moment : ℤ) (q : model.Query) (spans : List Span) (table : TableColumns) → (Nothing → None') → ((text : List ℕ) → Front text → Other text)
-    → Nothing ⊎ HoldsFront format told Front spec moment q spans table → None' ⊎ HoldsFront format told Other spec moment q spans table
-front_map format told Nothing None' Front Other spec moment q spans table none so (inl nothing) = inl (none nothing)
-front_map format told Nothing None' Front Other spec moment q spans table none so (inr holds) = inr (record {
+front_map : (format : LogFormat) (told : Option Folder) (Nothing None' : Type 0) (Front Other : List ℕ → Type 0) (text : RowsText) (spec : Spec) (moment : ℤ) (q : model.Query) (spans : List Span) (table : TableColumns) → (Nothing → None') → ((t : List ℕ) → Front t → Other t)
+    → Nothing ⊎ HoldsFront format told Front text spec moment q spans table → None' ⊎ HoldsFront format told Other text spec moment q spans table
+front_map format told Nothing None' Front Other text spec moment q spans table none so (inl nothing) = inl (none nothing)
+front_map format told Nothing None' Front Other text spec moment q spans table none so (inr holds) = inr (record {
   plan = holds.plan;
   is_planned = holds.is_planned;
-  front = told_map told (λ folder. AreKept (lines_in format) false spans folder → Front (text_in spec moment q format holds.plan folder spans)) (λ folder. AreKept (lines_in format) false spans folder → Other (text_in spec moment q format holds.plan folder spans))
-      (λ folder f kept. so (text_in spec moment q format holds.plan folder spans) (f kept)) holds.front;
+  front = told_map told (λ folder. AreKept (lines_in format) false spans folder → Front (text_in text spec q format holds.plan folder spans)) (λ folder. AreKept (lines_in format) false spans folder → Other (text_in text spec q format holds.plan folder spans))
+      (λ folder f kept. so (text_in text spec q format holds.plan folder spans) (f kept)) holds.front;
 })
 
-pub stopped_map : (format : LogFormat) (told : Option Folder) (Nothing None' : Type 0) (Front Other : List ℕ → Type 0) (spec : Spec) (moment : ℤ) (q : model.Query) (spans : List Span) → (Nothing → None') → ((text : List ℕ) → Front text → Other text)
-    → IsStopped format told Nothing Front spec moment q spans → IsStopped format told None' Other spec moment q spans
-stopped_map format told Nothing None' Front Other spec moment q spans none so stop =
-    on_table_map format spec.ts_format told spans (λ table. Nothing ⊎ HoldsFront format told Front spec moment q spans table) (λ table. None' ⊎ HoldsFront format told Other spec moment q spans table)
-    (λ table front. front_map format told Nothing None' Front Other spec moment q spans table none so front) stop
+pub stopped_map : (format : LogFormat) (told : Option Folder) (Nothing None' : Type 0) (Front Other : List ℕ → Type 0) (text : RowsText) (spec : Spec) (moment : ℤ) (q : model.Query) (spans : List Span) → (Nothing → None') → ((t : List ℕ) → Front t → Other t)
+    → IsStopped format told Nothing Front text spec moment q spans → IsStopped format told None' Other text spec moment q spans
+stopped_map format told Nothing None' Front Other text spec moment q spans none so stop =
+    on_table_map format spec.ts_format told spans (λ table. Nothing ⊎ HoldsFront format told Front text spec moment q spans table) (λ table. None' ⊎ HoldsFront format told Other text spec moment q spans table)
+    (λ table front. front_map format told Nothing None' Front Other text spec moment q spans table none so front) stop
 
 pub untouched_map : (format : LogFormat) (told : Option Folder) (Nothing None' : Type 0) (spec : Spec) (spans : List Span) → (Nothing → None') → IsUntouched format told Nothing spec spans → IsUntouched format told None' spec spans
 untouched_map format told Nothing None' spec spans none is = on_table_map format spec.ts_format told spans (λ table. Nothing) (λ table. None') (λ table nothing. none nothing) is

@@ -1,5 +1,5 @@
 -- What a run over sampled columns says of its query.
-use Rattle.std.proofs.Common.{◌≡◌, true, false, List, ℕ, ℤ, Option, Some, None, Err, inl, inr, subst}
+use Rattle.std.proofs.Common.{◌≡◌, true, false, List, ℕ, ℤ, Option, Some, None, inl, inr, subst}
 use Rattle.grammar.specs.Trees as model
 use Rattle.lp_model.specs.Outside.{Folder, Told}
 use Rattle.command_words.specs.declared.spec.Spec.{Spec}
@@ -16,20 +16,15 @@ use Rattle.sampled_run.specs.Rules.{Rules, rules_of}
 use Rattle.column_kinds.specs.Spans.{past_of}
 use Rattle.execution.specs.declared.formats.LogFormat.TheVariants as F
 use Rattle.execution.specs.Executed.{IsExecuted, IsStopped, IsParseError, IsUnplanned, IsUntouched}
-use Rattle.execution.specs.Texts.{RowsText, RowsShown, run_shown, run_text}
+use Rattle.any_format.specs.declared.format.Format.{Format}
+use Rattle.any_format.specs.Formats.{text_of}
+use Rattle.sampled_run.specs.Finishes.{shown_by, text_by}
 
 abbrev Kept : DelimitedOptions → List Span → Folder → Type 0
 Kept options spans folder = AreKept (delimited_lines options) false spans folder
 
-abbrev pub rules_with : ℕ → Spec → ℤ → model.Query → RowsText → RowsShown → Rules
-rules_with limit spec moment q text shown = rules_of limit spec.ts_format moment q true text shown
-
-abbrev pub rules_in : ℕ → Spec → ℤ → model.Query → Rules
-rules_in limit spec moment q = rules_with limit spec moment q (run_text spec moment q) (run_shown q)
-
--- a text that is the one asked for
-as_asked : (limit : ℕ) (spec : Spec) (moment : ℤ) (q : model.Query) (text : RowsText) (shown : RowsShown) → text ≡ run_text spec moment q → shown ≡ run_shown q → (P : Rules → Type 0) → P (rules_with limit spec moment q text shown) → P (rules_in limit spec moment q)
-as_asked limit spec moment q text shown is shows P p = subst (λ (t : RowsText). P (rules_with limit spec moment q t (run_shown q))) is (subst (λ (s : RowsShown). P (rules_with limit spec moment q text s)) shows p)
+abbrev pub rules_with : ℕ → Spec → ℤ → model.Query → Format → Rules
+rules_with limit spec moment q output = rules_of limit spec.ts_format moment q true (text_by output q) (shown_by q)
 
 abbrev Has : {S : Type 0} → {kind : StageKind S} → OutputAt kind → Written → S → List ℕ → Type 0
 Has {kind = kind} before run now text = GainsText before (placed_at kind before.output run.output now) text
@@ -37,77 +32,77 @@ Has {kind = kind} before run now text = GainsText before (placed_at kind before.
 abbrev Front : {S : Type 0} → {kind : StageKind S} → OutputAt kind → S → List ℕ → Type 0
 Front before now text = GainsFront before now text
 
-written_all : {S : Type 0} {kind : StageKind S} (told : Option Folder) (before : OutputAt kind) (now : S) (spec : Spec) (moment : ℤ) (q : model.Query) (options : DelimitedOptions) (limit : ℕ) (spans : List Span) (run : Written)
-    → Told told (λ folder. Kept options spans folder → IsSampled (rules_in limit spec moment q) before (past_of (delimited_lines options) false folder spans) (delimited_lines options) false folder spans run now)
-    → IsExecuted (F.Sampled options limit) told (Has before run now) spec moment q spans run.counts
-written_all None before now spec moment q options limit spans run ran = tt
-written_all (Some folder) before now spec moment q options limit spans run ran = λ kept.
+written_all : {S : Type 0} {kind : StageKind S} (told : Option Folder) (before : OutputAt kind) (now : S) (output : Format) (spec : Spec) (moment : ℤ) (q : model.Query) (options : DelimitedOptions) (limit : ℕ) (spans : List Span) (run : Written)
+    → Told told (λ folder. Kept options spans folder → IsSampled (rules_with limit spec moment q output) before (past_of (delimited_lines options) false folder spans) (delimited_lines options) false folder spans run now)
+    → IsExecuted (F.Sampled options limit) told (Has before run now) (text_of output) spec moment q spans run.counts
+unfolding text_by shown_by
+written_all None before now output spec moment q options limit spans run ran = tt
+written_all (Some folder) before now output spec moment q options limit spans run ran = λ kept.
     let all = ran kept in
     record {
       plan = all.written.plan;
       is_planned = all.written.planned;
-      written = λ again. record { text = all.written.text; processed = all.processed; output = all.written.rows; bad = all.bad };
+      written = λ again. record { has = all.written.text; processed = all.processed; output = all.written.rows; bad = all.bad };
     }
 
-pub executed : {S : Type 0} {kind : StageKind S} (told : Option Folder) (before : OutputAt kind) (now : S) (spec : Spec) (moment : ℤ) (q : model.Query) (options : DelimitedOptions) (limit : ℕ) (slice spans : List Span) (run : Written) (text : RowsText) (shown : RowsShown)
-    → slice ≡ spans → text ≡ run_text spec moment q → shown ≡ run_shown q
-    → Told told (λ folder. Kept options slice folder → IsSampled (rules_with limit spec moment q text shown) before (past_of (delimited_lines options) false folder slice) (delimited_lines options) false folder slice run now)
-    → IsExecuted (F.Sampled options limit) told (Has before run now) spec moment q spans run.counts
-executed told before now spec moment q options limit slice spans run text shown listed asked shows ran =
-    let Of : Rules → Type 0 = λ rules. Told told (λ folder. Kept options slice folder → IsSampled rules before (past_of (delimited_lines options) false folder slice) (delimited_lines options) false folder slice run now) in
-    subst (λ (s : List Span). IsExecuted (F.Sampled options limit) told (Has before run now) spec moment q s run.counts) listed
-    (written_all told before now spec moment q options limit slice run (as_asked limit spec moment q text shown asked shows Of ran))
+pub executed : {S : Type 0} {kind : StageKind S} (told : Option Folder) (before : OutputAt kind) (now : S) (output : Format) (spec : Spec) (moment : ℤ) (q : model.Query) (options : DelimitedOptions) (limit : ℕ) (slice spans : List Span) (run : Written)
+    → slice ≡ spans
+    → Told told (λ folder. Kept options slice folder → IsSampled (rules_with limit spec moment q output) before (past_of (delimited_lines options) false folder slice) (delimited_lines options) false folder slice run now)
+    → IsExecuted (F.Sampled options limit) told (Has before run now) (text_of output) spec moment q spans run.counts
+executed told before now output spec moment q options limit slice spans run listed ran =
+    subst (λ (s : List Span). IsExecuted (F.Sampled options limit) told (Has before run now) (text_of output) spec moment q s run.counts) listed
+    (written_all told before now output spec moment q options limit slice run ran)
 
-stopped_all : {S : Type 0} {kind : StageKind S} (told : Option Folder) (before : OutputAt kind) (now : S) (spec : Spec) (moment : ℤ) (q : model.Query) (options : DelimitedOptions) (limit : ℕ) (spans : List Span)
-    → Told told (λ folder. Kept options spans folder → IsFront (rules_in limit spec moment q) before (past_of (delimited_lines options) false folder spans) now)
-    → IsStopped (F.Sampled options limit) told (now ≡ before.stage) (Front before now) spec moment q spans
-stopped_all None before now spec moment q options limit spans front = tt
-stopped_all (Some folder) before now spec moment q options limit spans front = λ kept. elim (front kept) [
+stopped_all : {S : Type 0} {kind : StageKind S} (told : Option Folder) (before : OutputAt kind) (now : S) (output : Format) (spec : Spec) (moment : ℤ) (q : model.Query) (options : DelimitedOptions) (limit : ℕ) (spans : List Span)
+    → Told told (λ folder. Kept options spans folder → IsFront (rules_with limit spec moment q output) before (past_of (delimited_lines options) false folder spans) now)
+    → IsStopped (F.Sampled options limit) told (now ≡ before.stage) (Front before now) (text_of output) spec moment q spans
+unfolding text_by
+stopped_all None before now output spec moment q options limit spans front = tt
+stopped_all (Some folder) before now output spec moment q options limit spans front = λ kept. elim (front kept) [
   | inl same ↦ inl same
   | inr within ↦ inr (record { plan = within.plan; is_planned = within.planned; front = λ again. within.front })
 ]
 
-pub stopped : {S : Type 0} {kind : StageKind S} (told : Option Folder) (before : OutputAt kind) (now : S) (spec : Spec) (moment : ℤ) (q : model.Query) (options : DelimitedOptions) (limit : ℕ) (slice spans : List Span) (text : RowsText) (shown : RowsShown)
-    → slice ≡ spans → text ≡ run_text spec moment q → shown ≡ run_shown q
-    → Told told (λ folder. Kept options slice folder → IsFront (rules_with limit spec moment q text shown) before (past_of (delimited_lines options) false folder slice) now)
-    → IsStopped (F.Sampled options limit) told (now ≡ before.stage) (Front before now) spec moment q spans
-stopped told before now spec moment q options limit slice spans text shown listed asked shows front =
-    let Of : Rules → Type 0 = λ rules. Told told (λ folder. Kept options slice folder → IsFront rules before (past_of (delimited_lines options) false folder slice) now) in
-    subst (λ (s : List Span). IsStopped (F.Sampled options limit) told (now ≡ before.stage) (Front before now) spec moment q s) listed
-    (stopped_all told before now spec moment q options limit slice (as_asked limit spec moment q text shown asked shows Of front))
+pub stopped : {S : Type 0} {kind : StageKind S} (told : Option Folder) (before : OutputAt kind) (now : S) (output : Format) (spec : Spec) (moment : ℤ) (q : model.Query) (options : DelimitedOptions) (limit : ℕ) (slice spans : List Span)
+    → slice ≡ spans
+    → Told told (λ folder. Kept options slice folder → IsFront (rules_with limit spec moment q output) before (past_of (delimited_lines options) false folder slice) now)
+    → IsStopped (F.Sampled options limit) told (now ≡ before.stage) (Front before now) (text_of output) spec moment q spans
+stopped told before now output spec moment q options limit slice spans listed front =
+    subst (λ (s : List Span). IsStopped (F.Sampled options limit) told (now ≡ before.stage) (Front before now) (text_of output) spec moment q s) listed
+    (stopped_all told before now output spec moment q options limit slice front)
 
 -- no plan was made, and nothing written
 
-abbrev Refuses : {S : Type 0} → {kind : StageKind S} → Option Folder → OutputAt kind → S → Spec → ℤ → model.Query → RowsText → RowsShown → DelimitedOptions → ℕ → List Span → TypeFault → Type 0
-Refuses told before now spec moment q text shown options limit spans fault = Told told (λ folder. Kept options spans folder → IsRefused (rules_with limit spec moment q text shown) before (past_of (delimited_lines options) false folder spans) fault now)
+abbrev Refuses : {S : Type 0} → {kind : StageKind S} → Option Folder → OutputAt kind → S → Spec → ℤ → model.Query → Format → DelimitedOptions → ℕ → List Span → TypeFault → Type 0
+Refuses told before now spec moment q output options limit spans fault = Told told (λ folder. Kept options spans folder → IsRefused (rules_with limit spec moment q output) before (past_of (delimited_lines options) false folder spans) fault now)
 
-unplanned_all : {S : Type 0} {kind : StageKind S} (told : Option Folder) (before : OutputAt kind) (now : S) (spec : Spec) (moment : ℤ) (q : model.Query) (text : RowsText) (shown : RowsShown) (options : DelimitedOptions) (limit : ℕ) (spans : List Span) (fault : TypeFault)
-    → Refuses told before now spec moment q text shown options limit spans fault → IsUnplanned (F.Sampled options limit) told spec moment q spans fault
-unplanned_all None before now spec moment q text shown options limit spans fault refused = tt
-unplanned_all (Some folder) before now spec moment q text shown options limit spans fault refused = λ kept. (refused kept).fault
+unplanned_all : {S : Type 0} {kind : StageKind S} (told : Option Folder) (before : OutputAt kind) (now : S) (spec : Spec) (moment : ℤ) (q : model.Query) (output : Format) (options : DelimitedOptions) (limit : ℕ) (spans : List Span) (fault : TypeFault)
+    → Refuses told before now spec moment q output options limit spans fault → IsUnplanned (F.Sampled options limit) told spec moment q spans fault
+unplanned_all None before now spec moment q output options limit spans fault refused = tt
+unplanned_all (Some folder) before now spec moment q output options limit spans fault refused = λ kept. (refused kept).fault
 
-pub unplanned : {S : Type 0} {kind : StageKind S} (told : Option Folder) (before : OutputAt kind) (now : S) (spec : Spec) (moment : ℤ) (q : model.Query) (text : RowsText) (shown : RowsShown) (options : DelimitedOptions) (limit : ℕ) (slice spans : List Span) (fault : TypeFault)
-    → slice ≡ spans → Refuses told before now spec moment q text shown options limit slice fault → IsUnplanned (F.Sampled options limit) told spec moment q spans fault
-unplanned told before now spec moment q text shown options limit slice spans fault listed refused =
-    subst (λ (s : List Span). IsUnplanned (F.Sampled options limit) told spec moment q s fault) listed (unplanned_all told before now spec moment q text shown options limit slice fault refused)
+pub unplanned : {S : Type 0} {kind : StageKind S} (told : Option Folder) (before : OutputAt kind) (now : S) (spec : Spec) (moment : ℤ) (q : model.Query) (output : Format) (options : DelimitedOptions) (limit : ℕ) (slice spans : List Span) (fault : TypeFault)
+    → slice ≡ spans → Refuses told before now spec moment q output options limit slice fault → IsUnplanned (F.Sampled options limit) told spec moment q spans fault
+unplanned told before now spec moment q output options limit slice spans fault listed refused =
+    subst (λ (s : List Span). IsUnplanned (F.Sampled options limit) told spec moment q s fault) listed (unplanned_all told before now spec moment q output options limit slice fault refused)
 
-untouched_all : {S : Type 0} {kind : StageKind S} (told : Option Folder) (before : OutputAt kind) (now : S) (spec : Spec) (moment : ℤ) (q : model.Query) (text : RowsText) (shown : RowsShown) (options : DelimitedOptions) (limit : ℕ) (spans : List Span) (fault : TypeFault)
-    → Refuses told before now spec moment q text shown options limit spans fault → IsUntouched (F.Sampled options limit) told (now ≡ before.stage) spec spans
-untouched_all None before now spec moment q text shown options limit spans fault refused = tt
-untouched_all (Some folder) before now spec moment q text shown options limit spans fault refused = λ kept. (refused kept).nothing
+untouched_all : {S : Type 0} {kind : StageKind S} (told : Option Folder) (before : OutputAt kind) (now : S) (spec : Spec) (moment : ℤ) (q : model.Query) (output : Format) (options : DelimitedOptions) (limit : ℕ) (spans : List Span) (fault : TypeFault)
+    → Refuses told before now spec moment q output options limit spans fault → IsUntouched (F.Sampled options limit) told (now ≡ before.stage) spec spans
+untouched_all None before now spec moment q output options limit spans fault refused = tt
+untouched_all (Some folder) before now spec moment q output options limit spans fault refused = λ kept. (refused kept).nothing
 
-pub untouched : {S : Type 0} {kind : StageKind S} (told : Option Folder) (before : OutputAt kind) (now : S) (spec : Spec) (moment : ℤ) (q : model.Query) (text : RowsText) (shown : RowsShown) (options : DelimitedOptions) (limit : ℕ) (slice spans : List Span) (fault : TypeFault)
-    → slice ≡ spans → Refuses told before now spec moment q text shown options limit slice fault → IsUntouched (F.Sampled options limit) told (now ≡ before.stage) spec spans
-untouched told before now spec moment q text shown options limit slice spans fault listed refused =
-    subst (λ (s : List Span). IsUntouched (F.Sampled options limit) told (now ≡ before.stage) spec s) listed (untouched_all told before now spec moment q text shown options limit slice fault refused)
+pub untouched : {S : Type 0} {kind : StageKind S} (told : Option Folder) (before : OutputAt kind) (now : S) (spec : Spec) (moment : ℤ) (q : model.Query) (output : Format) (options : DelimitedOptions) (limit : ℕ) (slice spans : List Span) (fault : TypeFault)
+    → slice ≡ spans → Refuses told before now spec moment q output options limit slice fault → IsUntouched (F.Sampled options limit) told (now ≡ before.stage) spec spans
+untouched told before now spec moment q output options limit slice spans fault listed refused =
+    subst (λ (s : List Span). IsUntouched (F.Sampled options limit) told (now ≡ before.stage) spec s) listed (untouched_all told before now spec moment q output options limit slice fault refused)
 
-pub refused_stopped : {S : Type 0} {kind : StageKind S} (told : Option Folder) (before : OutputAt kind) (now : S) (spec : Spec) (moment : ℤ) (q : model.Query) (text : RowsText) (shown : RowsShown) (options : DelimitedOptions) (limit : ℕ) (slice spans : List Span) (fault : TypeFault)
-    → slice ≡ spans → text ≡ run_text spec moment q → shown ≡ run_shown q → Refuses told before now spec moment q text shown options limit slice fault → IsStopped (F.Sampled options limit) told (now ≡ before.stage) (Front before now) spec moment q spans
-refused_stopped told before now spec moment q text shown options limit slice spans fault listed asked shows refused =
-    stopped told before now spec moment q options limit slice spans text shown listed asked shows (front_of told refused)
+pub refused_stopped : {S : Type 0} {kind : StageKind S} (told : Option Folder) (before : OutputAt kind) (now : S) (spec : Spec) (moment : ℤ) (q : model.Query) (output : Format) (options : DelimitedOptions) (limit : ℕ) (slice spans : List Span) (fault : TypeFault)
+    → slice ≡ spans → Refuses told before now spec moment q output options limit slice fault → IsStopped (F.Sampled options limit) told (now ≡ before.stage) (Front before now) (text_of output) spec moment q spans
+refused_stopped told before now spec moment q output options limit slice spans fault listed refused =
+    stopped told before now output spec moment q options limit slice spans listed (front_of told refused)
   where
-    front_of : (told : Option Folder) → Refuses told before now spec moment q text shown options limit slice fault
-        → Told told (λ folder. Kept options slice folder → IsFront (rules_with limit spec moment q text shown) before (past_of (delimited_lines options) false folder slice) now)
+    front_of : (told : Option Folder) → Refuses told before now spec moment q output options limit slice fault
+        → Told told (λ folder. Kept options slice folder → IsFront (rules_with limit spec moment q output) before (past_of (delimited_lines options) false folder slice) now)
     front_of None refused = tt
     front_of (Some folder) refused = λ kept. inl (refused kept).nothing
 

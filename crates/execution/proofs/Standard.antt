@@ -1,7 +1,6 @@
 -- Standard output as an output of a stage.
 use Rattle.std.proofs.Common.{◌≡◌, ℕ, List, ap, ◌∙◌}
 use Rattle.lp_outside.specs.declared.stage.Mark.{Mark}
-use Rattle.lp_outside.specs.Stages.{no_mark}
 use Rattle.lp_outside.specs.Gained.{standard_output}
 use Rattle.query_run.specs.Output.{StageKind, OutputAt, reached}
 use Rattle.query_run.specs.declared.target.Target.{Target}

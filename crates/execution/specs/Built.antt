@@ -1,4 +1,4 @@
--- What is built so far: every input format, every output format but templates, and queries of columns and conditions over files.
+-- What is built so far: every input format, every output format, and queries of columns and conditions over files.
 use Rattle.std.specs.Prelude.{Bool, false, not, ◌&&◌, List, [], ◌∷◌, is_none}
 use Rattle.grammar.specs.Trees.{Placed, Query}
 use Rattle.command_words.specs.declared.spec.Spec.{Spec}
@@ -14,7 +14,7 @@ reads_stdin (name ∷ next ∷ names) = false
 
 -- whether all that the options ask for is built
 abbrev pub are_options_built : Spec → Query → Bool
-are_options_built spec q = has_text (output_of spec q) && is_none spec.checkpoint
+are_options_built spec q = has_text spec (output_of spec q) && is_none spec.checkpoint
 
 -- whether all that the options and the query ask for is built
 abbrev pub all_built : Spec → Query → Bool

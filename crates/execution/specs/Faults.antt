@@ -32,4 +32,5 @@ unplanned (T.KindMismatch at) = F.Plan (T.KindMismatch at)
 unplanned (T.WrongArity at) = F.Plan (T.WrongArity at)
 unplanned (T.TooFewColumns at) = F.Plan (T.TooFewColumns at)
 unplanned (T.BadPattern at) = F.Plan (T.BadPattern at)
+unplanned (T.NotInSelect at) = F.Plan (T.NotInSelect at)
 unplanned T.Memory = F.Memory

@@ -23,7 +23,7 @@ fn reads_stdin(names: &PlacedList) -> bool
 fn are_options_built(spec: &Spec, query: &Query) -> bool
     ensures { result ≡ are_options_built spec.now (query_of query.now) }
 {
-    has_text(output_of(spec, query)) && spec.checkpoint.is_none()
+    has_text(spec, output_of(spec, query)) && spec.checkpoint.is_none()
 }
 
 /// Whether all that the options and the query ask for is built.

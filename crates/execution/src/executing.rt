@@ -1,5 +1,5 @@
 // A query over spans of logs.
-ghost use Rattle.std.specs.Prelude.{◌≡◌, ◌≤◌, ◌+◌, true, length, IfOk, OnErr, IsErrOf};
+ghost use Rattle.std.specs.Prelude.{◌≡◌, ◌≤◌, ◌+◌, true, length, IfOk, IsSome, OnErr, IsErrOf};
 ghost use Rattle.lp_model.specs.Outside.{Rose, OnlyGrow, Told, bytes_in};
 ghost use Rattle.command_words.specs.Table.{IsInRange};
 ghost use Rattle.log_reading.specs.Page.{IsWithin};
@@ -11,11 +11,13 @@ ghost use Rattle.execution.specs.Executed.{IsMoment, IsExecuted, IsParseError, I
 ghost use Rattle.execution.specs.Faults.{IfParse, IfPlan};
 ghost use Rattle.execution.specs.Formats.{log_format};
 ghost use Rattle.execution.specs.Standard.{IsStandard, standard_at};
+ghost use Rattle.execution.specs.Texts.{output_of, run_text, sections_in};
+ghost use Rattle.command_words.specs.declared.formats.OutputFormat.TheVariants as O;
 
 use crate::formats::{LogFormat, log_format};
 use crate::sampled::execute_sampled;
 use crate::tabled::execute_tabled;
-use crate::texts::rows_text;
+use crate::texts::{output_of, text_as};
 use crate::{Ran, RunFault};
 use checkpoint::Spans;
 use command_words::Spec;
@@ -24,6 +26,8 @@ use query_run::Target;
 use query_tree::Query;
 use sampled_run::Moment;
 use std::alloc::Global;
+use std::rc::Rc;
+use tpl_output::Template;
 
 // The output of a run: the first of its stage, with the name that no log has.
 fn standard_output() -> Target
@@ -36,11 +40,13 @@ fn standard_output() -> Target
 }
 
 /// Runs a query over spans of logs, in order: their records, of which it takes those that WHERE keeps, and the text of the rows
-/// that SELECT makes of them. The columns of CSV and TSV logs are known behind their first records.
+/// that SELECT makes of them, by the template where the output is by one. The columns of CSV and TSV logs are known behind their
+/// first records.
 pub fn execute<L: Logs, I: Source, G: Stage>(
     alloc: Global,
     spec: &Spec,
     query: &Query,
+    template: Option<Rc<Template>>,
     moment: i64,
     logs: &mut L,
     input: &mut I,
@@ -49,15 +55,16 @@ pub fn execute<L: Logs, I: Source, G: Stage>(
 ) -> Result<Ran, RunFault>
     requires moment { IsMoment moment }
     requires range { IsInRange spec.now }
+    requires template { output_of spec.now (query_of query.now) ≡ O.Tpl → IsSome template }
     requires built { all_built spec.now (query_of query.now) ≡ true }
     requires few { length spans.now ≤ 100000 }
     requires spans { AllSpans spans.now IsSpan }
     requires there { Told (L.folder logs.old) (λ folder. AllSpans spans.now (λ span. span.listed ≤ length (bytes_in folder span.name))) }
     ensures grows { OnlyGrow (L.folder logs.old) (L.folder logs.new) }
-    ensures ran { IfOk result (λ ran. IsExecuted (log_format spec.now (query_of query.now)) (L.folder logs.new) (λ text. GainsText (standard_at (kind_of G.state G.ended) stage.old) (placed_at (kind_of G.state G.ended) 0 ran.output stage.new) text) spec.now moment (query_of query.now) spans.now ran.counts) }
+    ensures ran { IfOk result (λ ran. IsExecuted (log_format spec.now (query_of query.now)) (L.folder logs.new) (λ text. GainsText (standard_at (kind_of G.state G.ended) stage.old) (placed_at (kind_of G.state G.ended) 0 ran.output stage.new) text) (run_text spec.now (sections_in (λ t. t.value) template) moment (query_of query.now)) spec.now moment (query_of query.now) spans.now ran.counts) }
     ensures within { IfOk result (λ ran. IsWithin spec.now.errors ran.counts.bad) }
     ensures ended { IfOk result (λ ran. G.ended stage.new ran.output.name ran.output.base ran.output.mark) }
-    ensures stopped { OnErr result (IsStopped (log_format spec.now (query_of query.now)) (L.folder logs.new) (stage.new ≡ stage.old) (λ text. GainsFront (standard_at (kind_of G.state G.ended) stage.old) stage.new text) spec.now moment (query_of query.now) spans.now) }
+    ensures stopped { OnErr result (IsStopped (log_format spec.now (query_of query.now)) (L.folder logs.new) (stage.new ≡ stage.old) (λ text. GainsFront (standard_at (kind_of G.state G.ended) stage.old) stage.new text) (run_text spec.now (sections_in (λ t. t.value) template) moment (query_of query.now)) spec.now moment (query_of query.now) spans.now) }
     ensures plan { IfPlan result (IsUnplanned (log_format spec.now (query_of query.now)) (L.folder logs.new) spec.now moment (query_of query.now) spans.now) }
     ensures before { IfPlan result (λ fault. IsUntouched (log_format spec.now (query_of query.now)) (L.folder logs.new) (stage.new ≡ stage.old) spec.now spans.now) }
     ensures parse { IfParse result (IsParseError (log_format spec.now (query_of query.now)) (L.folder logs.new) spec.now moment (query_of query.now) spans.now) }
@@ -71,15 +78,15 @@ pub fn execute<L: Logs, I: Source, G: Stage>(
 {
     let target = standard_output();
     let moment = Moment { seconds: moment };
-    let shape = rows_text(alloc, spec, query, moment);
+    let output = text_as(alloc, spec, output_of(spec, query), template, moment);
     match log_format(spec, query) {
         LogFormat::Tabled(format) => {
             execute_tabled(
-                alloc, spec, format, query, moment, logs, spans, shape, target, stage,
+                alloc, spec, format, query, moment, logs, spans, output, target, stage,
             )
         }
         LogFormat::Sampled(options, limit) => execute_sampled(
-            alloc, spec, options, limit, query, moment, logs, spans, shape, target, stage,
+            alloc, spec, options, limit, query, moment, logs, spans, output, target, stage,
         ),
     }
 }

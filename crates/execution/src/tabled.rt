@@ -4,20 +4,19 @@ ghost use Rattle.lp_model.specs.Outside.{Rose, OnlyGrow, Told, bytes_in};
 ghost use Rattle.log_reading.specs.Page.{IsWithin};
 ghost use Rattle.log_reading.specs.Spans.{AllSpans, IsSpan, spans_size};
 ghost use Rattle.query_run.specs.Output.{kind_of, placed_at, reached, GainsText, GainsFront};
-ghost use Rattle.finished_text.specs.RowsTexts.{rows_text_of, shown_of};
+ghost use Rattle.any_format.specs.Formats.{text_of};
 ghost use Rattle.query_tree.specs.Views.{query_of};
 ghost use Rattle.query_types.specs.Built.{is_built};
 ghost use Rattle.execution.specs.Executed.{IsExecuted, IsParseError, IsStopped, IsUnplanned, IsUntouched};
-ghost use Rattle.execution.specs.Texts.{run_shown, run_text};
 ghost use Rattle.execution.specs.Faults.{IfParse, IfPlan, unplanned};
 ghost use Rattle.execution.specs.declared.formats.LogFormat.TheVariants as F;
 
 use crate::errors::most_bad;
 use crate::planning::plan_over;
 use crate::{Ran, RunFault};
+use any_format::Format;
 use checkpoint::Spans;
 use command_words::Spec;
-use finished_text::RowsText;
 use input_tables::TableFormat;
 use log_reading::{RunFault as ReadFault, TookList};
 use lp_outside::{Logs, Stage};
@@ -25,7 +24,7 @@ use plan_run::run_plan;
 use query_run::Target;
 use query_tree::Query;
 use query_types::TypeFault;
-use sampled_run::Moment;
+use sampled_run::{Moment, text_of_rows};
 use std::alloc::Global;
 
 // Why a plan isn't made.
@@ -47,21 +46,19 @@ pub(crate) fn execute_tabled<L: Logs, G: Stage>(
     moment: Moment,
     logs: &mut L,
     spans: &Spans,
-    shape: RowsText,
+    output: Format,
     target: Target,
     stage: &mut G,
 ) -> Result<Ran, RunFault>
-    requires text { rows_text_of shape ≡ run_text spec.now moment.seconds (query_of query.now) }
-    requires shown { shown_of shape ≡ run_shown (query_of query.now) }
     requires built { is_built (query_of query.now) ≡ true }
     requires few { length spans.now ≤ 100000 }
     requires spans { AllSpans spans.now IsSpan }
     requires there { Told (L.folder logs.old) (λ folder. AllSpans spans.now (λ span. span.listed ≤ length (bytes_in folder span.name))) }
     ensures grows { OnlyGrow (L.folder logs.old) (L.folder logs.new) }
-    ensures ran { IfOk result (λ ran. IsExecuted (F.Tabled format) (L.folder logs.new) (λ text. GainsText (reached (kind_of G.state G.ended) target stage.old) (placed_at (kind_of G.state G.ended) target.output ran.output stage.new) text) spec.now moment.seconds (query_of query.now) spans.now ran.counts) }
+    ensures ran { IfOk result (λ ran. IsExecuted (F.Tabled format) (L.folder logs.new) (λ text. GainsText (reached (kind_of G.state G.ended) target stage.old) (placed_at (kind_of G.state G.ended) target.output ran.output stage.new) text) (text_of output) spec.now moment.seconds (query_of query.now) spans.now ran.counts) }
     ensures within { IfOk result (λ ran. IsWithin spec.now.errors ran.counts.bad) }
     ensures ended { IfOk result (λ ran. G.ended stage.new ran.output.name ran.output.base ran.output.mark) }
-    ensures stopped { OnErr result (IsStopped (F.Tabled format) (L.folder logs.new) (stage.new ≡ stage.old) (λ text. GainsFront (reached (kind_of G.state G.ended) target stage.old) stage.new text) spec.now moment.seconds (query_of query.now) spans.now) }
+    ensures stopped { OnErr result (IsStopped (F.Tabled format) (L.folder logs.new) (stage.new ≡ stage.old) (λ text. GainsFront (reached (kind_of G.state G.ended) target stage.old) stage.new text) (text_of output) spec.now moment.seconds (query_of query.now) spans.now) }
     ensures plan { IfPlan result (IsUnplanned (F.Tabled format) (L.folder logs.new) spec.now moment.seconds (query_of query.now) spans.now) }
     ensures before { IfPlan result (λ fault. IsUntouched (F.Tabled format) (L.folder logs.new) (stage.new ≡ stage.old) spec.now spans.now) }
     ensures parse { IfParse result (IsParseError (F.Tabled format) (L.folder logs.new) spec.now moment.seconds (query_of query.now) spans.now) }
@@ -76,11 +73,14 @@ pub(crate) fn execute_tabled<L: Logs, G: Stage>(
         Ok(plan) => plan,
         Err(fault) => return Err(unplanned(fault)),
     };
+    let Ok(text) = text_of_rows(alloc, output, query, &plan) else {
+        return Err(RunFault::Memory);
+    };
     let mut took = TookList::new(alloc);
     match run_plan(
         alloc,
         format,
-        shape,
+        text,
         plan,
         true,
         false,

@@ -43,6 +43,8 @@ Options, in any order and in any case
     CSV          comma separated values
     TSV          fields between tabs, never quoted
     W3C          a W3C extended log
+    TPL          the text of a template
+  -tpl:NAME      the file of the template; without -o it chooses TPL
   -e:N           refuse the run where more than N lines can't be read (-1: never)
   -headers:OFF   no line of names (AUTO, ON)
   -rtp:N         NAT: a new table after N rows, 1 to 10000 (10); one of all rows (-1)
@@ -74,11 +76,11 @@ Examples
   logparser -o:CSV \"SELECT DateTime, Request FROM nc1.log WHERE StatusCode >= 500\" | head
   logparser -o:CSV \"SELECT name, MUL(price, 2) AS twice FROM list.csv WHERE name LIKE 'a%'\"
 
-Not built yet, and answered so: templates (-o:TPL, -tpl), INTO files, -iCheckpoint, COUNT and
-the like, GROUP BY, HAVING, ORDER BY, subqueries, standard input.
+Not built yet, and answered so: INTO files, -iCheckpoint, COUNT and the like, GROUP BY, HAVING,
+subqueries, standard input.
 
 The manual is docs/manual.md in the repository; docs/examples.md answers common questions.
 
-Status: 0 whole; 1 out of memory; 2 words, clock, or not built; 3 query; 4 logs; 5 read
-fault; 7 write fault; 8 too many lines that can't be read.
+Status: 0 whole; 1 out of memory; 2 words, clock, or not built; 3 query; 4 logs, or the
+template; 5 read fault; 7 write fault; 8 too many lines that can't be read.
 ";

@@ -1,5 +1,5 @@
 -- What a stream has gained as a stage it has written.
-use Rattle.std.proofs.Common.{◌≡◌, ℕ, List, Option, ap, refl, arith}
+use Rattle.std.proofs.Common.{ℕ, List, Option, refl, arith}
 use Rattle.lp_model.specs.Outside.{Gains, GainsSome}
 use Rattle.lp_outside.specs.declared.stage.Mark.{Mark}
 use Rattle.lp_outside.specs.Streams.{stream_state}

@@ -5,17 +5,20 @@ use Rattle.lp_model.specs.Outside.{Rose}
 use Rattle.command_words.specs.declared.spec.Spec.{Spec}
 use Rattle.execution.specs.Built.{all_built}
 use Rattle.execution.specs.Executed.{IsMoment}
+use Rattle.execution.specs.Texts.{RowsText, run_text}
 use Rattle.log_reading.specs.Spans.{bad_line}
 use Rattle.query_text.specs.declared.fault.QueryFault.{QueryFault}
 use Rattle.query_text.specs.declared.fault.QueryFault.TheVariants as Q
 use Rattle.reports.specs.declared.status.Status.{Status}
-use Rattle.reports.specs.declared.status.Status.TheVariants.{Done, Memory, Clock, Usage, Query, NotBuilt, NoSuchLog, BadName, TooManyLogs, LogsFault, SinkFault, ParseErrors}
+use Rattle.reports.specs.declared.status.Status.TheVariants.{Done, Memory, Clock, Usage, Query, NotBuilt, NoSuchLog, BadName, TooManyLogs, Template, LogsFault, SinkFault, ParseErrors}
 use Rattle.requests.specs.Requests.{Asks, IsRefused}
 use Rattle.requests.specs.declared.fault.RequestFault.{RequestFault}
 use Rattle.requests.specs.declared.fault.RequestFault.TheVariants as R
 use Rattle.execution.specs.declared.fault.RunFault.{RunFault}
 use Rattle.execution.specs.declared.fault.RunFault.TheVariants as X
+use Rattle.tpl_output.specs.Sections.{Sections}
 use Rattle.logparser_cli.specs.Logs.{IsUnlisted}
+use Rattle.logparser_cli.specs.Templates.{IsTemplate, IsWithoutTemplate}
 use Rattle.logparser_cli.specs.Whole.{World, IsWhole, IsHalted, IsParseError, IsUnplanned, IsUnwritten}
 
 -- the query's fault is one of its plan
@@ -28,23 +31,40 @@ IsUnplannable old new spec moment q (Q.StdinMisplaced at) = ⊥
 IsUnplannable old new spec moment q (Q.Plan fault) = IsUnplanned old.folder new.folder old.out new.out spec moment q fault
 
 -- the run stopped before it wrote anything, or while it wrote
-abbrev pub IsStopped : World → World → Spec → ℤ → model.Query → Type 0
-IsStopped old new spec moment q = IsUnwritten old new ⊎ IsHalted old.folder new.folder old.out new.out spec moment q
+abbrev pub IsStopped : World → World → RowsText → Spec → ℤ → model.Query → Type 0
+IsStopped old new text spec moment q = IsUnwritten old new ⊎ IsHalted old.folder new.folder old.out new.out text spec moment q
+
+-- what an answer says of a run over logs whose rows have a text
+abbrev pub AnswersRun : World → World → RowsText → Spec → ℤ → model.Query → Status → Type 0
+AnswersRun old new text spec moment q Done = IsWhole old new text spec moment q
+AnswersRun old new text spec moment q Memory = IsStopped old new text spec moment q
+AnswersRun old new text spec moment q (Clock at) = ⊥
+AnswersRun old new text spec moment q (Usage fault) = ⊥
+AnswersRun old new text spec moment q (Query fault) = IsUnplannable old new spec moment q fault
+AnswersRun old new text spec moment q NotBuilt = ⊥
+AnswersRun old new text spec moment q (NoSuchLog name) = IsUnlisted new.folder q (NoSuchLog name) × IsUnwritten old new
+AnswersRun old new text spec moment q (BadName fault) = IsUnlisted new.folder q (BadName fault) × IsUnwritten old new
+AnswersRun old new text spec moment q TooManyLogs = IsUnlisted new.folder q TooManyLogs × IsUnwritten old new
+AnswersRun old new text spec moment q (Template fault) = ⊥
+AnswersRun old new text spec moment q LogsFault = IsStopped old new text spec moment q × Rose old.logs_faults new.logs_faults
+AnswersRun old new text spec moment q SinkFault = IsStopped old new text spec moment q × Rose old.out_faults new.out_faults
+AnswersRun old new text spec moment q (ParseErrors log row) = IsParseError old.folder new.folder old.out new.out text spec moment q (bad_line log row)
+
+-- the template isn't read, and nothing was written
+pub record IsUnread (old new : World) (spec : Spec) (q : model.Query) (status : Status) : Type 0 where
+  pub refused : IsWithoutTemplate old.folder new.folder spec q status
+  pub unwritten : IsUnwritten old new
+  pub rose : status ≡ LogsFault → Rose old.logs_faults new.logs_faults
+
+-- the text is that of a template, where the output is by one
+pub record IsRead (old new : World) (spec : Spec) (moment : ℤ) (q : model.Query) (status : Status) : Type 0 where
+  pub template : Sections
+  pub is_template : IsTemplate old.folder new.folder spec q template
+  pub answers : AnswersRun old new (run_text spec template moment q) spec moment q status
 
 -- what an answer says of a query that is built
 abbrev pub AnswersBuilt : World → World → Spec → ℤ → model.Query → Status → Type 0
-AnswersBuilt old new spec moment q Done = IsWhole old new spec moment q
-AnswersBuilt old new spec moment q Memory = IsStopped old new spec moment q
-AnswersBuilt old new spec moment q (Clock at) = ⊥
-AnswersBuilt old new spec moment q (Usage fault) = ⊥
-AnswersBuilt old new spec moment q (Query fault) = IsUnplannable old new spec moment q fault
-AnswersBuilt old new spec moment q NotBuilt = ⊥
-AnswersBuilt old new spec moment q (NoSuchLog name) = IsUnlisted new.folder q (NoSuchLog name) × IsUnwritten old new
-AnswersBuilt old new spec moment q (BadName fault) = IsUnlisted new.folder q (BadName fault) × IsUnwritten old new
-AnswersBuilt old new spec moment q TooManyLogs = IsUnlisted new.folder q TooManyLogs × IsUnwritten old new
-AnswersBuilt old new spec moment q LogsFault = IsStopped old new spec moment q × Rose old.logs_faults new.logs_faults
-AnswersBuilt old new spec moment q SinkFault = IsStopped old new spec moment q × Rose old.out_faults new.out_faults
-AnswersBuilt old new spec moment q (ParseErrors log row) = IsParseError old.folder new.folder old.out new.out spec moment q (bad_line log row)
+AnswersBuilt old new spec moment q status = IsUnread old new spec q status ⊎ IsRead old new spec moment q status
 
 -- what an answer says of a query: that it isn't built, or what became of it
 abbrev pub AnswersQuery : World → World → Spec → ℤ → model.Query → Status → Type 0
@@ -68,6 +88,7 @@ IsUnasked old new words NotBuilt = ⊥
 IsUnasked old new words (NoSuchLog name) = IsRefused old.folder new.folder words (R.NoSuchLog name) × IsUnwritten old new
 IsUnasked old new words (BadName fault) = IsRefused old.folder new.folder words (R.BadName fault) × IsUnwritten old new
 IsUnasked old new words TooManyLogs = ⊥
+IsUnasked old new words (Template fault) = ⊥
 IsUnasked old new words LogsFault = Rose old.logs_faults new.logs_faults × IsUnwritten old new
 IsUnasked old new words SinkFault = ⊥
 IsUnasked old new words (ParseErrors log row) = ⊥

@@ -1,3 +1,4 @@
 pub mod Logs
+pub mod Templates
 pub mod Whole
 pub mod Answers

@@ -8,6 +8,7 @@ use Rattle.command_words.specs.declared.spec.Spec.{Spec}
 use Rattle.checkpoint.specs.Wholes.{whole_spans}
 use Rattle.execution.specs.Executed.{IsTyped, Writes, text_in, told_table}
 use Rattle.execution.specs.Formats.{lines_in, log_format}
+use Rattle.execution.specs.Texts.{RowsText}
 use Rattle.execution.specs.declared.formats.LogFormat.{LogFormat}
 use Rattle.execution.specs.declared.formats.LogFormat.TheVariants as F
 use Rattle.input_tables.specs.Tables.{table_of}
@@ -44,44 +45,44 @@ told_statistics true counts = statistics counts.processed counts.output counts.b
 told_statistics false counts = []
 
 -- the output gains the text of the rows of the query's plan over a table
-pub record WritesAll (told : Option Folder) (before now : Option (List ℕ)) (spec : Spec) (moment : ℤ) (q : model.Query) (logs : List NameLength) (counts : Counts) (table : TableColumns) : Type 0 where
+pub record WritesAll (told : Option Folder) (before now : Option (List ℕ)) (text : RowsText) (spec : Spec) (moment : ℤ) (q : model.Query) (logs : List NameLength) (counts : Counts) (table : TableColumns) : Type 0 where
   pub plan : Planned
   pub is_planned : plan_of table moment q ≡ Ok plan
-  pub written : Told told (Writes (λ (t : List ℕ). Gains before now t) spec moment q (log_format spec q) plan (whole_spans logs) counts)
+  pub written : Told told (Writes (λ (t : List ℕ). Gains before now t) text spec q (log_format spec q) plan (whole_spans logs) counts)
 
--- a whole run: the output gains the text of the query's rows over the whole logs, and the other output the statistics; of bad
--- lines there were no more than there may be
-pub record IsWhole (old new : World) (spec : Spec) (moment : ℤ) (q : model.Query) : Type 0 where
+-- a whole run: the output gains the text of what the query leaves of its rows over the whole logs, and the other output the
+-- statistics; of bad lines there were no more than there may be
+pub record IsWhole (old new : World) (text : RowsText) (spec : Spec) (moment : ℤ) (q : model.Query) : Type 0 where
   pub logs : List NameLength
   pub are_logs : AreLogs old.folder new.folder q logs
   pub counts : Counts
-  pub written : OnWhole (log_format spec q) spec.ts_format new.folder logs (WritesAll new.folder old.out new.out spec moment q logs counts)
+  pub written : OnWhole (log_format spec q) spec.ts_format new.folder logs (WritesAll new.folder old.out new.out text spec moment q logs counts)
   pub within : IsWithin spec.errors counts.bad
   pub told : Tells old.err new.err (told_statistics spec.stats counts) (Rose old.err_faults new.err_faults)
 
 -- the output holds the front of that text
-pub record HoldsFront (told : Option Folder) (before now : Option (List ℕ)) (spec : Spec) (moment : ℤ) (q : model.Query) (logs : List NameLength) (table : TableColumns) : Type 0 where
+pub record HoldsFront (told : Option Folder) (before now : Option (List ℕ)) (text : RowsText) (spec : Spec) (moment : ℤ) (q : model.Query) (logs : List NameLength) (table : TableColumns) : Type 0 where
   pub plan : Planned
   pub is_planned : plan_of table moment q ≡ Ok plan
-  pub front : Told told (λ folder. GainsSome before now (text_in spec moment q (log_format spec q) plan folder (whole_spans logs)))
+  pub front : Told told (λ folder. GainsSome before now (text_in text spec q (log_format spec q) plan folder (whole_spans logs)))
 
 -- nothing was written, or the front of the text
-abbrev pub IsFront : Option Folder → Option (List ℕ) → Option (List ℕ) → Spec → ℤ → model.Query → List NameLength → Type 0
-IsFront told before now spec moment q logs = OnWhole (log_format spec q) spec.ts_format told logs (λ table. (now ≡ before) ⊎ HoldsFront told before now spec moment q logs table)
+abbrev pub IsFront : Option Folder → Option (List ℕ) → Option (List ℕ) → RowsText → Spec → ℤ → model.Query → List NameLength → Type 0
+IsFront told before now text spec moment q logs = OnWhole (log_format spec q) spec.ts_format told logs (λ table. (now ≡ before) ⊎ HoldsFront told before now text spec moment q logs table)
 
 -- a run over logs stopped
-pub record IsHalted (before now : Option Folder) (out_before out_now : Option (List ℕ)) (spec : Spec) (moment : ℤ) (q : model.Query) : Type 0 where
+pub record IsHalted (before now : Option Folder) (out_before out_now : Option (List ℕ)) (text : RowsText) (spec : Spec) (moment : ℤ) (q : model.Query) : Type 0 where
   pub logs : List NameLength
   pub are_logs : AreLogs before now q logs
-  pub front : IsFront now out_before out_now spec moment q logs
+  pub front : IsFront now out_before out_now text spec moment q logs
 
 -- of the bad lines of the whole logs, in order, this is the first that is one too many
-pub record IsParseError (before now : Option Folder) (out_before out_now : Option (List ℕ)) (spec : Spec) (moment : ℤ) (q : model.Query) (line : BadLine) : Type 0 where
+pub record IsParseError (before now : Option Folder) (out_before out_now : Option (List ℕ)) (text : RowsText) (spec : Spec) (moment : ℤ) (q : model.Query) (line : BadLine) : Type 0 where
   pub logs : List NameLength
   pub are_logs : AreLogs before now q logs
   pub typed : IsTyped (log_format spec q) moment q
   pub exceeds : Told now (λ folder. IsTooMany spec.errors 0 (spans_bad_lines (lines_in (log_format spec q)) false folder (whole_spans logs)) line)
-  pub front : IsFront now out_before out_now spec moment q logs
+  pub front : IsFront now out_before out_now text spec moment q logs
 
 -- the query has no plan, by this fault, and nothing was written
 pub record IsUnplanned (before now : Option Folder) (out_before out_now : Option (List ℕ)) (spec : Spec) (moment : ℤ) (q : model.Query) (fault : TypeFault) : Type 0 where

@@ -6,6 +6,7 @@
 
 mod listing;
 mod running;
+mod template;
 
 pub use reports::Status;
 pub use running::run;

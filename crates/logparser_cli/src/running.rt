@@ -1,17 +1,20 @@
 // The run.
-ghost use Rattle.std.specs.Prelude.{◌≡◌, ◌≤◌, ℕ, ℤ, true};
+ghost use Rattle.std.specs.Prelude.{◌≡◌, ◌≤◌, ℕ, ℤ, true, IsSome};
 ghost use Rattle.lp_model.specs.Outside.{Rose, OnlyGrow};
 ghost use Rattle.command_words.specs.Table.{IsInRange};
+ghost use Rattle.command_words.specs.declared.formats.OutputFormat.TheVariants as O;
 ghost use Rattle.query_tree.specs.Views.{query_of};
 ghost use Rattle.execution.specs.Built.{all_built};
 ghost use Rattle.execution.specs.Executed.{IsMoment};
+ghost use Rattle.execution.specs.Texts.{output_of, run_text, sections_in};
 ghost use Rattle.reports.specs.Messages.{message};
 ghost use Rattle.reports.specs.Status.{OnRefused};
-ghost use Rattle.logparser_cli.specs.Answers.{Answers, AnswersBuilt, AnswersQuery, stopped, unasked};
+ghost use Rattle.logparser_cli.specs.Answers.{Answers, AnswersBuilt, AnswersQuery, AnswersRun, stopped, unasked};
 ghost use Rattle.logparser_cli.specs.Whole.{World, Tells, told_statistics};
 
 use crate::Status;
 use crate::listing::find_spans;
+use crate::template::find_template;
 use command_words::Spec;
 use execution::{RunFault, all_built, execute};
 use lp_outside::{Disk, Logs, Sink, Source};
@@ -22,6 +25,8 @@ use query_tree::Query;
 use reports::{write_message, write_statistics};
 use requests::{RequestFault, read_request};
 use std::alloc::Global;
+use std::rc::Rc;
+use tpl_output::Template;
 
 const MOMENTS: i64 = 253402300800;
 
@@ -74,6 +79,46 @@ fn tell_refusal<E: Sink>(err: &mut E, status: &Status)
     }
 }
 
+// Runs a query over the logs of its FROM names, before a refusal is told.
+fn run_logs<L: Logs, I: Source, S: Sink, E: Sink>(
+    alloc: Global,
+    spec: &Spec,
+    query: &Query,
+    template: Option<Rc<Template>>,
+    moment: i64,
+    logs: &mut L,
+    input: &mut I,
+    out: &mut S,
+    err: &mut E,
+) -> Status
+    requires moment { IsMoment moment }
+    requires range { IsInRange spec.now }
+    requires template { output_of spec.now (query_of query.now) ≡ O.Tpl → IsSome template }
+    requires built { all_built spec.now (query_of query.now) ≡ true }
+    ensures grows { OnlyGrow (L.folder logs.old) (L.folder logs.new) }
+    ensures later { L.faults logs.old ≤ L.faults logs.new }
+    ensures answers { AnswersRun
+        (record { folder = L.folder logs.old; logs_faults = L.faults logs.old; out = S.written out.old; out_faults = S.faults out.old; err = E.written err.old; err_faults = E.faults err.old })
+        (record { folder = L.folder logs.new; logs_faults = L.faults logs.new; out = S.written out.new; out_faults = S.faults out.new; err = E.written err.new; err_faults = E.faults err.new })
+        (run_text spec.now (sections_in (λ t. t.value) template) moment (query_of query.now)) spec.now moment (query_of query.now) result }
+    ensures input { input.new ≡ input.old }
+    ensures silent { OnRefused result (err.new ≡ err.old) }
+{
+    let spans = match find_spans(alloc, logs, query) {
+        Ok(spans) => spans,
+        Err(status) => return status,
+    };
+    match execute(
+        alloc, spec, query, template, moment, logs, input, &spans, out,
+    ) {
+        Ok(ran) => {
+            tell_statistics(err, spec.stats, &ran.counts);
+            Status::Done
+        }
+        Err(fault) => stopped(fault),
+    }
+}
+
 // Runs a query that is built, before a refusal is told.
 fn run_built<L: Logs, I: Source, S: Sink, E: Sink>(
     alloc: Global,
@@ -97,17 +142,11 @@ fn run_built<L: Logs, I: Source, S: Sink, E: Sink>(
     ensures input { input.new ≡ input.old }
     ensures silent { OnRefused result (err.new ≡ err.old) }
 {
-    let spans = match find_spans(alloc, logs, query) {
-        Ok(spans) => spans,
+    let template = match find_template(alloc, logs, spec, query) {
+        Ok(template) => template,
         Err(status) => return status,
     };
-    match execute(alloc, spec, query, moment, logs, input, &spans, out) {
-        Ok(ran) => {
-            tell_statistics(err, spec.stats, &ran.counts);
-            Status::Done
-        }
-        Err(fault) => stopped(fault),
-    }
+    run_logs(alloc, spec, query, template, moment, logs, input, out, err)
 }
 
 // Runs a query, before a refusal is told.
@@ -184,7 +223,8 @@ fn run_words<L: Logs, I: Source, S: Sink, E: Sink>(
 ///
 /// At `Done` the output has gained the text of the query over the records of the logs that FROM names, each up to its length
 /// at some moment of the call, and `err` the statistics; at every refusal `err` has gained its message. Of either `err` holds
-/// the front where it failed. `disk` and `input` are left as they are.
+/// the front where it failed. An output by a template is by the sections of the file that `-tpl` names, which is read before
+/// the logs are listed. `disk` and `input` are left as they are.
 pub fn run<L: Logs, D: Disk, I: Source, S: Sink, E: Sink>(
     alloc: Global,
     words: &TextList,

@@ -26,6 +26,17 @@ pub struct ReadyPlan {
     ghost parted: { Parted (length plan.used) columns.asked columns.rest plan.items (option_map filter_of plan.condition) },
 }
 
+// A plan in which what is the same in each row is worked out, and its last uses of columns.
+fn settle(alloc: Global, plan: &Plan) -> Result<(Plan, LastUses), AllocError>
+    ensures keeps { IfOk result (λ settled. (row : List Value) → keeps (option_map filter_of settled.0.condition) row ≡ keeps (option_map filter_of plan.now.condition) row) }
+    ensures selects { IfOk result (λ settled. (row : List Value) → selected_in row settled.0.items ≡ selected_in row plan.now.items) }
+    ensures uses { IfOk result (λ settled. settled.1 ≡ last_uses settled.0.items) }
+{
+    let settled = settled(alloc, plan)?;
+    let last = last_uses(alloc, &settled)?;
+    Ok((settled, last))
+}
+
 impl ReadyPlan {
     ghost use Rattle.std.specs.Prelude.{OnOk};
 
@@ -35,8 +46,7 @@ impl ReadyPlan {
         ensures { IfOk result (λ ready. ready.plan ≡ plan) }
     {
         let columns = part_columns(alloc, &plan)?;
-        let settled = settled(alloc, &plan)?;
-        let last = last_uses(alloc, &settled)?;
+        let (settled, last) = settle(alloc, &plan)?;
         Ok(ReadyPlan {
             plan,
             columns,

@@ -4,6 +4,7 @@ mod Existing
 pub mod Forms
 mod Lists
 mod Meant
+mod Placing
 mod Parts
 mod Spellings
 mod Steps

@@ -1,4 +1,4 @@
--- Which queries can be run so far: those without aggregates, GROUPING, subqueries, groups, an order, and an INTO file.
+-- Which queries can be run so far: those without aggregates, GROUPING, subqueries, groups, and an INTO file.
 use Rattle.std.specs.Prelude.{ℕ, Bool, true, false, not, ◌&&◌, List, [], ◌∷◌, codes, Option, Some, None}
 use Rattle.std.specs.List.{list_all}
 use Rattle.std.specs.Option.{is_none}
@@ -7,6 +7,7 @@ use Rattle.grammar.specs.Trees.{Tree, Trees, no_trees, more_trees, Whens, no_whe
 use Rattle.grammar.specs.Trees.{Tree as tree}
 use Rattle.grammar.specs.Trees.{Test as test}
 use Rattle.grammar.specs.Trees.{Query as query}
+use Rattle.grammar.specs.Trees.{trees_of as listed}
 use Rattle.query_types.specs.Calls.{is_aggregate}
 
 -- whether a call is one of an aggregate or of GROUPING
@@ -71,7 +72,7 @@ has_none (x ∷ xs) = false
 -- the parts of a query that can be run
 abbrev pub are_built : Parts → Bool
 are_built parts = are_plain_items parts.items && are_plain_items parts.aliases && is_standard parts.into
-    && is_plain_where parts.condition && has_none parts.keys && is_none parts.having && has_none parts.order
+    && is_plain_where parts.condition && has_none parts.keys && is_none parts.having && are_plain (listed parts.order)
 
 abbrev pub is_built : Query → Bool
 is_built (query.query parts subqueries) = are_built parts

@@ -4,12 +4,12 @@ use Rattle.std.proofs.Common.{◌∙◌, ap}
 use mathlib.Core.Logic.{inl, inr}
 use Rattle.lp_values.specs.declared.kind.Kind.{Kind}
 use Rattle.lp_values.specs.declared.value.Value.{Value}
-use Rattle.query_types.specs.Terms.{Maker, Term, column, other, constant, made, Terms, no_terms, more_terms}
+use Rattle.lp_values.specs.declared.value.Value.TheVariants.{Null}
+use Rattle.query_types.specs.Terms.{Maker, Term, column, constant, made, Terms, no_terms, more_terms}
 
 -- a step puts a term or an empty list on what was made, or takes terms off it and makes one of them
 pub data Step : Type 0 where
   a_column : ℕ → Step
-  an_other : Step
   a_constant : Value → Step
   none : Step
   one_more : Step
@@ -19,7 +19,6 @@ abbrev mutual
   -- the steps of a term in front of others
   pub steps_of : Term → List Step → List Step
   steps_of (column k) rest = a_column k ∷ rest
-  steps_of other rest = an_other ∷ rest
   steps_of (constant value) rest = a_constant value ∷ rest
   steps_of (made kind by of) rest = all_steps of (a_made kind by ∷ rest)
 
@@ -32,7 +31,6 @@ Stack = List (Term ⊎ Terms)
 
 abbrev pub taken : Step → Stack → Stack
 taken (a_column k) stack = inl (column k) ∷ stack
-taken an_other stack = inl other ∷ stack
 taken (a_constant value) stack = inl (constant value) ∷ stack
 taken none stack = inr no_terms ∷ stack
 taken one_more (inr terms ∷ inl term ∷ stack) = inr (more_terms term terms) ∷ stack
@@ -46,7 +44,7 @@ all_taken (step ∷ steps) stack = all_taken steps (taken step stack)
 
 abbrev pub top_of : Stack → Term
 top_of (inl term ∷ stack) = term
-top_of stack = other
+top_of stack = constant Null
 
 abbrev pub term_made : List Step → Term
 term_made steps = top_of (all_taken steps [])
@@ -54,7 +52,6 @@ term_made steps = top_of (all_taken steps [])
 mutual
   steps_make : (term : Term) (rest : List Step) (stack : Stack) → all_taken (steps_of term rest) stack ≡ all_taken rest (inl term ∷ stack)
   steps_make (column k) rest stack = refl
-  steps_make other rest stack = refl
   steps_make (constant value) rest stack = refl
   steps_make (made kind by of) rest stack = all_steps_make of (a_made kind by ∷ rest) stack
 

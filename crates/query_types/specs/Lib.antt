@@ -4,6 +4,7 @@ pub mod Calls
 pub mod Meanings
 pub mod Conditions
 pub mod Names
+pub mod Orders
 pub mod Parts
 pub mod Planned
 pub mod Boxed

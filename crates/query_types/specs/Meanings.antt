@@ -28,7 +28,7 @@ use Rattle.query_types.specs.declared.callee.Callee.TheVariants as C
 use Rattle.query_types.specs.declared.fault.TypeFault.{TypeFault}
 use Rattle.query_types.specs.declared.fault.TypeFault.TheVariants as F
 use Rattle.query_types.specs.Calls.{callee, has_arity}
-use Rattle.query_types.specs.Terms.{Maker, called, branched, written, read, Term, column, other, constant, made, terms_of}
+use Rattle.query_types.specs.Terms.{Maker, called, branched, written, read, stated, unlisted, Term, column, constant, made, Terms, no_terms, terms_of}
 
 -- what a call answers of a meaning or the fault that stands in its place; want of memory is free
 abbrev pub Answers : {A B : Type 0} → (A → B) → Result A TypeFault → Result B TypeFault → Type 0
@@ -40,6 +40,7 @@ Answers view (Err (F.KindMismatch at)) wanted = wanted ≡ Err (F.KindMismatch a
 Answers view (Err (F.WrongArity at)) wanted = wanted ≡ Err (F.WrongArity at)
 Answers view (Err (F.TooFewColumns at)) wanted = wanted ≡ Err (F.TooFewColumns at)
 Answers view (Err (F.BadPattern at)) wanted = wanted ≡ Err (F.BadPattern at)
+Answers view (Err (F.NotInSelect at)) wanted = wanted ≡ Err (F.NotInSelect at)
 
 -- what follows where there is no fault yet
 abbrev pub followed : {A B : Type 0} → Result A TypeFault → (A → Result B TypeFault) → Result B TypeFault
@@ -70,7 +71,6 @@ kind_at columns k = kind_in (slice_get columns k)
 
 abbrev pub kind_meant : List NamedKind → Term → Kind
 kind_meant columns (column k) = kind_at columns k
-kind_meant columns other = K.Any
 kind_meant columns (constant value) = kind_of value
 kind_meant columns (made kind by of) = kind
 
@@ -78,22 +78,26 @@ kind_meant columns (made kind by of) = kind
 abbrev pub alias_named : List Alias → List ℕ → Option Alias
 alias_named aliases name = find (λ alias. str_eq_ignore_ascii_case alias.name name) aliases
 
+-- a column that the table doesn't list
+abbrev pub other : List ℕ → Term
+other name = made K.Any (unlisted name) no_terms
+
 -- a name that is no column of the table and no alias
-abbrev pub other_means : Bool → ℕ → Result Term TypeFault
-other_means true at = Ok other
-other_means false at = Err (F.UnknownField at)
+abbrev pub other_means : Bool → ℕ → List ℕ → Result Term TypeFault
+other_means true at name = Ok (other name)
+other_means false at name = Err (F.UnknownField at)
 
-abbrev pub alias_means : Option Alias → Bool → ℕ → Result Term TypeFault
-alias_means (Some alias) others at = alias.meaning
-alias_means None others at = other_means others at
+abbrev pub alias_means : Option Alias → Bool → ℕ → List ℕ → Result Term TypeFault
+alias_means (Some alias) others at name = alias.meaning
+alias_means None others at name = other_means others at name
 
-abbrev pub column_means : Option ℕ → Option Alias → Bool → ℕ → Result Term TypeFault
-column_means (Some k) alias others at = Ok (column k)
-column_means None alias others at = alias_means alias others at
+abbrev pub column_means : Option ℕ → Option Alias → Bool → ℕ → List ℕ → Result Term TypeFault
+column_means (Some k) alias others at name = Ok (column k)
+column_means None alias others at name = alias_means alias others at name
 
 -- a word means the first column of that name, else the first alias, else a column of the others
 abbrev pub word_means : TableColumns → List Alias → ℕ → List ℕ → Result Term TypeFault
-word_means table aliases at name = column_means (column_named table.columns name) (alias_named aliases name) table.others at
+word_means table aliases at name = column_means (column_named table.columns name) (alias_named aliases name) table.others at name
 
 -- so much may be where it is so, else there is a fault
 abbrev pub where_it_is : {A : Type 0} → Bool → TypeFault → A → Result A TypeFault
@@ -154,20 +158,25 @@ moment_as Both value = value
 moment_as Date value = to_date value
 moment_as Time value = to_time value
 
+-- a value that the query states, of the texts that say it
+abbrev pub said : Value → List Term → Term
+said value texts = made (kind_of value) (stated value) (terms_of texts)
+
 -- a call with arguments that mean this; aggregates aren't built yet
 abbrev pub call_means : List NamedKind → Value → ℕ → Callee → Trees → List Term → Result Term TypeFault
 call_means columns moment at (C.Function function) es terms = function_means columns at function es terms
-call_means columns moment at (C.Now part) es terms = Ok (constant (moment_as part moment))
+call_means columns moment at (C.Now part) es terms = Ok (said (moment_as part moment) [])
 call_means columns moment at C.Aggregate es terms = Err (F.UnknownFunction at)
 call_means columns moment at C.Unknown es terms = Err (F.UnknownFunction at)
 
-abbrev pub stamp_read : ℕ → Part → Option ℤ → Result Term TypeFault
-stamp_read at part None = Err (F.BadPattern at)
-stamp_read at part (Some seconds) = Ok (constant (stamp_value part seconds))
+-- a stamp that a value and a pattern say, where the one reads by the other
+abbrev pub stamp_read : Placed → Placed → Part → Option ℤ → Result Term TypeFault
+stamp_read value pattern part None = Err (F.BadPattern value.at)
+stamp_read value pattern part (Some seconds) = Ok (said (stamp_value part seconds) (constant (V.Text value.text) ∷ constant (V.Text pattern.text) ∷ []))
 
 -- TIMESTAMP
 abbrev pub stamp_means : Placed → Placed → Result Term TypeFault
-stamp_means value pattern = followed (pattern_of pattern.at (Some pattern)) (λ pieces. stamp_read value.at (part_of pieces) (seconds_in pieces value.text))
+stamp_means value pattern = followed (pattern_of pattern.at (Some pattern)) (λ pieces. stamp_read value pattern (part_of pieces) (seconds_in pieces value.text))
 
 -- two kinds of THEN and ELSE agree where they are equal or one is Any
 abbrev pub agree : Kind → Kind → Bool

@@ -15,6 +15,7 @@ use Rattle.query_types.specs.declared.plans.Plan.{Plan}
 use Rattle.query_types.specs.Meanings.{followed, added, meant, kind_meant}
 use Rattle.query_types.specs.Conditions.{Filter, filter_of, filtered, mentions}
 use Rattle.query_types.specs.Names.{item_name}
+use Rattle.query_types.specs.Orders.{places_asked}
 
 -- these aliases, and behind them that of an item, which may use those before it
 abbrev pub with_alias : TableColumns → Value → List Alias → Option (List ℕ) → Tree → List Alias
@@ -84,13 +85,15 @@ abbrev pub used_from : {A : Type 0} → ℕ → List A → List Term → List Te
 used_from at [] aliased items filter = []
 used_from at (c ∷ cs) aliased items filter = (any_has_column at aliased || any_has_column at items || is_mentioned at filter) ∷ used_from (at + 1) cs aliased items filter
 
--- a plan: what each output column means, its name and its kind; the condition; which columns of the table words of the query mean
+-- a plan: what each output column means, its name and its kind; the condition; which columns of the table words of the query mean; the
+-- places of the output columns that rows are ordered by
 pub record Planned : Type 0 where
   pub items : List Term
   pub names : List (List ℕ)
   pub kinds : List Kind
   pub condition : Option Filter
   pub used : List Bool
+  pub order : List ℕ
 
 -- each column of the table that the items or the condition have is told as used
 pub record Covers (used : List Bool) (items : List Term) (condition : Option Filter) : Type 0 where
@@ -99,23 +102,28 @@ pub record Covers (used : List Bool) (items : List Term) (condition : Option Fil
 
 -- what a plan holds
 abbrev pub planned_in : Plan → Planned
-planned_in plan = record { items = plan.items; names = plan.names; kinds = plan.kinds; condition = option_map filter_of plan.condition; used = plan.used }
+planned_in plan = record { items = plan.items; names = plan.names; kinds = plan.kinds; condition = option_map filter_of plan.condition; used = plan.used; order = plan.order }
 
-abbrev pub plan_with : TableColumns → List Alias → Parts → List Term → List Term → Option Filter → Planned
-plan_with table all parts aliased items filter = record {
+abbrev pub plan_with : TableColumns → List Alias → Parts → List Term → List Term → Option Filter → List ℕ → Planned
+plan_with table all parts aliased items filter order = record {
   items = items;
   names = list_names table all parts.star parts.items;
   kinds = map (kind_meant table.columns) items;
   condition = filter;
   used = used_from 0 table.columns aliased items filter;
+  order = order;
 }
 
--- SELECT, WHERE and INTO in this order: the first fault, or the plan
+-- what WHERE means, and where the expressions of ORDER BY stand among the items
+abbrev pub filter_and_order : TableColumns → Value → List Alias → Parts → List Term → Result (Option Filter × List ℕ) TypeFault
+filter_and_order table moment all parts items = followed (where_meant table moment all parts.condition) (λ filter. followed (places_asked table moment all items parts.order) (λ order. Ok (filter, order)))
+
+-- what SELECT, WHERE and ORDER BY mean, then where ORDER BY's expressions stand in SELECT, then INTO: the first fault, or the plan
 abbrev pub plan_behind : TableColumns → Value → List Alias → List Alias → Parts → List Term → Result Planned TypeFault
 plan_behind table moment using all parts aliased =
     followed (list_meant table moment using all parts.star parts.items) (λ items.
-    followed (where_meant table moment all parts.condition) (λ filter.
-    if has_too_few (length items) parts.into then Err (F.TooFewColumns (place_in parts.into)) else Ok (plan_with table all parts aliased items filter)))
+    followed (filter_and_order table moment all parts items) (λ asked.
+    if has_too_few (length items) parts.into then Err (F.TooFewColumns (place_in parts.into)) else Ok (plan_with table all parts aliased items asked.0 asked.1)))
 
 -- the same behind USING, with the aliases of USING and of SELECT
 abbrev pub plan_of_parts : TableColumns → Value → Parts → Result Planned TypeFault

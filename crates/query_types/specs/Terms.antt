@@ -6,21 +6,24 @@ use Rattle.lp_values.specs.declared.value.Value.{Value}
 use Rattle.lp_time.specs.declared.piece.Piece.{Piece}
 use Rattle.lp_functions.specs.declared.function.Function.{Function}
 use Rattle.query_types.specs.declared.form.Operation.{Operation}
-use Rattle.query_types.specs.declared.form.Operation.TheVariants.{Call, Case, Write, Read}
-use Rattle.query_types.specs.declared.form.Form.{Form, Column, Other, Constant, Made', Row_of-Form, end_of-Form, more_of-Form}
+use Rattle.query_types.specs.declared.form.Operation.TheVariants.{Call, Case, Write, Read, Stated, Unlisted}
+use Rattle.query_types.specs.declared.form.Form.{Form, Column, Constant, Made', Row_of-Form, end_of-Form, more_of-Form}
 
--- how a value is made of others: by a function, by CASE, as a stamp written or a text read by a pattern
+-- how a value is made of others: by a function, by CASE, as a stamp written or a text read by a pattern; or a value that the query
+-- states, a stamp of the two texts of a TIMESTAMP, the moment of the run of nothing; or NULL, by the name of a column that the table
+-- doesn't list
 pub data Maker : Type 0 where
   called : Function → Maker
   branched : Maker
   written : List Piece → Maker
   read : List Piece → Maker
+  stated : Value → Maker
+  unlisted : List ℕ → Maker
 
 mutual
-  -- a column of the table, a column that the table doesn't list, a constant, or what is made of others, and of which kind it is
+  -- a column of the table, a constant, or what is made of others, and of which kind it is
   pub data Term : Type 0 where
     column : ℕ → Term
-    other : Term
     constant : Value → Term
     made : Kind → Maker → Terms → Term
 
@@ -37,11 +40,12 @@ maker_of (Call function) = called function
 maker_of Case = branched
 maker_of (Write pattern) = written pattern.value
 maker_of (Read pattern) = read pattern.value
+maker_of (Stated value) = stated value
+maker_of (Unlisted name) = unlisted name
 
 abbrev mutual
   pub term_of : Form → Term
   term_of (Column k) = column k
-  term_of Other = other
   term_of (Constant value) = constant value
   term_of (Made' kind by shape all) = made kind (maker_of by) (terms_in all)
 
@@ -53,7 +57,6 @@ abbrev mutual
 abbrev mutual
   pub has_column : ℕ → Term → Bool
   has_column k (column n) = n == k
-  has_column k other = false
   has_column k (constant value) = false
   has_column k (made kind by of) = have_column k of
 

@@ -145,14 +145,14 @@ fn is_standard(into: &Option<Placed>) -> bool
     }
 }
 
-// Whether a query has no keys, no HAVING and no order.
+// Whether a query has no keys, no HAVING, and an order that has neither an aggregate nor GROUPING.
 fn has_no_groups(query: &Query) -> bool
-    ensures { result ≡ (has_none (trees_of (out-Query query.now).keys) && is_none (option_map test_of (out-Query query.now).having) && has_none (trees_of (out-Query query.now).order)) }
+    ensures { result ≡ (has_none (trees_of (out-Query query.now).keys) && is_none (option_map test_of (out-Query query.now).having) && are_plain (listed (trees_of (out-Query query.now).order))) }
 {
-    query.keys.len() == 0 && query.having.is_none() && query.order.len() == 0
+    query.keys.len() == 0 && query.having.is_none() && are_plain(&query.order)
 }
 
-/// Whether a query can be run: it has no aggregate, GROUPING, subquery, groups, HAVING, order, or INTO other than STDOUT.
+/// Whether a query can be run: it has no aggregate, GROUPING, subquery, groups, HAVING, or INTO other than STDOUT.
 pub fn is_built(query: &Query) -> bool
     ensures { result ≡ is_built (query_of query.now) }
 {

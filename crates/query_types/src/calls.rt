@@ -8,7 +8,7 @@ ghost use Rattle.query_types.specs.Meanings.{Answers, call_means, function_means
 use crate::callee::Callee;
 use crate::form::{Form, Operation, made};
 use crate::kinds::kinds_of_forms;
-use crate::stamps::{moment_as, pattern_of};
+use crate::stamps::{moment_as, moment_said, pattern_of};
 use crate::{Meaning, TableColumns, TypeFault};
 use lp_functions::Function;
 use lp_time::Pattern;
@@ -120,7 +120,7 @@ pub(crate) fn call_means(
         Callee::Function(function) => {
             function_means(alloc, table, at, function, arguments, forms)
         }
-        Callee::Now(part) => Ok(Meaning::constant(moment_as(alloc, part, moment)?)),
+        Callee::Now(part) => Ok(moment_said(alloc, moment_as(alloc, part, moment)?)),
         Callee::Aggregate | Callee::Unknown => Err(TypeFault::UnknownFunction { at }),
     }
 }

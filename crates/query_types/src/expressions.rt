@@ -35,7 +35,7 @@ fn word_means(
     }
     match find_alias(aliases, name) {
         Some(alias) => alias.meant(alloc),
-        None if table.others => Ok(Meaning::other()),
+        None if table.others => Ok(Meaning::other(alloc, name)?),
         None => Err(TypeFault::UnknownField { at }),
     }
 }
@@ -143,7 +143,7 @@ pub fn meant(
             at: _,
             value,
             pattern,
-        } => stamp_means(value, pattern),
+        } => stamp_means(alloc, value, pattern),
         Expr::Word { at, name } => word_means(alloc, table, aliases, *at, name.as_str()),
         Expr::Call {
             at,

@@ -19,6 +19,8 @@ pub enum TypeFault {
     TooFewColumns { at: u32 },
     /// An argument that has to be a pattern and is none, or the value of a TIMESTAMP that doesn't read by its pattern.
     BadPattern { at: u32 },
+    /// An expression of ORDER BY that is none of SELECT's.
+    NotInSelect { at: u32 },
     /// There was no memory.
     Memory,
 }

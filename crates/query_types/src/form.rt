@@ -5,7 +5,7 @@ ghost use Rattle.query_types.specs.Terms.{Term as term};
 
 use lp_functions::Function;
 use lp_time::Pattern;
-use lp_values::{Kind, Value};
+use lp_values::{Kind, Text, Value};
 use std::alloc::{AllocError, Global};
 use std::rc::Rc;
 
@@ -20,6 +20,10 @@ pub enum Operation {
     Write(Rc<Pattern>),
     /// A stamp read from a text by a pattern.
     Read(Rc<Pattern>),
+    /// A value that the query states: the stamp of a TIMESTAMP, of its two texts, or the moment of the run, of nothing.
+    Stated(Value),
+    /// NULL, for a column of this name, which the table doesn't list.
+    Unlisted(Text),
 }
 
 /// What an expression means: nothing in it is looked up by name.
@@ -27,8 +31,6 @@ pub enum Operation {
 pub enum Form {
     /// The column at this place of the table.
     Column(usize),
-    /// A column that the table doesn't list, NULL in each row.
-    Other,
     /// A value that is the same in each row.
     Constant(Value),
     /// What is made of others, and its kind.
@@ -41,7 +43,7 @@ pub enum Form {
 
 impl Operation {
     /// The same again.
-    pub fn copy(&self) -> Result<Operation, AllocError>
+    pub fn copy(&self, alloc: Global) -> Result<Operation, AllocError>
         ensures { IfOk result (λ copy. maker_of copy ≡ maker_of self.now) }
     {
         match self {
@@ -49,6 +51,8 @@ impl Operation {
             Operation::Case => Ok(Operation::Case),
             Operation::Write(pattern) => Ok(Operation::Write(Rc::clone(pattern)?)),
             Operation::Read(pattern) => Ok(Operation::Read(Rc::clone(pattern)?)),
+            Operation::Stated(value) => Ok(Operation::Stated(value.copy(alloc)?)),
+            Operation::Unlisted(name) => Ok(Operation::Unlisted(name.copy(alloc)?)),
         }
     }
 }
@@ -66,14 +70,13 @@ pub(crate) fn copied(alloc: Global, form: &Form) -> Result<Form, AllocError>
 {
     match form {
         Form::Column(index) => Ok(Form::Column(*index)),
-        Form::Other => Ok(Form::Other),
         Form::Constant(value) => Ok(Form::Constant(value.copy(alloc)?)),
         Form::Made { kind, by, of } => {
             let mut parts = Vec::new(alloc);
             for part in of {
                 parts.push(copied(alloc, part)?)?;
             }
-            let operation = by.copy()?;
+            let operation = by.copy(alloc)?;
             Ok(made(*kind, operation, parts))
         }
     }
@@ -85,7 +88,6 @@ pub(crate) fn has_column(index: usize, form: &Form) -> bool
 {
     match form {
         Form::Column(place) => *place == index,
-        Form::Other => false,
         Form::Constant(_) => false,
         Form::Made { kind: _, by: _, of } => {
             for part in of {

@@ -16,7 +16,6 @@ pub(crate) fn kind_of_form(table: &TableColumns, form: &Form) -> Kind
 {
     match form {
         Form::Column(index) => table.kind(*index),
-        Form::Other => Kind::Any,
         Form::Constant(value) => value.kind(),
         Form::Made { kind, by: _, of: _ } => *kind,
     }

@@ -2,8 +2,7 @@
 //!
 //! To the crates above: [`plan`] answers exactly the plan that `specs::Planned` gives a query and a table, or exactly the
 //! first fault of its clauses, with its place. A plan names no column: it holds places in the row, constants, and the
-//! condition over them, so nothing is looked up while rows go by, and a pattern is read once. Groups and orders aren't built
-//! yet.
+//! condition over them, so nothing is looked up while rows go by, and a pattern is read once. Groups aren't built yet.
 #![tactic(auto)]
 
 mod alias;
@@ -19,6 +18,7 @@ mod form;
 mod kinds;
 mod meaning;
 mod naming;
+mod ordering;
 mod planning;
 mod plans;
 mod selecting;
@@ -33,6 +33,6 @@ pub use fault::TypeFault;
 pub use form::{Form, Operation};
 pub use meaning::{Meaning, MeaningList};
 pub use planning::plan;
-pub use plans::{KindList, Plan, UsedList};
+pub use plans::{KindList, PlaceList, Plan, UsedList};
 pub use table::{NamedKind, NamedKinds, TableColumns};
 pub use using_columns::mentions;

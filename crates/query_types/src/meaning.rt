@@ -1,12 +1,14 @@
 // What an expression means once its names are replaced.
 ghost use Rattle.std.specs.Prelude.{◌≡◌, IfOk};
-ghost use Rattle.query_types.specs.Meanings.{kind_meant};
+ghost use Rattle.query_types.specs.Meanings.{kind_meant, other};
+ghost use Rattle.query_types.specs.Orders.{same_term};
 ghost use Rattle.query_types.specs.Terms.{term_of, has_column};
 ghost use Rattle.query_types.specs.Terms.{Term as term};
 
 use crate::TableColumns;
-use crate::form::{Form, copied, has_column};
-use lp_values::{Kind, ListOf, Value};
+use crate::form::{Form, Operation, copied, has_column, made};
+use crate::ordering::is_same;
+use lp_values::{Kind, ListOf, Text, Value};
 use std::alloc::{AllocError, Global};
 use std::marker::Model;
 
@@ -46,10 +48,12 @@ impl Meaning {
     }
 
     /// A column that the table doesn't list.
-    pub fn other() -> Meaning
-        ensures { result ≡ term.other }
+    pub fn other(alloc: Global, name: &str) -> Result<Meaning, AllocError>
+        ensures { IfOk result (λ meaning. meaning ≡ other name.now) }
     {
-        Meaning::new(Form::Other)
+        let name = Text::from_str(alloc, name)?;
+        let parts = Vec::new(alloc);
+        Ok(Meaning::new(made(Kind::Any, Operation::Unlisted(name), parts)))
     }
 
     /// A value that is the same in each row.
@@ -84,10 +88,16 @@ impl Meaning {
     {
         match &self.form {
             Form::Column(index) => table.kind(*index),
-            Form::Other => Kind::Any,
             Form::Constant(value) => value.kind(),
             Form::Made { kind, by: _, of: _ } => *kind,
         }
+    }
+
+    /// Whether it is another by its form.
+    pub fn is(&self, other: &Meaning) -> bool
+        ensures { result ≡ same_term self.now other.now }
+    {
+        is_same(&self.form, &other.form)
     }
 
     /// Whether it has the column at a place of the table.

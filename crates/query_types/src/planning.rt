@@ -6,15 +6,16 @@ ghost use Rattle.query_types.specs.Meanings.{Answers, kind_meant};
 ghost use Rattle.query_types.specs.Conditions.{filter_of};
 ghost use Rattle.query_types.specs.Built.{is_built};
 ghost use Rattle.query_types.specs.Parts.{parts_of};
-ghost use Rattle.query_types.specs.Planned.{Covers, plan_behind, used_from, where_meant, list_meant, list_names, has_too_few, with_aliases, plan_of, planned_in};
+ghost use Rattle.query_types.specs.Planned.{Covers, filter_and_order, plan_behind, used_from, where_meant, list_meant, list_names, has_too_few, with_aliases, plan_of, planned_in};
 
 use crate::alias::{Alias, AliasList};
 use crate::conditions::filtered;
 use crate::naming::{column_names, item_names};
+use crate::ordering::places_asked;
 use crate::selecting::{add_aliases, every_column, selected};
 use crate::stamps::moment_value;
 use crate::using_columns::used_columns;
-use crate::{Condition, KindList, MeaningList, Plan, TableColumns, TypeFault};
+use crate::{Condition, KindList, MeaningList, PlaceList, Plan, TableColumns, TypeFault};
 use lp_values::{TextList, Value};
 use query_tree::{Cond, Placed, Query};
 use std::alloc::{AllocError, Global};
@@ -101,6 +102,22 @@ fn list_names(
     }
 }
 
+// What WHERE means, and where the expressions of ORDER BY stand among the items.
+fn filter_and_order(
+    alloc: Global,
+    table: &TableColumns,
+    moment: &Value,
+    all: &[Alias],
+    query: &Query,
+    items: &MeaningList,
+) -> Result<(Option<Condition>, PlaceList), TypeFault>
+    ensures { Answers (λ found. (option_map filter_of found.0, found.1)) result (filter_and_order table.now moment.now all.now (parts_of query.now) items.now) }
+{
+    let condition = where_meant(alloc, table, moment, all, &query.condition)?;
+    let order = places_asked(alloc, table, moment, all, items, &query.order)?;
+    Ok((condition, order))
+}
+
 // The plan of what was found.
 fn planned(
     alloc: Global,
@@ -109,12 +126,14 @@ fn planned(
     aliased: &MeaningList,
     items: MeaningList,
     condition: Option<Condition>,
+    order: PlaceList,
 ) -> Result<Plan, AllocError>
     ensures items { IfOk result (λ plan. plan.items ≡ items) }
     ensures names { IfOk result (λ plan. plan.names ≡ names) }
     ensures kinds { IfOk result (λ plan. plan.kinds ≡ map (kind_meant table.now.columns) items) }
     ensures condition { IfOk result (λ plan. option_map filter_of plan.condition ≡ option_map filter_of condition) }
     ensures used { IfOk result (λ plan. plan.used ≡ used_from 0 table.now.columns aliased.now items (option_map filter_of condition)) }
+    ensures order { IfOk result (λ plan. plan.order ≡ order) }
     ensures size { IfOk result (λ plan. length plan.used ≡ length table.now.columns) }
     ensures covers { IfOk result (λ plan. Covers plan.used plan.items (option_map filter_of plan.condition)) }
 {
@@ -126,10 +145,11 @@ fn planned(
         kinds,
         condition,
         used,
+        order,
     })
 }
 
-// The plan behind USING: what SELECT, WHERE and INTO say, where all aliases are known.
+// The plan behind USING: what SELECT, WHERE, ORDER BY and INTO say, where all aliases are known.
 fn plan_behind(
     alloc: Global,
     query: &Query,
@@ -146,18 +166,18 @@ fn plan_behind(
     ensures covers { IfOk result (λ plan. Covers plan.used plan.items (option_map filter_of plan.condition)) }
 {
     let items = list_meant(alloc, table, moment, before, all, query)?;
-    let condition = where_meant(alloc, table, moment, all, &query.condition)?;
+    let (condition, order) = filter_and_order(alloc, table, moment, all, query, &items)?;
     if let Some(into) = &query.into
         && has_too_few(items.len(), into)
     {
         return Err(TypeFault::TooFewColumns { at: into.at });
     }
     let names = list_names(alloc, table, all, query)?;
-    Ok(planned(alloc, table, names, aliased, items, condition)?)
+    Ok(planned(alloc, table, names, aliased, items, condition, order)?)
 }
 
-/// The plan of a query over a table in a run of this moment, or the first fault of its clauses: USING, SELECT, WHERE, and then INTO, each from left to
-/// right.
+/// The plan of a query over a table in a run of this moment, or the first fault of its clauses: USING, SELECT, WHERE, ORDER BY, each
+/// from left to right, then the first expression of ORDER BY that isn't selected, and then INTO.
 pub fn plan(
     alloc: Global,
     query: &Query,

@@ -9,6 +9,9 @@ pub type KindList = ListOf<Kind>;
 /// For each column of a table whether it is used.
 pub type UsedList = ListOf<bool>;
 
+/// Places of output columns.
+pub type PlaceList = ListOf<usize>;
+
 /// What a query asks of each row of a table, by places.
 #[derive(Drop)]
 pub struct Plan {
@@ -22,6 +25,8 @@ pub struct Plan {
     pub condition: Option<Condition>,
     /// Which columns of the table words of the query mean.
     pub used: UsedList,
+    /// The output columns that rows are ordered by, the first before the others; none where they stay as they come.
+    pub order: PlaceList,
 }
 
 impl Plan {
@@ -37,6 +42,13 @@ impl Plan {
         ensures { result.now ≡ self.now.kinds }
     {
         &self.kinds
+    }
+
+    /// The places of the output columns that rows are ordered by.
+    pub fn order(&self) -> &PlaceList
+        ensures { result.now ≡ self.now.order }
+    {
+        &self.order
     }
 
     /// Whether a word of the query means this column of the table; under `*` each is meant.

@@ -1,11 +1,14 @@
 // Stamps that a query names.
-ghost use Rattle.std.specs.Prelude.{◌≡◌, Some, IfOk};
+ghost use Rattle.std.specs.Prelude.{◌≡◌, [], ◌∷◌, Some, IfOk};
 ghost use Rattle.query_tree.specs.Views.{placed_of};
 ghost use Rattle.lp_time.specs.Readings.{part_of, seconds_in};
 ghost use Rattle.slot_reading.specs.Stamps.{stamp_value};
 ghost use Rattle.lp_values.specs.declared.part.Part.TheVariants.{Both};
-ghost use Rattle.query_types.specs.Meanings.{Answers, moment_as, pattern_of, stamp_means, stamp_read};
+ghost use Rattle.lp_values.specs.declared.value.Value.TheVariants as V;
+ghost use Rattle.query_types.specs.Meanings.{Answers, moment_as, pattern_of, said, stamp_means, stamp_read};
+ghost use Rattle.query_types.specs.Terms.{constant, term_of};
 
+use crate::form::{Form, Operation, made};
 use crate::{Meaning, TypeFault};
 use lp_functions::{to_date, to_time};
 use lp_time::{Pattern, read_stamp};
@@ -23,22 +26,62 @@ pub(crate) fn pattern_of(at: u32, text: &Text) -> Result<Pattern, TypeFault>
     }
 }
 
-// A value read by a pattern.
-fn stamp_read(value: &Placed, pattern: &Pattern) -> Result<Meaning, TypeFault>
-    ensures { Answers (λ meaning. meaning) result (stamp_read value.now.at (part_of pattern.now) (seconds_in pattern.now value.now.text)) }
+// A text as a part.
+fn text_form(alloc: Global, text: &Text) -> Result<Form, AllocError>
+    ensures { IfOk result (λ form. term_of form ≡ constant (V.Text text.now)) }
+{
+    Ok(Form::Constant(Value::Text(text.copy(alloc)?)))
+}
+
+// A value that two texts say.
+fn said_by_two(
+    alloc: Global,
+    value: Value,
+    first: &Text,
+    second: &Text,
+) -> Result<Meaning, AllocError>
+    ensures { IfOk result (λ meaning. meaning ≡ said value (constant (V.Text first.now) ∷ constant (V.Text second.now) ∷ [])) }
+{
+    let mut texts = Vec::new(alloc);
+    texts.push(text_form(alloc, first)?)?;
+    texts.push(text_form(alloc, second)?)?;
+    let kind = value.kind();
+    Ok(Meaning::new(made(kind, Operation::Stated(value), texts)))
+}
+
+/// The moment of a run, as a call says it.
+pub(crate) fn moment_said(alloc: Global, value: Value) -> Meaning
+    ensures { result ≡ said value [] }
+{
+    let kind = value.kind();
+    Meaning::new(made(kind, Operation::Stated(value), Vec::new(alloc)))
+}
+
+// A value read by a pattern, which stands as a text.
+fn stamp_read(
+    alloc: Global,
+    value: &Placed,
+    text: &Placed,
+    pattern: &Pattern,
+) -> Result<Meaning, TypeFault>
+    ensures { Answers (λ meaning. meaning) result (stamp_read (placed_of value.now) (placed_of text.now) (part_of pattern.now) (seconds_in pattern.now value.now.text)) }
 {
     match read_stamp(pattern, value.text.as_str()) {
-        Some(stamp) => Ok(Meaning::constant(Value::Stamp(stamp))),
+        Some(stamp) => Ok(said_by_two(alloc, Value::Stamp(stamp), &value.text, &text.text)?),
         None => Err(TypeFault::BadPattern { at: value.at }),
     }
 }
 
 /// TIMESTAMP.
-pub(crate) fn stamp_means(value: &Placed, pattern: &Placed) -> Result<Meaning, TypeFault>
+pub(crate) fn stamp_means(
+    alloc: Global,
+    value: &Placed,
+    pattern: &Placed,
+) -> Result<Meaning, TypeFault>
     ensures { Answers (λ meaning. meaning) result (stamp_means (placed_of value.now) (placed_of pattern.now)) }
 {
     let pieces = pattern_of(pattern.at, &pattern.text)?;
-    stamp_read(value, &pieces)
+    stamp_read(alloc, value, pattern, &pieces)
 }
 
 /// The moment of a run as a stamp; NULL outside the years of stamps.

@@ -9,8 +9,10 @@ use Rattle.query_types.specs.declared.fault.TypeFault.{TypeFault}
 use Rattle.query_types.specs.declared.fault.TypeFault.TheVariants as type
 use Rattle.query_text.specs.declared.fault.QueryFault.{QueryFault}
 use Rattle.query_text.specs.declared.fault.QueryFault.TheVariants as query
+use Rattle.tpl_output.specs.declared.fault.TemplateFault.{TemplateFault}
+use Rattle.tpl_output.specs.declared.fault.TemplateFault.TheVariants as template
 use Rattle.reports.specs.declared.status.Status.{Status}
-use Rattle.reports.specs.declared.status.Status.TheVariants.{Done, Memory, Clock, Usage, Query, NotBuilt, NoSuchLog, BadName, TooManyLogs, LogsFault, SinkFault, ParseErrors}
+use Rattle.reports.specs.declared.status.Status.TheVariants.{Done, Memory, Clock, Usage, Query, NotBuilt, NoSuchLog, BadName, TooManyLogs, Template, LogsFault, SinkFault, ParseErrors}
 
 -- a number, where there is one, with what parts it from the text behind
 abbrev pub counted : Option ℕ → List ℕ
@@ -39,6 +41,7 @@ type_reason (type.UnknownFunction at) = at_place at (codes "unknown function")
 type_reason (type.KindMismatch at) = at_place at (codes "kind mismatch")
 type_reason (type.WrongArity at) = at_place at (codes "wrong arity")
 type_reason (type.TooFewColumns at) = at_place at (codes "too few columns")
+type_reason (type.NotInSelect at) = at_place at (codes "not in select")
 type_reason (type.BadPattern at) = at_place at (codes "bad pattern")
 type_reason type.Memory = codes "out of memory"
 
@@ -49,6 +52,17 @@ query_reason (query.Lex fault) = lex_reason fault
 query_reason (query.Parse fault) = parse_reason fault
 query_reason (query.StdinMisplaced at) = at_place at (codes "STDIN misplaced")
 query_reason (query.Plan fault) = type_reason fault
+
+-- a kind of fault at a place of the template
+abbrev pub in_template : ℕ → List ℕ → List ℕ
+in_template at kind = codes "input: template at " ++ counted (Some at) ++ kind
+
+abbrev pub template_reason : TemplateFault → List ℕ
+template_reason (template.Unclosed at) = in_template at (codes "unclosed")
+template_reason (template.Misplaced at) = in_template at (codes "misplaced")
+template_reason (template.OutsideText at) = in_template at (codes "outside text")
+template_reason (template.TooLarge at) = in_template at (codes "too large")
+template_reason template.Memory = codes "out of memory"
 
 -- the number of a line that a refusal names
 abbrev pub row_text : Option ℕ → List ℕ
@@ -66,6 +80,7 @@ named NotBuilt = codes "not built"
 named (NoSuchLog name) = codes "input: no such log " ++ name
 named (BadName fault) = codes "input: bad name"
 named TooManyLogs = codes "input: more than 100000 logs"
+named (Template fault) = template_reason fault
 named LogsFault = codes "read fault: logs"
 named SinkFault = codes "write fault"
 named (ParseErrors log row) = codes "parse errors: " ++ log

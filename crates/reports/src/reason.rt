@@ -1,12 +1,13 @@
 // What a refusal is called: a text, a number where there is one, and a text behind it.
 ghost use Rattle.std.specs.Prelude.{◌≡◌, ◌++◌};
-ghost use Rattle.reports.specs.Messages.{counted, lex_reason, parse_reason, type_reason, query_reason, named, row_in};
+ghost use Rattle.reports.specs.Messages.{counted, lex_reason, parse_reason, type_reason, query_reason, template_reason, named, row_in};
 
 use crate::Status;
 use query_lexer::LexFault;
 use query_parser::ParseFault;
 use query_text::QueryFault;
 use query_types::TypeFault;
+use tpl_output::TemplateFault;
 
 fn lex_reason(fault: LexFault) -> (&'static str, Option<u32>, &'static str)
     ensures { result.0.now ++ counted result.1 ++ result.2.now ≡ lex_reason fault }
@@ -39,6 +40,7 @@ fn type_reason(fault: TypeFault) -> (&'static str, Option<u32>, &'static str)
         TypeFault::KindMismatch { at } => ("query: at ", Some(at), "kind mismatch"),
         TypeFault::WrongArity { at } => ("query: at ", Some(at), "wrong arity"),
         TypeFault::TooFewColumns { at } => ("query: at ", Some(at), "too few columns"),
+        TypeFault::NotInSelect { at } => ("query: at ", Some(at), "not in select"),
         TypeFault::BadPattern { at } => ("query: at ", Some(at), "bad pattern"),
         TypeFault::Memory => ("out of memory", None, ""),
     }
@@ -57,6 +59,18 @@ fn query_reason(fault: QueryFault) -> (&'static str, Option<u32>, &'static str)
     }
 }
 
+fn template_reason(fault: TemplateFault) -> (&'static str, Option<u32>, &'static str)
+    ensures { result.0.now ++ counted result.1 ++ result.2.now ≡ template_reason fault }
+{
+    match fault {
+        TemplateFault::Unclosed { at } => ("input: template at ", Some(at), "unclosed"),
+        TemplateFault::Misplaced { at } => ("input: template at ", Some(at), "misplaced"),
+        TemplateFault::OutsideText { at } => ("input: template at ", Some(at), "outside text"),
+        TemplateFault::TooLarge { at } => ("input: template at ", Some(at), "too large"),
+        TemplateFault::Memory => ("out of memory", None, ""),
+    }
+}
+
 pub(crate) fn named(status: &Status) -> (&str, Option<u32>, &str)
     ensures { result.0.now ++ counted result.1 ++ result.2.now ≡ named status.now }
 {
@@ -70,6 +84,7 @@ pub(crate) fn named(status: &Status) -> (&str, Option<u32>, &str)
         Status::NoSuchLog(name) => ("input: no such log ", None, name.as_str()),
         Status::BadName(_) => ("input: bad name", None, ""),
         Status::TooManyLogs => ("input: more than 100000 logs", None, ""),
+        Status::Template(fault) => template_reason(*fault),
         Status::LogsFault => ("read fault: logs", None, ""),
         Status::SinkFault => ("write fault", None, ""),
         Status::ParseErrors { log, .. } => ("parse errors: ", None, log.as_str()),

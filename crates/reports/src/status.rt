@@ -4,6 +4,7 @@ ghost use Rattle.std.specs.Prelude.{◌≡◌};
 use command_words::UsageFault;
 use lp_outside::{Name, NameFault};
 use query_text::QueryFault;
+use tpl_output::TemplateFault;
 
 /// The answer of a run. Each variant but `Done` is a refusal, with what it names.
 #[derive(Drop)]
@@ -26,6 +27,8 @@ pub enum Status {
     BadName(NameFault),
     /// More than 100,000 logs are named.
     TooManyLogs,
+    /// The bytes of the template's file are no template.
+    Template(TemplateFault),
     /// A log couldn't be read.
     LogsFault,
     /// The output couldn't be written.
@@ -46,7 +49,8 @@ impl Status {
             Status::Memory => 1,
             Status::Clock(_) | Status::Usage(_) | Status::NotBuilt => 2,
             Status::Query(_) => 3,
-            Status::NoSuchLog(_) | Status::BadName(_) | Status::TooManyLogs => 4,
+            Status::NoSuchLog(_) | Status::BadName(_) | Status::TooManyLogs | Status::Template(_) =>
+                4,
             Status::LogsFault => 5,
             Status::SinkFault => 7,
             Status::ParseErrors { .. } => 8,

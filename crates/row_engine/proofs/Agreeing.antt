@@ -6,7 +6,7 @@ use Rattle.lp_values.specs.declared.value.Value.TheVariants.{Null}
 use Rattle.lp_values.specs.declared.comparison.Compare.TheVariants as how
 use Rattle.lp_values.specs.Comparing.{compared as comparison, truth_of}
 use Rattle.lp_values.specs.Truths.{both as and_both, either as or_either, opposite as not_it}
-use Rattle.query_types.specs.Terms.{Term, column, other, constant, made, Terms, no_terms, more_terms, has_column, have_column, any_has_column}
+use Rattle.query_types.specs.Terms.{Term, column, constant, made, Terms, no_terms, more_terms, has_column, have_column, any_has_column}
 use Rattle.query_types.specs.Conditions.{Filter, either, both, opposite, compared, null, like, between, within, mentions}
 use Rattle.query_types.specs.Planned.{is_mentioned}
 use Rattle.row_engine.specs.Rows.{value_in, values_in, made_by, among, truth_in, keeps, selected_in, is_null, is_yes, likeness, turned}
@@ -21,7 +21,6 @@ same n = search (rules, arith)
 mutual
   pub value_same : (values row : List Value) (term : Term) → Agree values row (λ k. has_column k term) → value_in values term ≡ value_in row term
   value_same values row (column n) is = is n (same n)
-  value_same values row other is = refl
   value_same values row (constant value) is = refl
   value_same values row (made kind by of) is = ap (made_by by) (values_same values row of is)
 

@@ -10,7 +10,7 @@ use Rattle.lp_values.specs.Truths.{both as and_both, either as or_either, opposi
 use Rattle.query_types.specs.declared.form.Form.{Form}
 use Rattle.query_types.specs.declared.form.Form.TheViews as shown
 use Rattle.query_types.specs.declared.form.Operation.{Operation}
-use Rattle.query_types.specs.Terms.{Maker, Term, column, other, constant, made, Terms, no_terms, more_terms, maker_of, term_of, terms_of}
+use Rattle.query_types.specs.Terms.{Maker, Term, column, constant, made, Terms, no_terms, more_terms, maker_of, term_of, terms_of}
 use Rattle.query_types.specs.Conditions.{Filter, either, both, opposite, compared, null, like, between, within}
 use Rattle.query_types.proofs.Forms.{dropped, made_term}
 use Rattle.row_engine.specs.Rows.{among, is_null, is_yes, keeps, likeness, made_by, selected_in, truth_in, turned, value_in, values_in}
@@ -27,7 +27,6 @@ mutual
   -- what has no column is the same in each row
   value_fixed : (row : List Value) (term : Term) → varies term ≡ false → value_in [] term ≡ value_in row term
   value_fixed row (column k) is = absurd cc
-  value_fixed row other is = refl
   value_fixed row (constant value) is = refl
   value_fixed row (made kind by of) is = ap (made_by by) (values_fixed row of is)
 
@@ -45,7 +44,6 @@ made_settled row kind by of all false is same = ap (made_by by) (values_fixed ro
 mutual
   value_settled : (row : List Value) (term : Term) → value_in row (settled term) ≡ value_in row term
   value_settled row (column k) = refl
-  value_settled row other = refl
   value_settled row (constant value) = refl
   value_settled row (made kind by of) = made_settled row kind by of (all_settled of) (any_varies of) refl (values_settled row of)
 
@@ -61,7 +59,6 @@ made_varies kind by of all value false is same = sym is
 mutual
   varies_settled : (term : Term) → varies (settled term) ≡ varies term
   varies_settled (column k) = refl
-  varies_settled other = refl
   varies_settled (constant value) = refl
   varies_settled (made kind by of) = made_varies kind by of (all_settled of) (made_by by (values_in [] of)) (any_varies of) refl (any_varies_settled of)
 
@@ -77,7 +74,6 @@ made_done kind by of all value false is same done = refl
 mutual
   done : (term : Term) → is_settled (settled term) ≡ true
   done (column k) = refl
-  done other = refl
   done (constant value) = refl
   done (made kind by of) = made_done kind by of (all_settled of) (made_by by (values_in [] of)) (any_varies of) refl (any_varies_settled of) (all_done of)
 
@@ -139,7 +135,6 @@ varies_step forms i form here is = ap (λ (l : List Form). any_varies (terms_of 
 -- what has no column becomes a constant
 pub settled_fixed : (term : Term) → varies term ≡ false → settled term ≡ constant (value_in [] term)
 settled_fixed (column k) is = absurd cc
-settled_fixed other is = refl
 settled_fixed (constant value) is = refl
 settled_fixed (made kind by of) is = ap (λ (b : Bool). cond b (made kind by (all_settled of)) (constant (made_by by (values_in [] of)))) is
 

@@ -4,7 +4,7 @@ use Rattle.std.proofs.lemmas.Bool.{cases_eq, or_left, or_right}
 use Rattle.std.proofs.lemmas.List.{drop_more, map_more}
 use Rattle.lp_values.specs.declared.value.Value.{Value}
 use Rattle.lp_values.specs.declared.value.Value.TheVariants.{Null}
-use Rattle.query_types.specs.Terms.{Term, column, other, constant, made, has_column, any_has_column}
+use Rattle.query_types.specs.Terms.{Term, column, constant, made, has_column, any_has_column}
 use Rattle.row_engine.specs.Rows.{selected_in, value_in}
 use Rattle.row_engine.specs.Uses.{is_last_use, last_uses}
 use Rattle.row_engine.proofs.Agreeing.{Agree, value_same}
@@ -19,7 +19,6 @@ later_stays (column n) later k there = elim (cases_eq n k) [
     and_false : (b : Bool) → (b && false) ≡ false
     and_false true = refl
     and_false false = refl
-later_stays other later k there = refl
 later_stays (constant value) later k there = refl
 later_stays (made kind by of) later k there = refl
 

@@ -12,7 +12,7 @@ use Rattle.lp_functions.specs.Applied.{applied}
 use Rattle.lp_functions.specs.Moments.{read_as}
 use Rattle.lp_functions.specs.Texts.{written_as}
 use Rattle.query_types.specs.declared.form.Form.{Form}
-use Rattle.query_types.specs.Terms.{Maker, called, branched, written, read, Term, column, other, constant, made, Terms, no_terms, more_terms, term_of}
+use Rattle.query_types.specs.Terms.{Maker, called, branched, written, read, stated, unlisted, Term, column, constant, made, Terms, no_terms, more_terms, term_of}
 use Rattle.query_types.specs.Conditions.{Filter, either, both, opposite, compared, null, like, between, within}
 use Rattle.row_engine.specs.Likeness.{is_like}
 
@@ -41,12 +41,13 @@ made_by (called function) values = applied function values
 made_by branched values = case_of values
 made_by (written pattern) values = first_of (written_as pattern) values
 made_by (read pattern) values = first_of (read_as pattern) values
+made_by (stated value) values = value
+made_by (unlisted name) values = V.Null
 
 abbrev mutual
-  -- a column is its value in the row; a column that the table doesn't list is NULL
+  -- a column is its value in the row
   pub value_in : List Value → Term → Value
   value_in row (column k) = get_or row k V.Null
-  value_in row other = V.Null
   value_in row (constant value) = value
   value_in row (made kind by of) = made_by by (values_in row of)
 

@@ -1,8 +1,7 @@
 -- What is the same in each row, worked out once.
 use Rattle.std.specs.Prelude.{Bool, true, false, ◌&&◌, ◌||◌, [], map, Option, Some, None, if◌then◌else◌}
 use Rattle.std.specs.List.{list_all}
-use Rattle.lp_values.specs.declared.value.Value.TheVariants.{Null}
-use Rattle.query_types.specs.Terms.{Term, column, other, constant, made, Terms, no_terms, more_terms}
+use Rattle.query_types.specs.Terms.{Term, column, constant, made, Terms, no_terms, more_terms}
 use Rattle.query_types.specs.Conditions.{Filter, either, both, opposite, compared, null, like, between, within}
 use Rattle.row_engine.specs.Rows.{made_by, values_in}
 
@@ -10,7 +9,6 @@ use Rattle.row_engine.specs.Rows.{made_by, values_in}
 abbrev mutual
   pub varies : Term → Bool
   varies (column k) = true
-  varies other = false
   varies (constant value) = false
   varies (made kind by of) = any_varies of
 
@@ -22,7 +20,6 @@ abbrev mutual
 abbrev mutual
   pub is_settled : Term → Bool
   is_settled (column k) = true
-  is_settled other = false
   is_settled (constant value) = true
   is_settled (made kind by of) = any_varies of && are_settled of
 
@@ -48,7 +45,6 @@ is_settled_where (Some filter) = is_settled_test filter
 abbrev mutual
   pub settled : Term → Term
   settled (column k) = column k
-  settled other = constant Null
   settled (constant value) = constant value
   settled (made kind by of) = if any_varies of then made kind by (all_settled of) else constant (made_by by (values_in [] of))
 

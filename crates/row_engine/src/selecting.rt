@@ -26,7 +26,7 @@ fn is_last_use(meaning: &Meaning, later: &[Meaning]) -> bool
 {
     match meaning.form() {
         Form::Column(index) => !any_has_column(*index, later),
-        Form::Other | Form::Constant(_) | Form::Made { .. } => false,
+        Form::Constant(_) | Form::Made { .. } => false,
     }
 }
 

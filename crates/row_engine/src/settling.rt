@@ -21,7 +21,6 @@ fn varies(form: &Form) -> bool
 {
     match form {
         Form::Column(_) => true,
-        Form::Other => false,
         Form::Constant(_) => false,
         Form::Made { kind: _, by: _, of } => {
             for part in of {
@@ -56,7 +55,6 @@ fn settled_form(alloc: Global, form: &Form) -> Result<Form, AllocError>
 {
     match form {
         Form::Column(index) => Ok(Form::Column(*index)),
-        Form::Other => Ok(Form::Constant(Value::Null)),
         Form::Constant(value) => Ok(Form::Constant(value.copy(alloc)?)),
         Form::Made { kind, by, of } => {
             if !varies(form) {
@@ -66,7 +64,7 @@ fn settled_form(alloc: Global, form: &Form) -> Result<Form, AllocError>
             for part in of {
                 parts.push(settled_form(alloc, part)?)?;
             }
-            let by = by.copy()?;
+            let by = by.copy(alloc)?;
             Ok(made(*kind, by, parts))
         }
     }
@@ -270,21 +268,24 @@ pub fn settled(alloc: Global, plan: &Plan) -> Result<Plan, AllocError>
     ensures names { IfOk result (λ now. now.names ≡ plan.now.names) }
     ensures kinds { IfOk result (λ now. now.kinds ≡ plan.now.kinds) }
     ensures used { IfOk result (λ now. now.used ≡ plan.now.used) }
+    ensures order { IfOk result (λ now. now.order ≡ plan.now.order) }
     ensures keeps { IfOk result (λ now. (row : List Value) → keeps (option_map filter_of now.condition) row ≡ keeps (option_map filter_of plan.now.condition) row) }
     ensures selects { IfOk result (λ now. (row : List Value) → selected_in row now.items ≡ selected_in row plan.now.items) }
     ensures settled_items { IfOk result (λ now. list_all is_settled now.items ≡ true) }
     ensures settled_where { IfOk result (λ now. is_settled_where (option_map filter_of now.condition) ≡ true) }
 {
-    let items = settled_meanings(alloc, &plan.items)?;
-    let condition = settled_where(alloc, &plan.condition)?;
-    let names = copy_texts(alloc, &plan.names)?;
     let kinds = copied(alloc, &plan.kinds)?;
     let used = copied(alloc, &plan.used)?;
+    let order = copied(alloc, &plan.order)?;
+    let names = copy_texts(alloc, &plan.names)?;
+    let items = settled_meanings(alloc, &plan.items)?;
+    let condition = settled_where(alloc, &plan.condition)?;
     Ok(Plan {
         items,
         names,
         kinds,
         condition,
         used,
+        order,
     })
 }

@@ -135,6 +135,8 @@ fn made_value<'a>(
             let text = first_value(alloc, row, of)?;
             Ok(Seen::Made(read_as(pattern, text.get())))
         }
+        Operation::Stated(value) => Ok(Seen::There(value)),
+        Operation::Unlisted(_) => Ok(Seen::Made(Value::Null)),
     }
 }
 
@@ -149,7 +151,6 @@ pub fn form_value<'a>(
 {
     match form {
         Form::Column(index) => Ok(Seen::of(row.get(*index))),
-        Form::Other => Ok(Seen::Made(Value::Null)),
         Form::Constant(value) => Ok(Seen::There(value)),
         Form::Made { kind: _, by, of } => made_value(alloc, row, by, of.as_slice()),
     }
@@ -163,7 +164,7 @@ pub fn standing<'a>(row: &'a ValueList, meaning: &'a Meaning) -> Option<&'a Valu
     match meaning.form() {
         Form::Column(index) => row.get(*index),
         Form::Constant(value) => Some(value),
-        Form::Other | Form::Made { .. } => None,
+        Form::Made { .. } => None,
     }
 }
 

@@ -1,3 +1,4 @@
 mod Texts
+mod Finishes
 mod Fresh
 mod Ran

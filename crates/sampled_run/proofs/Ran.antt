@@ -1,5 +1,5 @@
 -- A whole run, from the first log to the end of the text.
-use Rattle.std.proofs.Common.{◌≡◌, ℕ, ◌+◌, Bool, false, IsErrOf, List, [], ◌∷◌, ◌++◌, length, Option, Some, None, Err, ap, sym, ◌∙◌, refl, subst, arith, inl, append_assoc}
+use Rattle.std.proofs.Common.{◌≡◌, Bool, IsErrOf, List, [], ◌∷◌, ◌++◌, length, Option, Some, None, Err, ap, sym, ◌∙◌, refl, subst, arith, inl, append_assoc}
 use Rattle.std.proofs.lemmas.List.{append-nil}
 use Rattle.lp_model.specs.Outside.{Folder, Told}
 use Rattle.lp_model.specs.Reading.{Format}
@@ -9,6 +9,7 @@ use Rattle.log_reading.specs.declared.span.RunFault.TheVariants as R
 use Rattle.log_reading.specs.declared.span.Span.{Span}
 use Rattle.log_reading.specs.Spans.{AreKept, BadLine, OnBadLine, span_found, spans_found}
 use Rattle.query_run.specs.Writing.{TextOf, HasTextOf, ShownOf}
+use Rattle.finished_text.specs.declared.rows_text.RowsText.{RowsText}
 use Rattle.query_run.specs.Output.{StageKind, OutputAt, reached}
 use Rattle.query_run.specs.declared.executing.Written.{Written}
 use Rattle.query_run.specs.declared.target.Target.{Target}
@@ -43,14 +44,14 @@ behind_founds format waits folder past (span ∷ spans) =
     behind_founds format waits folder (past_behind_span format waits folder past span) spans ∙ append_assoc past.founds (span_found format waits folder span) (spans_found format waits folder spans)
 
 abbrev pub SampledWriter : Type 0 → Type 0
-SampledWriter F = Sampled (TextMaker F) (Writer F SampledPicker)
+SampledWriter S = Sampled (TextMaker S) (Writer RowsText SampledPicker)
 
 -- ---- the whole text
 
-pub ran : {F S : Type 0} (kind : StageKind S) (text : TextOf F) (has_text : HasTextOf F) (shown : ShownOf F) (asked : Rules) (format : Format) (waits : Bool) (told : Option Folder) (spans : List Span) (first last : Page (SampledWriter F)) (target : Target) (u mid after : S) (run : Written)
+pub ran : {S : Type 0} (kind : StageKind S) (text : TextOf RowsText) (has_text : HasTextOf RowsText) (shown : ShownOf RowsText) (asked : Rules) (format : Format) (waits : Bool) (told : Option Folder) (spans : List Span) (first last : Page (SampledWriter S)) (target : Target) (u mid after : S) (run : Written)
     → Begins kind text has_text shown asked target first.taker u → first.rows ≡ 0 → first.bad ≡ 0 → run.counts.processed ≡ last.rows → run.counts.bad ≡ last.bad
     → Told told (λ folder. AreKept format waits spans folder → SamplesSpans (writer_kind kind text has_text shown) format waits folder spans first last u mid)
-    → ((rules : SampleRules (TextMaker F)) (begin : S) (start : OutputAt kind) (past : Past) → Fits kind rules begin start → Holds (writer_kind kind text has_text shown) rules begin past last.taker mid → IsWritten (run_rules text shown rules) start past run.counts.output run.output after)
+    → ((rules : SampleRules (TextMaker S)) (begin : S) (start : OutputAt kind) (past : Past) → Fits kind rules begin start → Holds (writer_kind kind text has_text shown) rules begin past last.taker mid → IsWritten (run_rules rules) start past run.counts.output run.output after)
     → Told told (λ folder. AreKept format waits spans folder → IsSampled asked (reached kind target u) (past_behind format waits folder nothing spans) format waits folder spans run after)
 ran kind text has_text shown asked format waits None spans first last target u mid after run begins rows bad processed bads taken ends = tt
 ran kind text has_text shown asked format waits (Some folder) spans first last target u mid after run begins rows bad processed bads taken ends = λ kept.
@@ -75,14 +76,14 @@ read_stopped rules start past R.Output now front = front
 read_stopped rules start past R.Stopped now front = front
 read_stopped rules start past (R.Bad log row) now front = front
 
-phase_stopped : {F S : Type 0} (kind : StageKind S) (text : TextOf F) (has_text : HasTextOf F) (shown : ShownOf F) (rules : SampleRules (TextMaker F)) (begin : S) (start : OutputAt kind) (past : Past) (phase : Phase (TextMaker F) (Writer F SampledPicker)) (fault : RunFault) (now : S)
-    → Fits kind rules begin start → SamplePhase (writer_kind kind text has_text shown) rules begin past phase now → IsStoppedBy (run_rules text shown rules) start past (fault_in phase fault) now
-phase_stopped kind text has_text shown rules begin start past (P.Gathering gathering) fault now fits stopped = read_stopped (run_rules text shown rules) start past fault now (front_is kind text has_text shown rules begin start past now fits stopped)
-phase_stopped kind text has_text shown rules begin start past (P.Taking taker) fault now fits stopped = read_stopped (run_rules text shown rules) start past fault now (front_is kind text has_text shown rules begin start past now fits stopped)
+phase_stopped : {S : Type 0} (kind : StageKind S) (text : TextOf RowsText) (has_text : HasTextOf RowsText) (shown : ShownOf RowsText) (rules : SampleRules (TextMaker S)) (begin : S) (start : OutputAt kind) (past : Past) (phase : Phase (TextMaker S) (Writer RowsText SampledPicker)) (fault : RunFault) (now : S)
+    → Fits kind rules begin start → SamplePhase (writer_kind kind text has_text shown) rules begin past phase now → IsStoppedBy (run_rules rules) start past (fault_in phase fault) now
+phase_stopped kind text has_text shown rules begin start past (P.Gathering gathering) fault now fits stopped = read_stopped (run_rules rules) start past fault now (front_is kind text has_text shown rules begin start past now fits stopped)
+phase_stopped kind text has_text shown rules begin start past (P.Taking taker) fault now fits stopped = read_stopped (run_rules rules) start past fault now (front_is kind text has_text shown rules begin start past now fits stopped)
 phase_stopped kind text has_text shown rules begin start past (P.Refused plan) fault now fits stopped = refused_is kind text has_text shown rules begin start past plan now fits stopped
-phase_stopped kind text has_text shown rules begin start past P.Lost fault now fits stopped = read_stopped (run_rules text shown rules) start past fault now (front_is kind text has_text shown rules begin start past now fits stopped)
+phase_stopped kind text has_text shown rules begin start past P.Lost fault now fits stopped = read_stopped (run_rules rules) start past fault now (front_is kind text has_text shown rules begin start past now fits stopped)
 
-pub stopped_reading : {F S : Type 0} (kind : StageKind S) (text : TextOf F) (has_text : HasTextOf F) (shown : ShownOf F) (asked : Rules) (format : Format) (waits : Bool) (told : Option Folder) (spans : List Span) (first last : Page (SampledWriter F)) (target : Target) (u now : S) (fault : RunFault)
+pub stopped_reading : {S : Type 0} (kind : StageKind S) (text : TextOf RowsText) (has_text : HasTextOf RowsText) (shown : ShownOf RowsText) (asked : Rules) (format : Format) (waits : Bool) (told : Option Folder) (spans : List Span) (first last : Page (SampledWriter S)) (target : Target) (u now : S) (fault : RunFault)
     → Begins kind text has_text shown asked target first.taker u
     → Told told (λ folder. AreKept format waits spans folder → HaltsIn (writer_kind kind text has_text shown) (spans_told format waits folder spans) first.taker last.taker u now)
     → Told told (λ folder. AreKept format waits spans folder → IsStoppedBy asked (reached kind target u) (past_behind format waits folder nothing spans) (fault_in last.taker.phase fault) now)
@@ -97,16 +98,16 @@ end_is rules start past (S.Refused fault) now is = is
 end_is rules start past S.Failed now is = is
 end_is rules start past S.Memory now is = is
 
-pub stopped_ending : {F S : Type 0} (kind : StageKind S) (text : TextOf F) (has_text : HasTextOf F) (shown : ShownOf F) (asked : Rules) (format : Format) (waits : Bool) (told : Option Folder) (spans : List Span) (first last : Page (SampledWriter F)) (target : Target) (u mid after : S) (stop : Stop)
+pub stopped_ending : {S : Type 0} (kind : StageKind S) (text : TextOf RowsText) (has_text : HasTextOf RowsText) (shown : ShownOf RowsText) (asked : Rules) (format : Format) (waits : Bool) (told : Option Folder) (spans : List Span) (first last : Page (SampledWriter S)) (target : Target) (u mid after : S) (stop : Stop)
     → Begins kind text has_text shown asked target first.taker u
     → Told told (λ folder. AreKept format waits spans folder → SamplesSpans (writer_kind kind text has_text shown) format waits folder spans first last u mid)
-    → ((rules : SampleRules (TextMaker F)) (begin : S) (start : OutputAt kind) (past : Past) → Fits kind rules begin start → Holds (writer_kind kind text has_text shown) rules begin past last.taker mid → IsEndedBy (run_rules text shown rules) start past stop after)
+    → ((rules : SampleRules (TextMaker S)) (begin : S) (start : OutputAt kind) (past : Past) → Fits kind rules begin start → Holds (writer_kind kind text has_text shown) rules begin past last.taker mid → IsEndedBy (run_rules rules) start past stop after)
     → Told told (λ folder. AreKept format waits spans folder → IsStoppedBy asked (reached kind target u) (past_behind format waits folder nothing spans) (fault_of stop) after)
 stopped_ending kind text has_text shown asked format waits None spans first last target u mid after stop begins taken ends = tt
 stopped_ending kind text has_text shown asked format waits (Some folder) spans first last target u mid after stop begins taken ends = λ kept.
     let past = past_behind format waits folder nothing spans in
     let By : Rules → Type 0 = λ rules. IsStoppedBy rules (reached kind target u) past (fault_of stop) after in
-    subst By begins.same (end_is (run_rules text shown begins.rules) (reached kind target u) past stop after (ends begins.rules u (reached kind target u) past begins.fits ((taken kept).along begins.rules u nothing begins.holds)))
+    subst By begins.same (end_is (run_rules begins.rules) (reached kind target u) past stop after (ends begins.rules u (reached kind target u) past begins.fits ((taken kept).along begins.rules u nothing begins.holds)))
 
 -- nothing was read
 pub stopped_at_once : {S : Type 0} {kind : StageKind S} (rules : Rules) (format : Format) (waits : Bool) (told : Option Folder) (spans : List Span) (start : OutputAt kind)

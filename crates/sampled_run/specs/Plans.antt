@@ -13,6 +13,7 @@ unplanned (T.KindMismatch at) = U.Refused (T.KindMismatch at)
 unplanned (T.WrongArity at) = U.Refused (T.WrongArity at)
 unplanned (T.TooFewColumns at) = U.Refused (T.TooFewColumns at)
 unplanned (T.BadPattern at) = U.Refused (T.BadPattern at)
+unplanned (T.NotInSelect at) = U.Refused (T.NotInSelect at)
 unplanned T.Memory = U.Memory
 
 -- the fault of a plan, where that is why none is made

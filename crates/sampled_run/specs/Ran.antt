@@ -1,5 +1,5 @@
 -- How a run over sampled columns ends.
-use Rattle.std.specs.Prelude.{◌≡◌, ◌⊎◌, ℕ, Bool, List, length, Option, Ok, Err, ⊤}
+use Rattle.std.specs.Prelude.{◌≡◌, ◌⊎◌, ℕ, Bool, List, length, Ok, Err, ⊤}
 use Rattle.lp_model.specs.Outside.{Folder}
 use Rattle.lp_model.specs.Reading.{Format}
 use Rattle.log_reading.specs.declared.span.RunFault.{RunFault}
@@ -40,7 +40,7 @@ pub record IsWritten {S : Type 0} {kind : StageKind S} (rules : Rules) (start : 
   pub plan : Planned
   pub planned : plan_at rules past ≡ Ok plan
   pub text : GainsText start (placed_at kind start.output output now) (text_at rules past plan)
-  pub rows : many ≡ length (rules.shown (rows_at rules past plan))
+  pub rows : many ≡ length (rules.shown plan (rows_at rules past plan))
 
 -- the whole text was written, and its counts are those of the spans
 pub record IsSampled {S : Type 0} {kind : StageKind S} (rules : Rules) (start : OutputAt kind) (past : Past) (format : Format) (waits : Bool) (folder : Folder) (spans : List Span) (run : Written) (now : S) : Type 0 where

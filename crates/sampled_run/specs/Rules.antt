@@ -13,17 +13,17 @@ use Rattle.column_kinds.specs.Past.{Past}
 use Rattle.column_kinds.specs.Past.{told_at as told_from}
 use Rattle.sampled_table.specs.Picks.{sampled_picks}
 
--- what a run is asked: from how many records kinds are judged, how times are read, the moment, the query, whether its output begins empty, the text of named rows, and which of them it has
+-- what a run is asked: from how many records kinds are judged, how times are read, the moment, the query, whether its output begins empty, and, by a plan, the text of named rows and which of them it has
 pub record Rules : Type 0 where
   pub limit : ℕ
   pub pattern : List Piece
   pub moment : ℤ
   pub query : Query
   pub fresh : Bool
-  pub text : Bool → List (List ℕ) → List (List Value) → List ℕ
-  pub shown : List (List Value) → List (List Value)
+  pub text : Planned → Bool → List (List ℕ) → List (List Value) → List ℕ
+  pub shown : Planned → List (List Value) → List (List Value)
 
-abbrev pub rules_of : ℕ → List Piece → ℤ → Query → Bool → (Bool → List (List ℕ) → List (List Value) → List ℕ) → (List (List Value) → List (List Value)) → Rules
+abbrev pub rules_of : ℕ → List Piece → ℤ → Query → Bool → (Planned → Bool → List (List ℕ) → List (List Value) → List ℕ) → (Planned → List (List Value) → List (List Value)) → Rules
 rules_of limit pattern moment q fresh text shown = record { limit = limit; pattern = pattern; moment = moment; query = q; fresh = fresh; text = text; shown = shown }
 
 -- the columns that the records tell
@@ -42,4 +42,4 @@ abbrev pub rows_at : Rules → Past → Planned → List (List Value)
 rows_at rules past plan = rows_with rules.pattern (told_at rules past) plan past.founds
 
 abbrev pub text_at : Rules → Past → Planned → List ℕ
-text_at rules past plan = rules.text rules.fresh plan.names (rows_at rules past plan)
+text_at rules past plan = rules.text plan rules.fresh plan.names (rows_at rules past plan)

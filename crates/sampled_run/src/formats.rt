@@ -9,28 +9,29 @@ ghost use Rattle.query_run.specs.Output.{kind_of, reached};
 ghost use Rattle.query_tree.specs.Views.{query_of};
 ghost use Rattle.query_types.specs.Built.{is_built};
 ghost use Rattle.column_kinds.specs.Spans.{past_of};
+ghost use Rattle.sampled_run.specs.Finishes.{shown_by, text_by};
 ghost use Rattle.sampled_run.specs.Rules.{rules_of};
 ghost use Rattle.sampled_run.specs.Ran.{IsSampled, IsStoppedBy, OnBadOne};
 
 use crate::running::sample_reader;
 use crate::{Moment, SampleFault};
+use any_format::Format;
 use delimited_input::{Delimited, DelimitedOptions};
 use log_reading::{Span, TookList};
 use lp_outside::{Logs, Stage};
 use lp_time::Pattern;
-use output_formats::Shape;
 use query_run::{Target, Written};
 use query_tree::Query;
 use std::alloc::Global;
 
-/// Writes the text of a query's rows over the records of CSV or TSV spans, joined in order, whose columns the spans tell.
-pub fn run_sampled<'a, L: Logs, F: Shape + Drop, G: Stage>(
+/// Writes the text, in a format, of a query's rows over the records of CSV or TSV spans, joined in order, whose columns the spans tell.
+pub fn run_sampled<'a, L: Logs, G: Stage>(
     alloc: Global,
     options: DelimitedOptions,
     limit: u32,
     pattern: &'a Pattern,
     moment: Moment,
-    shape: F,
+    format: Format,
     query: &'a Query,
     fresh: bool,
     most_bad: Option<u64>,
@@ -48,10 +49,10 @@ pub fn run_sampled<'a, L: Logs, F: Shape + Drop, G: Stage>(
     requires there { Told (L.folder logs.old) (λ folder. AllSpans spans.now (λ span. span.listed ≤ length (bytes_in folder span.name))) }
     ensures grows { OnlyGrow (L.folder logs.old) (L.folder logs.new) }
     ensures ran { IfOk result (λ run. Told (L.folder logs.new) (λ folder. AreKept (delimited_lines options) waits spans.now folder
-        → IsSampled (rules_of limit pattern.now moment.seconds (query_of query.now) fresh (F.text shape) (F.shown shape)) (reached (kind_of G.state G.ended) target stage.old) (past_of (delimited_lines options) waits folder spans.now) (delimited_lines options) waits folder spans.now run stage.new)) }
+        → IsSampled (rules_of limit pattern.now moment.seconds (query_of query.now) fresh (text_by format (query_of query.now)) (shown_by (query_of query.now))) (reached (kind_of G.state G.ended) target stage.old) (past_of (delimited_lines options) waits folder spans.now) (delimited_lines options) waits folder spans.now run stage.new)) }
     ensures ended { IfOk result (λ run. G.ended stage.new run.output.name run.output.base run.output.mark) }
     ensures stopped { IfErr result (λ fault. Told (L.folder logs.new) (λ folder. AreKept (delimited_lines options) waits spans.now folder
-        → IsStoppedBy (rules_of limit pattern.now moment.seconds (query_of query.now) fresh (F.text shape) (F.shown shape)) (reached (kind_of G.state G.ended) target stage.old) (past_of (delimited_lines options) waits folder spans.now) fault stage.new)) }
+        → IsStoppedBy (rules_of limit pattern.now moment.seconds (query_of query.now) fresh (text_by format (query_of query.now)) (shown_by (query_of query.now))) (reached (kind_of G.state G.ended) target stage.old) (past_of (delimited_lines options) waits folder spans.now) fault stage.new)) }
     ensures within { IfOk result (λ run. IsWithin most_bad run.counts.bad) }
     ensures too_many { IfErr result (λ fault. OnBadOne fault (λ line. Told (L.folder logs.new) (λ folder. AreKept (delimited_lines options) waits spans.now folder
         → IsTooMany most_bad 0 (spans_bad_lines (delimited_lines options) waits folder spans.now) line))) }
@@ -68,7 +69,7 @@ pub fn run_sampled<'a, L: Logs, F: Shape + Drop, G: Stage>(
         unreachable!();
     };
     sample_reader(
-        alloc, &reader, limit, pattern, moment, query, fresh, most_bad, waits, logs, spans, shape,
+        alloc, &reader, limit, pattern, moment, query, fresh, most_bad, waits, logs, spans, format,
         target, took, stage,
     )
 }

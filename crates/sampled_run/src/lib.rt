@@ -7,6 +7,7 @@
 
 mod ending;
 mod fault;
+mod finishing;
 mod formats;
 mod making;
 mod moment;
@@ -15,6 +16,7 @@ mod text_maker;
 
 pub use ending::End;
 pub use fault::SampleFault;
+pub use finishing::text_of_rows;
 pub use formats::run_sampled;
 pub use moment::Moment;
 pub use text_maker::TextMaker;

@@ -4,20 +4,23 @@ ghost use Rattle.query_tree.specs.Views.{query_of};
 ghost use Rattle.query_types.specs.Built.{is_built};
 
 use crate::Moment;
+use any_format::Format;
 use lp_time::Pattern;
 use query_run::Target;
 use query_tree::Query;
+use std::marker::PhantomData;
 
-/// Makes the writer of a query's rows in a text, over the columns that the logs tell.
+/// Makes the writer of a query's rows in a format to a stage of a kind `G`, over the columns that the logs tell.
 #[derive(Drop)]
-pub struct TextMaker<'a, F> {
+pub struct TextMaker<'a, G> {
     /// How times are read.
     pub pattern: &'a Pattern,
     pub moment: Moment,
     pub query: &'a Query,
     /// Whether the output begins empty.
     pub fresh: bool,
-    pub shape: F,
+    pub format: Format,
     pub target: Target,
+    pub stage: PhantomData<G>,
     ghost built: { is_built (query_of query.now) ≡ true },
 }

@@ -11,12 +11,12 @@ use Rattle.execution.specs.Standard.{standard_at}
 use Rattle.execution.proofs.Standard.{standard_is}
 use Rattle.execution.specs.Executed.{IsExecuted, IsParseError, IsStopped, IsUnplanned, IsUntouched}
 use Rattle.execution.specs.Faults.{IfParse, IfPlan}
-use Rattle.execution.specs.Formats.{input_of}
-use Rattle.execution.proofs.FormatLemmas.{built_query, built_text, separated}
+use Rattle.execution.specs.Formats.{input_of, log_format}
+use Rattle.execution.specs.Texts.{RowsText}
+use Rattle.execution.proofs.Asking.{as_asked}
+use Rattle.any_format.specs.Formats.{text_of}
+use Rattle.execution.proofs.FormatLemmas.{built_query, separated}
 use Rattle.execution.proofs.executing.execute.Goals as goal
-
-pub rows_text-shape-requires-clause-built : goal.rows_text-shape-requires-clause-built
-rows_text-shape-requires-clause-built g c = built_text c.args.spec.now (query_of c.args.query.now) c.requires.built
 
 pub execute_tabled-requires-clause-built : goal.execute_tabled-requires-clause-built
 execute_tabled-requires-clause-built g c = built_query c.args.spec.now (query_of c.args.query.now) c.requires.built
@@ -35,9 +35,11 @@ returns-in-Tabled-clause-ran g c =
     let kind = kind_of g.G.Stage.state g.G.Stage.ended in
     let v = c.execute_tabled.new.stage in
     let q = query_of c.args.query.now in
-    let Of : LogFormat → OutputAt kind → Type 0 = λ f o. IfOk c.execute_tabled.result (λ (ran : Ran). IsExecuted f told (λ text. GainsText o (placed_at kind o.output ran.output v) text) c.args.spec.now c.args.moment q c.args.spans.now ran.counts) in
-    subst (λ (f : LogFormat). Of f (standard_at kind c.args.stage.now)) (sym c.in-Tabled.is ∙ c.log_format.ensures)
-    (subst (λ (o : OutputAt kind). Of (F.Tabled c.in-Tabled.format) o) (standard_is kind c.standard_output-target.result c.args.stage.now c.standard_output-target.ensures) (simp to_z-of_z at c.execute_tabled.ensures.ran))
+    let Of : LogFormat → OutputAt kind → RowsText → Type 0 = λ f o t. IfOk c.execute_tabled.result (λ (ran : Ran). IsExecuted f told (λ text. GainsText o (placed_at kind o.output ran.output v) text) t c.args.spec.now c.args.moment q c.args.spans.now ran.counts) in
+    let asked = as_asked c.args.spec.now q c.output_of.result _ c.args.moment (text_of c.text_as-output.result) c.output_of.ensures (simp to_z-of_z at c.text_as-output.ensures) in
+    subst (λ (t : RowsText). Of (log_format c.args.spec.now q) (standard_at kind c.args.stage.now) t) asked
+    (subst (λ (f : LogFormat). Of f (standard_at kind c.args.stage.now) (text_of c.text_as-output.result)) (sym c.in-Tabled.is ∙ c.log_format.ensures)
+    (subst (λ (o : OutputAt kind). Of (F.Tabled c.in-Tabled.format) o (text_of c.text_as-output.result)) (standard_is kind c.standard_output-target.result c.args.stage.now c.standard_output-target.ensures) (simp to_z-of_z at c.execute_tabled.ensures.ran)))
 
 pub returns-in-Tabled-clause-stopped : goal.returns-in-Tabled-clause-stopped
 returns-in-Tabled-clause-stopped g c =
@@ -47,9 +49,11 @@ returns-in-Tabled-clause-stopped g c =
     let u = c.args.stage.now in
     let v = c.execute_tabled.new.stage in
     let q = query_of c.args.query.now in
-    let Of : LogFormat → OutputAt kind → Type 0 = λ f o. OnErr c.execute_tabled.result (IsStopped f told (v ≡ u) (λ text. GainsFront o v text) c.args.spec.now c.args.moment q c.args.spans.now) in
-    subst (λ (f : LogFormat). Of f (standard_at kind u)) (sym c.in-Tabled.is ∙ c.log_format.ensures)
-    (subst (λ (o : OutputAt kind). Of (F.Tabled c.in-Tabled.format) o) (standard_is kind c.standard_output-target.result u c.standard_output-target.ensures) (simp to_z-of_z at c.execute_tabled.ensures.stopped))
+    let Of : LogFormat → OutputAt kind → RowsText → Type 0 = λ f o t. OnErr c.execute_tabled.result (IsStopped f told (v ≡ u) (λ text. GainsFront o v text) t c.args.spec.now c.args.moment q c.args.spans.now) in
+    let asked = as_asked c.args.spec.now q c.output_of.result _ c.args.moment (text_of c.text_as-output.result) c.output_of.ensures (simp to_z-of_z at c.text_as-output.ensures) in
+    subst (λ (t : RowsText). Of (log_format c.args.spec.now q) (standard_at kind u) t) asked
+    (subst (λ (f : LogFormat). Of f (standard_at kind u) (text_of c.text_as-output.result)) (sym c.in-Tabled.is ∙ c.log_format.ensures)
+    (subst (λ (o : OutputAt kind). Of (F.Tabled c.in-Tabled.format) o (text_of c.text_as-output.result)) (standard_is kind c.standard_output-target.result u c.standard_output-target.ensures) (simp to_z-of_z at c.execute_tabled.ensures.stopped)))
 
 pub returns-in-Tabled-clause-plan : goal.returns-in-Tabled-clause-plan
 returns-in-Tabled-clause-plan g c =
@@ -75,9 +79,11 @@ returns-in-Sampled-clause-ran g c =
     let kind = kind_of g.G.Stage.state g.G.Stage.ended in
     let v = c.execute_sampled.new.stage in
     let q = query_of c.args.query.now in
-    let Of : LogFormat → OutputAt kind → Type 0 = λ f o. IfOk c.execute_sampled.result (λ (ran : Ran). IsExecuted f told (λ text. GainsText o (placed_at kind o.output ran.output v) text) c.args.spec.now c.args.moment q c.args.spans.now ran.counts) in
-    subst (λ (f : LogFormat). Of f (standard_at kind c.args.stage.now)) (sym c.in-Sampled.is ∙ c.log_format.ensures)
-    (subst (λ (o : OutputAt kind). Of (F.Sampled c.in-Sampled.options c.in-Sampled.limit) o) (standard_is kind c.standard_output-target.result c.args.stage.now c.standard_output-target.ensures) (simp to_z-of_z at c.execute_sampled.ensures.ran))
+    let Of : LogFormat → OutputAt kind → RowsText → Type 0 = λ f o t. IfOk c.execute_sampled.result (λ (ran : Ran). IsExecuted f told (λ text. GainsText o (placed_at kind o.output ran.output v) text) t c.args.spec.now c.args.moment q c.args.spans.now ran.counts) in
+    let asked = as_asked c.args.spec.now q c.output_of.result _ c.args.moment (text_of c.text_as-output.result) c.output_of.ensures (simp to_z-of_z at c.text_as-output.ensures) in
+    subst (λ (t : RowsText). Of (log_format c.args.spec.now q) (standard_at kind c.args.stage.now) t) asked
+    (subst (λ (f : LogFormat). Of f (standard_at kind c.args.stage.now) (text_of c.text_as-output.result)) (sym c.in-Sampled.is ∙ c.log_format.ensures)
+    (subst (λ (o : OutputAt kind). Of (F.Sampled c.in-Sampled.options c.in-Sampled.limit) o (text_of c.text_as-output.result)) (standard_is kind c.standard_output-target.result c.args.stage.now c.standard_output-target.ensures) (simp to_z-of_z at c.execute_sampled.ensures.ran)))
 
 pub returns-in-Sampled-clause-stopped : goal.returns-in-Sampled-clause-stopped
 returns-in-Sampled-clause-stopped g c =
@@ -87,9 +93,11 @@ returns-in-Sampled-clause-stopped g c =
     let u = c.args.stage.now in
     let v = c.execute_sampled.new.stage in
     let q = query_of c.args.query.now in
-    let Of : LogFormat → OutputAt kind → Type 0 = λ f o. OnErr c.execute_sampled.result (IsStopped f told (v ≡ u) (λ text. GainsFront o v text) c.args.spec.now c.args.moment q c.args.spans.now) in
-    subst (λ (f : LogFormat). Of f (standard_at kind u)) (sym c.in-Sampled.is ∙ c.log_format.ensures)
-    (subst (λ (o : OutputAt kind). Of (F.Sampled c.in-Sampled.options c.in-Sampled.limit) o) (standard_is kind c.standard_output-target.result u c.standard_output-target.ensures) (simp to_z-of_z at c.execute_sampled.ensures.stopped))
+    let Of : LogFormat → OutputAt kind → RowsText → Type 0 = λ f o t. OnErr c.execute_sampled.result (IsStopped f told (v ≡ u) (λ text. GainsFront o v text) t c.args.spec.now c.args.moment q c.args.spans.now) in
+    let asked = as_asked c.args.spec.now q c.output_of.result _ c.args.moment (text_of c.text_as-output.result) c.output_of.ensures (simp to_z-of_z at c.text_as-output.ensures) in
+    subst (λ (t : RowsText). Of (log_format c.args.spec.now q) (standard_at kind u) t) asked
+    (subst (λ (f : LogFormat). Of f (standard_at kind u) (text_of c.text_as-output.result)) (sym c.in-Sampled.is ∙ c.log_format.ensures)
+    (subst (λ (o : OutputAt kind). Of (F.Sampled c.in-Sampled.options c.in-Sampled.limit) o (text_of c.text_as-output.result)) (standard_is kind c.standard_output-target.result u c.standard_output-target.ensures) (simp to_z-of_z at c.execute_sampled.ensures.stopped)))
 
 pub returns-in-Sampled-clause-plan : goal.returns-in-Sampled-clause-plan
 returns-in-Sampled-clause-plan g c =

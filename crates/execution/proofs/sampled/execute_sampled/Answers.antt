@@ -1,53 +1,52 @@
 use Rattle.std.proofs.Common.{ℕ, Option, subst}
 use Rattle.log_reading.specs.Page.{IsWithin}
 use Rattle.query_run.specs.Output.{kind_of, reached}
-use Rattle.finished_text.specs.RowsTexts.{rows_text_of, shown_of}
 use Rattle.query_tree.specs.Views.{query_of}
 use Rattle.execution.proofs.SampledRuns.{executed, stopped, unplanned, untouched, refused_stopped, parse_error}
 use Rattle.execution.proofs.sampled.execute_sampled.Goals as goal
 
 pub returns-in-Ok-clause-ran : goal.returns-in-Ok-clause-ran
 returns-in-Ok-clause-ran g c =
-    executed (g.L.Logs.folder c.run_sampled.new.logs) (reached (kind_of g.G.Stage.state g.G.Stage.ended) c.args.target c.args.stage.now) c.run_sampled.new.stage c.args.spec.now c.args.moment.seconds (query_of c.args.query.now)
-    c.args.options c.args.limit c.as_slice.result.now c.args.spans.now c.in-Ok.run' (rows_text_of c.args.shape) (shown_of c.args.shape) c.as_slice.ensures c.requires.text c.requires.shown c.in-Ok.ensures.ran
+    executed (g.L.Logs.folder c.run_sampled.new.logs) (reached (kind_of g.G.Stage.state g.G.Stage.ended) c.args.target c.args.stage.now) c.run_sampled.new.stage c.args.output c.args.spec.now c.args.moment.seconds (query_of c.args.query.now)
+    c.args.options c.args.limit c.as_slice.result.now c.args.spans.now c.in-Ok.run' c.as_slice.ensures c.in-Ok.ensures.ran
 
 pub returns-in-Ok-clause-within : goal.returns-in-Ok-clause-within
 returns-in-Ok-clause-within g c = subst (λ (most : Option ℕ). IsWithin most c.in-Ok.run'.counts.bad) c.most_bad.ensures c.in-Ok.ensures.within
 
 pub returns-in-Err-Bad-clause-stopped : goal.returns-in-Err-Bad-clause-stopped
 returns-in-Err-Bad-clause-stopped g c =
-    stopped (g.L.Logs.folder c.run_sampled.new.logs) (reached (kind_of g.G.Stage.state g.G.Stage.ended) c.args.target c.args.stage.now) c.run_sampled.new.stage c.args.spec.now c.args.moment.seconds (query_of c.args.query.now)
-    c.args.options c.args.limit c.as_slice.result.now c.args.spans.now (rows_text_of c.args.shape) (shown_of c.args.shape) c.as_slice.ensures c.requires.text c.requires.shown (rw c.in-Err-Bad.field-0-is at c.in-Err-Bad.ensures.stopped)
+    stopped (g.L.Logs.folder c.run_sampled.new.logs) (reached (kind_of g.G.Stage.state g.G.Stage.ended) c.args.target c.args.stage.now) c.run_sampled.new.stage c.args.output c.args.spec.now c.args.moment.seconds (query_of c.args.query.now)
+    c.args.options c.args.limit c.as_slice.result.now c.args.spans.now c.as_slice.ensures (rw c.in-Err-Bad.field-0-is at c.in-Err-Bad.ensures.stopped)
 
 pub returns-in-Err-Logs-clause-stopped : goal.returns-in-Err-Logs-clause-stopped
 returns-in-Err-Logs-clause-stopped g c =
-    stopped (g.L.Logs.folder c.run_sampled.new.logs) (reached (kind_of g.G.Stage.state g.G.Stage.ended) c.args.target c.args.stage.now) c.run_sampled.new.stage c.args.spec.now c.args.moment.seconds (query_of c.args.query.now)
-    c.args.options c.args.limit c.as_slice.result.now c.args.spans.now (rows_text_of c.args.shape) (shown_of c.args.shape) c.as_slice.ensures c.requires.text c.requires.shown (rw c.in-Err-Logs.field-0-is at c.in-Err-Logs.ensures.stopped)
+    stopped (g.L.Logs.folder c.run_sampled.new.logs) (reached (kind_of g.G.Stage.state g.G.Stage.ended) c.args.target c.args.stage.now) c.run_sampled.new.stage c.args.output c.args.spec.now c.args.moment.seconds (query_of c.args.query.now)
+    c.args.options c.args.limit c.as_slice.result.now c.args.spans.now c.as_slice.ensures (rw c.in-Err-Logs.field-0-is at c.in-Err-Logs.ensures.stopped)
 
 pub returns-in-Err-Output-clause-stopped : goal.returns-in-Err-Output-clause-stopped
 returns-in-Err-Output-clause-stopped g c =
-    stopped (g.L.Logs.folder c.run_sampled.new.logs) (reached (kind_of g.G.Stage.state g.G.Stage.ended) c.args.target c.args.stage.now) c.run_sampled.new.stage c.args.spec.now c.args.moment.seconds (query_of c.args.query.now)
-    c.args.options c.args.limit c.as_slice.result.now c.args.spans.now (rows_text_of c.args.shape) (shown_of c.args.shape) c.as_slice.ensures c.requires.text c.requires.shown (rw c.in-Err-Output.field-0-is at c.in-Err-Output.ensures.stopped)
+    stopped (g.L.Logs.folder c.run_sampled.new.logs) (reached (kind_of g.G.Stage.state g.G.Stage.ended) c.args.target c.args.stage.now) c.run_sampled.new.stage c.args.output c.args.spec.now c.args.moment.seconds (query_of c.args.query.now)
+    c.args.options c.args.limit c.as_slice.result.now c.args.spans.now c.as_slice.ensures (rw c.in-Err-Output.field-0-is at c.in-Err-Output.ensures.stopped)
 
 pub returns-clause-stopped : goal.returns-clause-stopped
 returns-clause-stopped g c =
-    stopped (g.L.Logs.folder c.run_sampled.new.logs) (reached (kind_of g.G.Stage.state g.G.Stage.ended) c.args.target c.args.stage.now) c.run_sampled.new.stage c.args.spec.now c.args.moment.seconds (query_of c.args.query.now)
-    c.args.options c.args.limit c.as_slice.result.now c.args.spans.now (rows_text_of c.args.shape) (shown_of c.args.shape) c.as_slice.ensures c.requires.text c.requires.shown (rw c.in-Err-Memory.field-0-is at c.in-Err-Memory.ensures.stopped)
+    stopped (g.L.Logs.folder c.run_sampled.new.logs) (reached (kind_of g.G.Stage.state g.G.Stage.ended) c.args.target c.args.stage.now) c.run_sampled.new.stage c.args.output c.args.spec.now c.args.moment.seconds (query_of c.args.query.now)
+    c.args.options c.args.limit c.as_slice.result.now c.args.spans.now c.as_slice.ensures (rw c.in-Err-Memory.field-0-is at c.in-Err-Memory.ensures.stopped)
 
 pub returns-in-Err-Plan-clause-stopped : goal.returns-in-Err-Plan-clause-stopped
 returns-in-Err-Plan-clause-stopped g c =
     refused_stopped (g.L.Logs.folder c.run_sampled.new.logs) (reached (kind_of g.G.Stage.state g.G.Stage.ended) c.args.target c.args.stage.now) c.run_sampled.new.stage c.args.spec.now c.args.moment.seconds (query_of c.args.query.now)
-    (rows_text_of c.args.shape) (shown_of c.args.shape) c.args.options c.args.limit c.as_slice.result.now c.args.spans.now _ c.as_slice.ensures c.requires.text c.requires.shown (rw c.in-Err-Plan.field-0-is at c.in-Err-Plan.ensures.stopped)
+    c.args.output c.args.options c.args.limit c.as_slice.result.now c.args.spans.now _ c.as_slice.ensures (rw c.in-Err-Plan.field-0-is at c.in-Err-Plan.ensures.stopped)
 
 pub returns-in-Err-Plan-clause-plan : goal.returns-in-Err-Plan-clause-plan
 returns-in-Err-Plan-clause-plan g c =
     unplanned (g.L.Logs.folder c.run_sampled.new.logs) (reached (kind_of g.G.Stage.state g.G.Stage.ended) c.args.target c.args.stage.now) c.run_sampled.new.stage c.args.spec.now c.args.moment.seconds (query_of c.args.query.now)
-    (rows_text_of c.args.shape) (shown_of c.args.shape) c.args.options c.args.limit c.as_slice.result.now c.args.spans.now _ c.as_slice.ensures (rw c.in-Err-Plan.field-0-is at c.in-Err-Plan.ensures.stopped)
+    c.args.output c.args.options c.args.limit c.as_slice.result.now c.args.spans.now _ c.as_slice.ensures (rw c.in-Err-Plan.field-0-is at c.in-Err-Plan.ensures.stopped)
 
 pub returns-in-Err-Plan-clause-before : goal.returns-in-Err-Plan-clause-before
 returns-in-Err-Plan-clause-before g c =
     untouched (g.L.Logs.folder c.run_sampled.new.logs) (reached (kind_of g.G.Stage.state g.G.Stage.ended) c.args.target c.args.stage.now) c.run_sampled.new.stage c.args.spec.now c.args.moment.seconds (query_of c.args.query.now)
-    (rows_text_of c.args.shape) (shown_of c.args.shape) c.args.options c.args.limit c.as_slice.result.now c.args.spans.now _ c.as_slice.ensures (rw c.in-Err-Plan.field-0-is at c.in-Err-Plan.ensures.stopped)
+    c.args.output c.args.options c.args.limit c.as_slice.result.now c.args.spans.now _ c.as_slice.ensures (rw c.in-Err-Plan.field-0-is at c.in-Err-Plan.ensures.stopped)
 
 pub returns-in-Err-Bad-clause-parse : goal.returns-in-Err-Bad-clause-parse
 returns-in-Err-Bad-clause-parse g c =

@@ -1,4 +1,4 @@
-use Rattle.std.proofs.Common.{◌≡◌, Err, refl, sym, subst, List, ℕ, ap, ◌∙◌}
+use Rattle.std.proofs.Common.{◌≡◌, Err, sym, subst, List, ℕ, ap, ◌∙◌}
 use Rattle.query_tree.specs.Views.{query_of}
 use Rattle.log_listing.specs.Listed.{Lists, IsRefused}
 use Rattle.log_listing.specs.Lengths.{names_in}

@@ -1,4 +1,5 @@
-use Rattle.std.proofs.Common.{ap, subst, Option, IfOk, IfErr, OnOk, ◌≡◌, ◌++◌, true, map}
+use Rattle.std.proofs.Common.{subst, IfOk, IfErr, OnOk, ◌≡◌, ◌++◌, true, map}
+use Rattle.sampled_run.specs.Finishes.{shown_by, text_by}
 use Rattle.lp_model.specs.Outside.{Told}
 use Rattle.query_tree.specs.Views.{query_of}
 use Rattle.log_reading.specs.Page.{IsTooMany}
@@ -23,7 +24,7 @@ returns-clause-ran g c =
     let u = reached (kind_of g.G.Stage.state g.G.Stage.ended) c.args.target c.args.stage.now in
     let v = c.sample_reader.new.stage in
     let spans = c.args.spans.now in
-    let rules : Rules = rules_of c.args.limit c.args.pattern.now c.args.moment.seconds (query_of c.args.query.now) c.args.fresh (g.F.Shape.text c.args.shape) (g.F.Shape.shown c.args.shape) in
+    let rules : Rules = rules_of c.args.limit c.args.pattern.now c.args.moment.seconds (query_of c.args.query.now) c.args.fresh (text_by c.args.format (query_of c.args.query.now)) (shown_by (query_of c.args.query.now)) in
     let Behind : DelimitedOptions → Written → Type 0 = λ options run. Told told (λ folder. AreKept (delimited_lines options) c.args.waits spans folder
     → IsSampled rules u (past_behind (delimited_lines options) c.args.waits folder nothing spans) (delimited_lines options) c.args.waits folder spans run v) in
     let given = subst (λ (options : DelimitedOptions). IfOk c.sample_reader.result (Behind options)) c.in-Ok.ensures.ok c.sample_reader.ensures.ran in
@@ -40,7 +41,7 @@ returns-clause-stopped g c =
     let u = reached (kind_of g.G.Stage.state g.G.Stage.ended) c.args.target c.args.stage.now in
     let v = c.sample_reader.new.stage in
     let spans = c.args.spans.now in
-    let rules : Rules = rules_of c.args.limit c.args.pattern.now c.args.moment.seconds (query_of c.args.query.now) c.args.fresh (g.F.Shape.text c.args.shape) (g.F.Shape.shown c.args.shape) in
+    let rules : Rules = rules_of c.args.limit c.args.pattern.now c.args.moment.seconds (query_of c.args.query.now) c.args.fresh (text_by c.args.format (query_of c.args.query.now)) (shown_by (query_of c.args.query.now)) in
     let Behind : DelimitedOptions → SampleFault → Type 0 = λ options fault. Told told (λ folder. AreKept (delimited_lines options) c.args.waits spans folder
     → IsStoppedBy rules u (past_behind (delimited_lines options) c.args.waits folder nothing spans) fault v) in
     let given = subst (λ (options : DelimitedOptions). IfErr c.sample_reader.result (Behind options)) c.in-Ok.ensures.ok c.sample_reader.ensures.stopped in
