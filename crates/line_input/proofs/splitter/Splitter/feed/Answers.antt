@@ -1,4 +1,5 @@
-use Rattle.std.proofs.Common.{◌≡◌, ◌++◌, drop, arith, rules}
+use Rattle.std.proofs.Common.{◌≡◌, ◌≤◌, ◌+◌, ◌++◌, length, drop, ap, ◌∙◌, arith, rules}
+use Rattle.std.proofs.lemmas.List.{length-drop}
 use Rattle.std.proofs.lemmas.Grind.{common_steps}
 use Rattle.lp_model.specs.Lines.{is_lf}
 use Rattle.line_input.proofs.Split.{first_later}
@@ -6,7 +7,11 @@ use Rattle.line_input.proofs.splitter.Splitter.feed.Goals as goal
 
 pub invariant_of-self-2 : goal.invariant_of-self-2
 invariant_of-self-2 c =
-    let inside = c.self.inside in
-    let left : c.extend_from_slice.new.self.items ≡ drop inside.head inside.buffer.items ++ c.args.piece.now = search rules in
-    let later = first_later is_lf (drop inside.head inside.buffer.items) c.args.piece.now in
-    grind (arith, common_steps, left, later)
+    let later = first_later is_lf c.let_go.new.buffer.items c.args.piece.now in
+    grind (arith, common_steps, c.in_ok-extend_from_slice.ensures.items, later)
+
+pub returns-in_err-extend_from_slice-clause-err : goal.returns-in_err-extend_from_slice-clause-err
+returns-in_err-extend_from_slice-clause-err c =
+    let kept = c.drop-drain.ensures.items ∙ c.drain.ensures.kept in
+    let size = ap length kept ∙ length-drop c.self.inside.head c.reserve.new.self.items in
+    absurd (grind (arith, common_steps, size, c.in_err-extend_from_slice.ensures.full, c.let_go.ensures.shorter, c.let_go.ensures.capacity, c.drop-drain.ensures.capacity, c.drain.ensures.capacity, c.in_ok-reserve.ensures.ok))
