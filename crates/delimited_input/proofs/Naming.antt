@@ -1,12 +1,19 @@
 -- The names of columns, one after the other.
-use Rattle.std.proofs.Common.{◌≡◌, ℕ, suc, zero, cond, ◌+◌, ◌<◌, ◌≤◌, Bool, ◌||◌, List, [], ◌∷◌, ◌++◌, length, map, take, get_or, refl, sym, ap, ◌∙◌, arith}
+use Rattle.std.proofs.Common.{◌≡◌, ℕ, suc, zero, true, false, inl, inr, not, nat_eq, if◌then◌else◌, ◌+◌, ◌<◌, ◌≤◌, Bool, ◌||◌, List, [], ◌∷◌, ◌++◌, length, map, take, get_or, refl, sym, ap, ◌∙◌, arith}
 use Rattle.std.specs.List.{enumerate_from, list_any}
 use Rattle.std.proofs.lemmas.List.{map-append, take_more, take_all, take-map}
 use Rattle.std.proofs.lemmas.List.FromFn.{length-enumerate_from, get_or-enumerate_from}
 use Rattle.std.specs.Str.Lossy.{utf8_lossy}
 use Rattle.lp_model.specs.Reading.{Columns}
+use Rattle.std.proofs.lemmas.Bool.{cases_Bool}
+use Rattle.std.proofs.Math.Bool.{or-false, or-true, or_assoc, not-not}
+use Rattle.std.specs.Char.{to_ascii_lowercase}
+use Rattle.std.specs.Cmp.Lexicographic.{pointwise}
+use Rattle.indexmap.specs.IndexSet.{insert_key}
 use Rattle.line_input.specs.declared.slot.Slot.{Slot}
 use Rattle.slot_reading.specs.Names.{is_same_name}
+use Rattle.slot_reading.proofs.NameLemmas.{same_spelling}
+use Rattle.delimited_input.specs.Noted.{AreNoted}
 use Rattle.delimited_input.specs.Names.{made_name, header_name, header_names, is_made}
 use Rattle.delimited_input.specs.Kept.{text_of, texts_of}
 
@@ -32,14 +39,6 @@ pub names_all : (fields : List (List ℕ)) (place : ℕ) → length fields ≤ p
 unfolding header_names
 names_all fields place all = ap (map (name_at fields)) (take_all place (enumerate_from 0 fields) (omega (arith, length-enumerate_from 0 fields)))
 
-any_mapped : {X Y : Type 0} (p : Y → Bool) (f : X → Y) (xs : List X) → list_any p (map f xs) ≡ list_any (λ x. p (f x)) xs
-any_mapped p f [] = refl
-any_mapped p f (x ∷ xs) = ap (λ b. p (f x) || b) (any_mapped p f xs)
-
--- whether a name is that of an earlier field
-pub repeated_in : (line name : List ℕ) (slots : List Slot) → list_any (λ slot. is_same_name name (text_of line slot)) slots ≡ list_any (is_same_name name) (texts_of line slots)
-repeated_in line name slots = sym (any_mapped (is_same_name name) (text_of line) slots)
-
 -- the field at a place
 text_there : (line : List ℕ) (slots : List Slot) (place : ℕ) (d : Slot) → place < length slots → text_of line (get_or slots place d) ≡ get_or (texts_of line slots) place []
 text_there line [] place d within = absurd (omega arith)
@@ -49,10 +48,39 @@ text_there line (slot ∷ slots) (suc place) d within = text_there line slots pl
 pub name_there : (line : List ℕ) (slots : List Slot) (place : ℕ) (slot : Slot) (name : List ℕ) → place < length slots → slot ≡ get_or slots place slot → name ≡ text_of line slot → name ≡ get_or (texts_of line slots) place []
 name_there line slots place slot name within is e = e ∙ (ap (text_of line) is ∙ text_there line slots place slot within)
 
--- what a name is that was made anew or not
-pub name_is : (line : List ℕ) (slots : List Slot) (place : ℕ) (name found : List ℕ) (made : Bool) → made ≡ is_made (texts_of line (take place slots)) name → name ≡ get_or (texts_of line slots) place []
-    → found ≡ cond made (made_name (place + 1)) (utf8_lossy name) → found ≡ header_name (take place (texts_of line slots)) (place + 1) (get_or (texts_of line slots) place [])
-name_is line slots place name found made told there e =
-    e
-    ∙ (ap (λ (b : Bool). cond b (made_name (place + 1)) (utf8_lossy name)) (told ∙ ap (λ earlier. is_made earlier name) (sym (take-map (text_of line) place slots)))
-    ∙ ap (λ (n : List ℕ). header_name (take place (texts_of line slots)) (place + 1) n) there)
+-- names that were noted
+pub noted_none : AreNoted [] []
+unfolding AreNoted
+noted_none = λ name. refl
+
+any_last : {X : Type 0} (p : X → Bool) (xs : List X) (x : X) → list_any p (xs ++ x ∷ []) ≡ (list_any p xs || p x)
+any_last p [] x = or-false (p x)
+any_last p (y ∷ ys) x = ap (λ b. p y || b) (any_last p ys x) ∙ sym (or_assoc (p y) (list_any p ys) (p x))
+
+same_folded : (a b : List ℕ) → is_same_name a b ≡ pointwise nat_eq (map to_ascii_lowercase a) (map to_ascii_lowercase b)
+unfolding is_same_name
+same_folded a b = refl
+
+more_noted : (noted names : List (List ℕ)) (name other : List ℕ) (there : Bool) → list_any (pointwise nat_eq (map to_ascii_lowercase name)) noted ≡ there
+    → list_any (pointwise nat_eq (map to_ascii_lowercase other)) noted ≡ list_any (is_same_name other) names
+    → list_any (pointwise nat_eq (map to_ascii_lowercase other)) (if there then noted else noted ++ map to_ascii_lowercase name ∷ []) ≡ list_any (is_same_name other) (names ++ name ∷ [])
+more_noted noted names name other false found known =
+    any_last (pointwise nat_eq (map to_ascii_lowercase other)) noted (map to_ascii_lowercase name)
+    ∙ ((λ i. known i || sym (same_folded other name) i) ∙ sym (any_last (is_same_name other) names name))
+more_noted noted names name other true found known = elim (cases_Bool (is_same_name other name)) [
+  | inl e ↦
+      let all : list_any (is_same_name other) names ≡ true = sym known ∙ (ap (λ (spelled : List ℕ). list_any (pointwise nat_eq spelled) noted) (same_spelling other name e) ∙ found) in
+      known ∙ (all ∙ (sym (or-true (list_any (is_same_name other) names)) ∙ (ap (λ b. list_any (is_same_name other) names || b) (sym e) ∙ sym (any_last (is_same_name other) names name))))
+  | inr e ↦
+      known ∙ (sym (or-false (list_any (is_same_name other) names)) ∙ (ap (λ b. list_any (is_same_name other) names || b) (sym e) ∙ sym (any_last (is_same_name other) names name)))
+]
+
+pub noted_more : (noted names after : List (List ℕ)) (name : List ℕ) → after ≡ insert_key (pointwise nat_eq) noted (map to_ascii_lowercase name) → AreNoted noted names → AreNoted after (names ++ name ∷ [])
+unfolding AreNoted
+noted_more noted names after name is are = λ other.
+    ap (list_any (pointwise nat_eq (map to_ascii_lowercase other))) is ∙ more_noted noted names name other (list_any (pointwise nat_eq (map to_ascii_lowercase name)) noted) refl (are other)
+
+-- whether a name is one of those that were noted
+pub noted_told : (noted names : List (List ℕ)) (name : List ℕ) (is_new : Bool) → is_new ≡ not (list_any (pointwise nat_eq (map to_ascii_lowercase name)) noted) → AreNoted noted names → not is_new ≡ list_any (is_same_name name) names
+unfolding AreNoted
+noted_told noted names name is_new told are = ap not told ∙ (not-not (list_any (pointwise nat_eq (map to_ascii_lowercase name)) noted) ∙ are name)

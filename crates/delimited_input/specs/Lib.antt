@@ -10,3 +10,4 @@ pub mod Kinds
 pub mod Sampled
 pub mod Values
 pub mod Stepping
+pub mod Noted

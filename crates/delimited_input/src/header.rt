@@ -1,10 +1,13 @@
 // The names of columns.
-ghost use Rattle.std.specs.Prelude.{◌≡◌, ◌+◌, ◌<◌, [], length, take, IfOk, slice_index_or as get_or};
+ghost use Rattle.std.specs.Prelude.{◌≡◌, ◌++◌, ◌∷◌, [], ℕ, List, OnOk, IfOk};
 ghost use Rattle.std.specs.List.{list_any};
 ghost use Rattle.slot_reading.specs.Names.{is_same_name};
-ghost use Rattle.delimited_input.specs.Names.{is_made, made_name, made_names, header_name, header_names};
+ghost use Rattle.delimited_input.specs.Names.{made_name, made_names, header_name, header_names};
 ghost use Rattle.delimited_input.specs.Kept.{text_of, texts_of};
+ghost use Rattle.delimited_input.specs.Noted.{AreNoted};
 
+use crate::folded::FoldedName;
+use indexmap::IndexSet;
 use line_input::{Column, Columns, Fields, Slot};
 use lp_values::Text;
 use std::alloc::{AllocError, Global};
@@ -37,40 +40,49 @@ fn text_of<'a>(slot: &'a Slot, line: &'a [u8]) -> &'a [u8]
     slot.bytes(line).unwrap_or(b"")
 }
 
-// Whether two names are one, whatever the case of their letters.
-fn is_same(a: &[u8], b: &[u8]) -> bool
-    ensures { result ≡ is_same_name a.now b.now }
+// Notes a name among earlier ones, and tells whether it is one of them.
+fn is_repeated(
+    alloc: Global,
+    earlier: &mut IndexSet<FoldedName>,
+    name: &[u8],
+) -> Result<bool, AllocError>
+    ensures told { IfOk result (λ repeated. (names : List (List ℕ)) → AreNoted earlier.old.keys names → repeated ≡ list_any (is_same_name name.now) names) }
+    ensures noted { OnOk result ((names : List (List ℕ)) → AreNoted earlier.old.keys names → AreNoted earlier.new.keys (names ++ name.now ∷ [])) }
 {
-    a.eq_ignore_ascii_case(b)
+    let is_new = earlier.insert(FoldedName::of(alloc, name)?)?;
+    Ok(!is_new)
 }
 
-// Whether a name is that of an earlier field.
-fn is_repeated(earlier: &[Slot], line: &[u8], name: &[u8]) -> bool
-    ensures { result ≡ list_any (λ slot. is_same_name name.now (text_of line.now slot)) earlier.now }
+// The name that a header's field gives, at a position from 1.
+fn header_name(
+    alloc: Global,
+    name: &[u8],
+    position: usize,
+    is_repeated: bool,
+) -> Result<Text, AllocError>
+    ensures { IfOk result (λ found. (earlier : List (List ℕ)) → is_repeated ≡ list_any (is_same_name name.now) earlier → found ≡ header_name earlier position name.now) }
 {
-    earlier
-        .iter()
-        .any(|slot| is_same(name, text_of(slot, line)))
-}
-
-// Whether a column's name is made anew.
-fn is_made(earlier: &[Slot], line: &[u8], name: &[u8]) -> bool
-    ensures { result ≡ is_made (texts_of line.now earlier.now) name.now }
-{
-    name.is_empty() || is_repeated(earlier, line, name)
-}
-
-// The name that the field at a place of a header gives.
-fn header_name(alloc: Global, line: &[u8], slots: &[Slot], place: usize) -> Result<Text, AllocError>
-    requires { place < length slots.now }
-    ensures { IfOk result (λ name. name ≡ header_name (take place (texts_of line.now slots.now)) (place + 1) (get_or (texts_of line.now slots.now) place [])) }
-{
-    let name = text_of(&slots[place], line);
-    if is_made(&slots[..place], line, name) {
-        made_name(alloc, place + 1)
+    if name.is_empty() || is_repeated {
+        made_name(alloc, position)
     } else {
         Text::read(alloc, name)
     }
+}
+
+// Adds the name that a header's field gives.
+fn add_name(
+    alloc: Global,
+    earlier: &mut IndexSet<FoldedName>,
+    names: &mut Columns,
+    name: &[u8],
+    position: usize,
+) -> Result<(), AllocError>
+    ensures noted { OnOk result ((before : List (List ℕ)) → AreNoted earlier.old.keys before → AreNoted earlier.new.keys (before ++ name.now ∷ [])) }
+    ensures added { OnOk result ((before : List (List ℕ)) → AreNoted earlier.old.keys before → names.new ≡ names.old ++ header_name before position name.now ∷ []) }
+{
+    let repeated = is_repeated(alloc, earlier, name)?;
+    names.push(Column::new(header_name(alloc, name, position, repeated)?))?;
+    Ok(())
 }
 
 /// The names that a header's fields give.
@@ -82,9 +94,11 @@ pub(crate) fn header_names(
     ensures { IfOk result (λ names. names ≡ header_names (texts_of line.now fields.now)) }
 {
     let slots = fields.as_slice();
+    let mut earlier = IndexSet::new(alloc);
     let mut names = Columns::new(alloc);
     for place in 0..slots.len() {
-        names.push(Column::new(header_name(alloc, line, slots, place)?))?;
+        let name = text_of(&slots[place], line);
+        add_name(alloc, &mut earlier, &mut names, name, place + 1)?;
     }
     Ok(names)
 }

@@ -6,6 +6,7 @@
 
 mod broken;
 mod cut;
+mod folded;
 mod header;
 mod laws;
 mod options;
