@@ -1,7 +1,11 @@
 -- What a part takes from the front of a text.
-use Rattle.std.proofs.Common.{◌≡◌, ℕ, suc, ◌+◌, ◌-◌, ◌<◌, ◌≤◌, true, false, ◌==◌, List, [], ◌∷◌, length, take, drop, get_or, Option, Some, None, option_map, option_and_then, position, refl, sym, ap, ◌∙◌, inl, inr, arith, rules, tests, eq-eqb}
+use Rattle.std.proofs.Common.{◌≡◌, ℕ, suc, ◌+◌, ◌-◌, ◌<◌, ◌≤◌, true, false, ◌==◌, List, [], ◌∷◌, length, take, drop, get_or, Option, Some, None, option_map, option_and_then, position, refl, sym, ap, subst, ◌∙◌, inl, inr, arith, rules, tests, eq-eqb}
 use Rattle.std.proofs.lemmas.Bool.{cases_Bool, eqb-true}
-use Rattle.std.proofs.lemmas.List.{drop-drop, length-drop, drop_more, drop_all}
+use Rattle.std.proofs.lemmas.Bool.Decides.{nat_tests}
+use Rattle.byte_masks.specs.declared.set.ByteSet.{ByteSet}
+use Rattle.byte_masks.specs.Places.{is_in, IsNextPlace}
+use Rattle.std.proofs.lemmas.List.{drop-drop, length-drop, drop_more, drop_all, get_or-drop}
+use Rattle.std.proofs.lemmas.List.Sums.{passes_at_first}
 use Rattle.std.specs.List.{position_or_len, prefix_len}
 use Rattle.std.specs.Prelude.{◌≢◌}
 use Rattle.ncsa_input.specs.declared.shape.Shape.{Shape}
@@ -129,6 +133,57 @@ closing_more text at within quote back e =
     e ∙ (ap (λ t. option_map (λ n. at + n) (closing t)) (drop_more text at 0 within)
     ∙ (ap (option_map (λ n. at + n)) (closing_other (get_or text at 0) (drop (at + 1) text) quote back)
     ∙ shifted at 1 (closing (drop (at + 1) text))))
+
+-- at a mark stands a quote or a backslash
+abbrev marks : ByteSet
+marks = record { first = 34; second = 92 }
+
+up_to_mark : (text : List ℕ) → closing text ≡ option_map (λ n. position_or_len (is_in marks) text + n) (closing (drop (position_or_len (is_in marks) text) text))
+up_to_mark [] = refl
+up_to_mark (b ∷ bs) =
+    let k : ℕ = position_or_len (is_in marks) bs in
+    let one : 1 + k ≡ suc k = omega arith in
+    elim (cases_Bool (is_in marks b)) [
+      | inl e ↦ rw e (closing_start (b ∷ bs))
+      | inr e ↦ rw (e, one) (closing_other b bs (no_quote b e) (no_back b e) ∙ (ap (option_map (λ n. n + 1)) (up_to_mark bs) ∙ counted k (closing (drop k bs))))
+    ]
+  where
+    no_quote : (b : ℕ) → is_in marks b ≡ false → b ≢ 34
+    no_quote b e is = let yes : (b == 34) ≡ true = eq-eqb b 34 is in let told : true ≡ false = rw yes at e in absurd cc
+
+    no_back : (b : ℕ) → is_in marks b ≡ false → b ≢ 92
+    no_back b e is = grind (arith, nat_tests)
+
+    counted : (k : ℕ) (r : Option ℕ) → option_map (λ n. n + 1) (option_map (λ n. k + n) r) ≡ option_map (λ n. suc k + n) r
+    counted k None = refl
+    counted k (Some n) = ap Some (omega arith)
+
+-- the search goes on from the next mark
+pub closing_at_mark : (text : List ℕ) (at mark : ℕ) → mark ≡ at + position_or_len (is_in marks) (drop at text) → closing text ≡ option_map (λ n. at + n) (closing (drop at text)) → closing text ≡ option_map (λ n. mark + n) (closing (drop mark text))
+closing_at_mark text at mark is e =
+    let k = position_or_len (is_in marks) (drop at text) in
+    let there : drop k (drop at text) ≡ drop mark text = drop-drop k at text ∙ ap (λ n. drop n text) (sym is) in
+    e ∙ (ap (option_map (λ n. at + n)) (up_to_mark (drop at text) ∙ ap (λ t. option_map (λ n. k + n) (closing t)) there) ∙ further at k mark is (closing (drop mark text)))
+  where
+    further : (at k mark : ℕ) → mark ≡ at + k → (r : Option ℕ) → option_map (λ n. at + n) (option_map (λ n. k + n) r) ≡ option_map (λ n. mark + n) r
+    further at k mark is None = refl
+    further at k mark is (Some n) = ap Some (omega arith)
+
+-- a mark that is no quote is a backslash
+pub other_mark : (text : List ℕ) (at mark : ℕ) → IsNextPlace (is_in marks) text at mark → get_or text mark 0 ≢ 34 → get_or text mark 0 ≡ 92
+other_mark text at mark next other =
+    let k = position_or_len (is_in marks) (drop at text) in
+    let passes = passes_at_first (is_in marks) (drop at text) 0 (omega (arith, next.0, next.1, length-drop at text)) in
+    let there : get_or (drop at text) k 0 ≡ get_or text mark 0 = get_or-drop at text k 0 ∙ ap (λ n. get_or text n 0) (sym next.0) in
+    backslash (get_or text mark 0) (subst (λ (b : ℕ). is_in marks b ≡ true) there passes) other
+  where
+    backslash : (b : ℕ) → is_in marks b ≡ true → b ≢ 34 → b ≡ 92
+    backslash b e other = grind (arith, nat_tests)
+
+-- without a mark there is no end
+pub closing_unmarked : (text : List ℕ) (at : ℕ) → length (drop at text) ≤ position_or_len (is_in marks) (drop at text) → closing text ≡ option_map (λ n. at + n) (closing (drop at text)) → closing text ≡ None
+closing_unmarked text at none e =
+    e ∙ ap (option_map (λ n. at + n)) (up_to_mark (drop at text) ∙ ap (λ t. option_map (λ n. position_or_len (is_in marks) (drop at text) + n) (closing t)) (drop_all (position_or_len (is_in marks) (drop at text)) (drop at text) none))
 
 pub closing_none : (text : List ℕ) (at : ℕ) → length text ≤ at → closing text ≡ option_map (λ n. at + n) (closing (drop at text)) → closing text ≡ None
 closing_none text at past e = e ∙ ap (λ t. option_map (λ n. at + n) (closing t)) (drop_all at text past)

@@ -1,10 +1,13 @@
 // Where the next part of a line stands.
 ghost use Rattle.std.specs.Prelude.{◌≡◌, ◌<◌, ◌≤◌, ◌==◌, ◌+◌, ◌-◌, ◌^◌, None, Some, IfSome, MatchOption, length, drop, option_map, position};
+ghost use Rattle.std.specs.List.{position_or_len};
+ghost use Rattle.byte_masks.specs.Places.{is_in, IsNextPlace};
 ghost use Rattle.ncsa_input.specs.Shapes.{closing, behind, taken};
 ghost use Rattle.ncsa_input.specs.Pieces.{IsPiece, enclosed};
 ghost use Rattle.ncsa_input.specs.Lines.{behind_spaces};
 
 use crate::shape::Shape;
+use byte_masks::{ByteSet, Places};
 use line_input::{Extent, Gap};
 use lp_values::bytes_from;
 
@@ -15,12 +18,34 @@ pub(crate) struct Piece {
     pub(crate) end: usize,
 }
 
+// What ends a part in brackets.
+const BRACKET: ByteSet = ByteSet {
+    first: b']',
+    second: b']',
+};
+
+// What a quoted part may end at, or goes on behind.
+const MARKS: ByteSet = ByteSet {
+    first: b'"',
+    second: b'\\',
+};
+
+// The first place from one on at which a byte of a set stands.
+#[inline(always)]
+fn next_of(set: ByteSet, text: &[u8], at: usize) -> Option<usize>
+    requires { at ≤ length text.now }
+    ensures { MatchOption result (length (drop at text.now) ≤ position_or_len (is_in set) (drop at text.now)) (IsNextPlace (is_in set) text.now at) }
+{
+    let mut places = Places::new(set, text, at);
+    places.next_place()
+}
+
 // Where the first `]` stands.
 fn bracket(text: &[u8]) -> Option<usize>
     ensures place { result ≡ position (λ b. b == 93) text.now }
     ensures within { IfSome result (λ at. at < length text.now) }
 {
-    text.iter().position(|byte| *byte == b']')
+    next_of(BRACKET, text, 0)
 }
 
 // Where the quote stands that ends a quoted part.
@@ -30,11 +55,13 @@ fn closing(text: &[u8]) -> Option<usize>
 {
     let mut at = 0;
     while at < text.len() {
-        match text[at] {
-            b'"' => return Some(at),
-            b'\\' => at += 2,
-            _ => at += 1,
+        let Some(mark) = next_of(MARKS, text, at) else {
+            return None;
+        };
+        if text[mark] == b'"' {
+            return Some(mark);
         }
+        at = mark + 2;
     }
     None
 }
