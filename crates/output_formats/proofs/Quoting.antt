@@ -1,20 +1,38 @@
 -- Which fields hold a special byte, and where their quotes stand.
-use Rattle.std.proofs.Common.{◌≡◌, ℕ, zero, suc, ◌<◌, Bool, true, false, ◌||◌, List, [], ◌∷◌, ◌++◌, length, take, drop, get_or, flat_map, Option, Some, None, is_some, ap, sym, ◌∙◌, refl, arith, ◌==◌, inl, inr}
-use Rattle.std.proofs.lemmas.Bool.{false_from_ne_true}
+use Rattle.std.proofs.Common.{◌≡◌, ℕ, zero, suc, ◌+◌, ◌<◌, ◌≤◌, Bool, true, false, ◌||◌, List, [], ◌∷◌, ◌++◌, length, take, drop, get_or, flat_map, Option, Some, None, MatchOption, is_some, ap, sym, subst, ◌∙◌, refl, arith, ◌==◌, inl, inr}
+use Rattle.std.proofs.lemmas.Bool.{cases_Bool, false_from_ne_true}
+use Rattle.std.proofs.lemmas.List.Sums.{passes_at_first}
 use Rattle.std.proofs.lemmas.Bool.Decides.{eqb_tells}
 use Rattle.std.proofs.lemmas.List.Folds.{list_any_at}
-use Rattle.std.specs.List.{list_any}
-use Rattle.memchr.specs.Find.{IsFirstByte, is_byte, is_byte3}
+use Rattle.std.specs.List.{list_any, position_or_len}
+use Rattle.memchr.specs.Find.{IsFirstByte, is_byte}
+use Rattle.byte_masks.specs.declared.set.ByteSet.{ByteSet}
+use Rattle.byte_masks.specs.Places.{is_in, IsNextPlace}
+use Rattle.byte_masks.specs.Search.{Search}
 use Rattle.lp_model.specs.Csv.{is_special, doubled}
 
-any_nowhere : (test : ℕ → Bool) (xs : List ℕ) → ((k : ℕ) → k < length xs → test (get_or xs k 0) ≡ false) → list_any test xs ≡ false
-any_nowhere test [] none = refl
-any_nowhere test (x ∷ xs) none = let here : test x ≡ false = none 0 (omega arith) in rw here (any_nowhere test xs (λ k lt. none (suc k) (omega arith)))
+any_some : (test : ℕ → Bool) (xs : List ℕ) → position_or_len test xs < length xs → list_any test xs ≡ true
+any_some test xs within = list_any_at test xs (position_or_len test xs) 0 within (passes_at_first test xs 0 within)
+
+any_none : (test : ℕ → Bool) (xs : List ℕ) → length xs ≤ position_or_len test xs → list_any test xs ≡ false
+any_none test [] none = refl
+any_none test (x ∷ xs) none =
+    elim (cases_Bool (test x)) [
+      | inl e ↦ let zero : suc (length xs) ≤ 0 = rw e at none in absurd (omega arith)
+      | inr e ↦ let more : suc (length xs) ≤ 1 + position_or_len test xs = rw e at none in rw e (any_none test xs (omega arith))
+    ]
+
+any_found : (test : ℕ → Bool) (xs : List ℕ) (r : Option ℕ) (P : ℕ → Type 0) → MatchOption r (length (drop 0 xs) ≤ position_or_len test (drop 0 xs)) (λ place. IsNextPlace test xs 0 place × P place) → is_some r ≡ list_any test xs
+any_found test xs None P none = sym (any_none test xs none)
+any_found test xs (Some at) P next = sym (any_some test xs (omega (arith, next.0.0, next.0.1)))
 
 -- a search tells whether a byte is there
-pub any_from_first : (test : ℕ → Bool) (xs : List ℕ) (r : Option ℕ) → IsFirstByte test xs r → is_some r ≡ list_any test xs
-any_from_first test xs None nowhere = sym (any_nowhere test xs (λ k lt. false_from_ne_true _ (nowhere k (omega arith) lt)))
-any_from_first test xs (Some at) first = sym (list_any_at test xs at 0 first.0.high first.1)
+pub any_from_search : (set : ByteSet) (xs : List ℕ) (places : Search) (r : Option ℕ) (P : ℕ → Type 0) → places.set ≡ set → places.bytes ≡ xs → places.at ≡ 0
+    → MatchOption r (length (drop places.at places.bytes) ≤ position_or_len (is_in places.set) (drop places.at places.bytes)) (λ place. IsNextPlace (is_in places.set) places.bytes places.at place × P place)
+    → is_some r ≡ list_any (is_in set) xs
+any_from_search set xs places r P a b c found =
+    let Found : ByteSet → List ℕ → ℕ → Type 0 = λ set bytes at. MatchOption r (length (drop at bytes) ≤ position_or_len (is_in set) (drop at bytes)) (λ place. IsNextPlace (is_in set) bytes at place × P place) in
+    any_found (is_in set) xs r P (subst (λ (at : ℕ). Found set xs at) c (subst (λ (bytes : List ℕ). Found set bytes places.at) b (subst (λ (s : ByteSet). Found s places.bytes places.at) a found)))
 
 four : (a b c d : Bool) → (a || b) || (c || d) ≡ (a || c) || (b || d)
 four true b c d = refl
@@ -31,16 +49,20 @@ any_same : (p q : ℕ → Bool) (xs : List ℕ) → ((x : ℕ) → p x ≡ q x) 
 any_same p q [] same = refl
 any_same p q (x ∷ xs) same = ap (λ t. t || list_any p xs) (same x) ∙ ap (λ t. q x || t) (any_same p q xs same)
 
-last_two : (a b c : Bool) → (a || b) || c ≡ (a || c) || b
-last_two true b c = refl
-last_two false true true = refl
-last_two false true false = refl
-last_two false false true = refl
-last_two false false false = refl
+abbrev separators : ByteSet
+separators = record { first = 44; second = 34 }
 
--- a mark or a CR is a special byte
-pub special_either : (xs : List ℕ) → list_any is_special xs ≡ (list_any (is_byte3 44 34 10) xs || list_any (is_byte 13) xs)
-special_either xs = any_same is_special (λ x. is_byte3 44 34 10 x || is_byte 13 x) xs (λ x. last_two (x == 44 || x == 34) (x == 13) (x == 10)) ∙ either (is_byte3 44 34 10) (is_byte 13) xs
+abbrev pub line_ends : ByteSet
+line_ends = record { first = 13; second = 10 }
+
+in_order : (a b c d : Bool) → ((a || b) || c) || d ≡ (a || b) || (c || d)
+in_order true b c d = refl
+in_order false true c d = refl
+in_order false false c d = refl
+
+-- a special byte is a separator or ends a line
+pub special_either : (xs : List ℕ) → list_any is_special xs ≡ (list_any (is_in separators) xs || list_any (is_in line_ends) xs)
+special_either xs = any_same is_special (λ x. is_in separators x || is_in line_ends x) xs (λ x. in_order (x == 44) (x == 34) (x == 13) (x == 10)) ∙ either (is_in separators) (is_in line_ends) xs
 
 -- a field without a quote stays
 doubled_nowhere : (xs : List ℕ) → ((k : ℕ) → k < length xs → (get_or xs k 0 == 34) ≡ false) → flat_map doubled xs ≡ xs

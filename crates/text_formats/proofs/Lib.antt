@@ -3,3 +3,4 @@ pub mod Stopping
 pub mod Tabling
 pub mod Piecing
 pub mod Blocks
+pub mod Searching

@@ -1,6 +1,6 @@
 use Rattle.std.proofs.Common.{◌∙◌}
 use Rattle.memchr.specs.Find.{is_byte3}
-use Rattle.output_formats.proofs.Quoting.{any_from_first}
+use Rattle.text_formats.proofs.Searching.{any_from_first}
 use Rattle.text_formats.proofs.fields.has_mark.Goals as goal
 
 pub returns : goal.returns

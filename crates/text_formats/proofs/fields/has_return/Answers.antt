@@ -1,6 +1,6 @@
 use Rattle.std.proofs.Common.{◌∙◌}
 use Rattle.memchr.specs.Find.{is_byte}
-use Rattle.output_formats.proofs.Quoting.{any_from_first}
+use Rattle.text_formats.proofs.Searching.{any_from_first}
 use Rattle.text_formats.proofs.fields.has_return.Goals as goal
 
 pub returns : goal.returns

@@ -1,7 +1,0 @@
-use Rattle.std.proofs.Common.{◌∙◌}
-use Rattle.memchr.specs.Find.{is_byte3}
-use Rattle.output_formats.proofs.Quoting.{any_from_first}
-use Rattle.output_formats.proofs.csv.has_mark.Goals as goal
-
-pub returns : goal.returns
-returns c = c.is_some.ensures ∙ any_from_first (is_byte3 44 34 10) c.args.field.now c.memchr3.result c.memchr3.ensures
