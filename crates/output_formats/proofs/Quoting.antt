@@ -1,5 +1,5 @@
 -- Which fields hold a special byte, and where their quotes stand.
-use Rattle.std.proofs.Common.{◌≡◌, ℕ, zero, suc, ◌+◌, ◌<◌, ◌≤◌, Bool, true, false, ◌||◌, List, [], ◌∷◌, ◌++◌, length, take, drop, get_or, flat_map, Option, Some, None, MatchOption, is_some, ap, sym, subst, ◌∙◌, refl, arith, ◌==◌, inl, inr}
+use Rattle.std.proofs.Common.{◌≡◌, ℕ, zero, suc, ◌+◌, ◌^◌, ◌<◌, ◌≤◌, ℤ, pos, negsuc, FitsSigned, w64, Bool, true, false, ◌||◌, ◌&&◌, List, [], ◌∷◌, ◌++◌, length, take, drop, get_or, flat_map, Option, Some, None, MatchOption, is_some, ap, sym, subst, ◌∙◌, refl, arith, ◌==◌, inl, inr}
 use Rattle.std.proofs.lemmas.Bool.{cases_Bool, false_from_ne_true}
 use Rattle.std.proofs.lemmas.List.Sums.{passes_at_first}
 use Rattle.std.proofs.lemmas.Bool.Decides.{eqb_tells}
@@ -9,7 +9,15 @@ use Rattle.memchr.specs.Find.{IsFirstByte, is_byte}
 use Rattle.byte_masks.specs.declared.set.ByteSet.{ByteSet}
 use Rattle.byte_masks.specs.Places.{is_in, IsNextPlace}
 use Rattle.byte_masks.specs.Search.{Search}
-use Rattle.lp_model.specs.Csv.{is_special, doubled}
+use Rattle.lp_model.specs.Csv.{is_special, doubled, csv_field}
+use Rattle.std.proofs.lemmas.Bool.Decides.{nat_tests}
+use Rattle.std.proofs.lemmas.Fmt.{decimal_is_IsNumeral, decimal_nonempty}
+use Rattle.std.specs.Char.{is_ascii_digit}
+use Rattle.std.specs.Cmp.{first_so, second_so}
+use Rattle.std.specs.Fmt.{signed_decimal}
+use Rattle.std.specs.Prelude.{decimal, if◌then◌else◌}
+use Rattle.lp_values.specs.Readings.{is_digits}
+use Rattle.lp_values.proofs.ReadingLemmas.{model}
 
 any_some : (test : ℕ → Bool) (xs : List ℕ) → position_or_len test xs < length xs → list_any test xs ≡ true
 any_some test xs within = list_any_at test xs (position_or_len test xs) 0 within (passes_at_first test xs 0 within)
@@ -87,3 +95,36 @@ doubled_at (x ∷ xs) (suc k) lt before here =
 pub doubled_first : (xs : List ℕ) (at n : ℕ) → n ≡ suc at → IsFirstByte (is_byte 34) xs (Some at) → flat_map doubled xs ≡ (take n xs ++ 34 ∷ []) ++ flat_map doubled (drop n xs)
 doubled_first xs at n is first =
     doubled_at xs at first.0.high (λ k below. false_from_ne_true _ (first.0.before k (omega arith) below)) first.1 ∙ ap (λ m. (take m xs ++ 34 ∷ []) ++ flat_map doubled (drop m xs)) (sym is)
+
+-- ---- numbers
+
+digit_plain : (b : ℕ) → is_ascii_digit b ≡ true → is_special b ≡ false
+digit_plain b e = grind (arith, nat_tests)
+
+digits_plain : (xs : List ℕ) → is_digits xs ≡ true → list_any is_special xs ≡ false
+digits_plain [] e = refl
+digits_plain (x ∷ xs) e =
+    let here = digit_plain x (first_so (is_ascii_digit x) (is_digits xs) e) in
+    rw here (digits_plain xs (second_so (is_ascii_digit x) (is_digits xs) e))
+
+decimal_plain : (n : ℕ) → n < 2 ^ 64 → list_any is_special (decimal n) ≡ false
+decimal_plain n fits = digits_plain (decimal n) (model.from (decimal n) (decimal_is_IsNumeral n fits).0.1)
+
+signed_plain : (z : ℤ) → FitsSigned w64 z → list_any is_special (signed_decimal z) ≡ false
+signed_plain (pos n) fits = decimal_plain n (omega (arith, fits.sfits))
+signed_plain (negsuc n) fits = decimal_plain (suc n) (omega (arith, fits.sfits))
+
+filled : (k : ℕ) → 0 < k → (k == 0) ≡ false
+filled k some = grind (arith, nat_tests)
+
+signed_filled : (z : ℤ) → FitsSigned w64 z → (length (signed_decimal z) == 0) ≡ false
+signed_filled (pos n) fits = filled (length (decimal n)) (decimal_nonempty n (omega (arith, fits.sfits)))
+signed_filled (negsuc n) fits = filled (suc (length (decimal (suc n)))) (omega arith)
+
+-- a number stands without quotes
+pub number_plain : (only : Bool) (z : ℤ) → FitsSigned w64 z → csv_field only (signed_decimal z) ≡ signed_decimal z
+number_plain only z fits = rw (signed_plain z fits, signed_filled z fits) (unquoted only)
+  where
+    unquoted : (only : Bool) → (if (false || (only && false)) then 34 ∷ [] ++ flat_map doubled (signed_decimal z) ++ 34 ∷ [] else signed_decimal z) ≡ signed_decimal z
+    unquoted true = refl
+    unquoted false = refl
