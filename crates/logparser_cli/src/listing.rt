@@ -52,6 +52,7 @@ pub(crate) fn find_spans<L: Logs>(
     ensures there { IfOk result (λ spans. Told (L.folder logs.new) (λ folder. AllSpans spans (λ span. span.listed ≤ length (bytes_in folder span.name)))) }
     ensures refused { IfErr result (IsUnlisted (L.folder logs.new) (query_of query.now)) }
     ensures failed { IsErrOf result S.LogsFault → Rose (L.faults logs.old) (L.faults logs.new) }
+    ensures given { L.given logs.new ≡ L.given logs.old }
 {
     let Ok(texts) = texts_of(alloc, &query.names) else {
         return Err(Status::Memory);

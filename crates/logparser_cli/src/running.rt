@@ -10,6 +10,7 @@ ghost use Rattle.execution.specs.Texts.{output_of, run_text, sections_in};
 ghost use Rattle.reports.specs.Messages.{message};
 ghost use Rattle.reports.specs.Status.{OnRefused};
 ghost use Rattle.logparser_cli.specs.Answers.{Answers, AnswersBuilt, AnswersQuery, AnswersRun, stopped, unasked};
+ghost use Rattle.logparser_cli.specs.Given.{ReadsLogs, ReadsQuery, ReadsWords};
 ghost use Rattle.logparser_cli.specs.Whole.{World, Tells, told_statistics};
 
 use crate::Status;
@@ -60,6 +61,7 @@ fn stopped(fault: RunFault) -> Status
 // Tells the statistics, unless they are switched off, as far as the output takes them.
 fn tell_statistics<E: Sink>(err: &mut E, stats: bool, counts: &Counts)
     ensures told { Tells (E.written err.old) (E.written err.new) (told_statistics stats counts.now) (Rose (E.faults err.old) (E.faults err.new)) }
+    ensures later { E.faults err.old ≤ E.faults err.new }
 {
     if stats {
         match write_statistics(err, counts.processed, counts.output, counts.bad) {
@@ -72,6 +74,7 @@ fn tell_statistics<E: Sink>(err: &mut E, stats: bool, counts: &Counts)
 // Tells of a refusal, as far as the output takes it.
 fn tell_refusal<E: Sink>(err: &mut E, status: &Status)
     ensures told { Tells (E.written err.old) (E.written err.new) (message status.now) (Rose (E.faults err.old) (E.faults err.new)) }
+    ensures later { E.faults err.old ≤ E.faults err.new }
 {
     match write_message(err, status) {
         Ok(()) => {}
@@ -97,10 +100,13 @@ fn run_logs<L: Logs, I: Source, S: Sink, E: Sink>(
     requires built { all_built spec.now (query_of query.now) ≡ true }
     ensures grows { OnlyGrow (L.folder logs.old) (L.folder logs.new) }
     ensures later { L.faults logs.old ≤ L.faults logs.new }
+    ensures later_out { S.faults out.old ≤ S.faults out.new }
+    ensures later_err { E.faults err.old ≤ E.faults err.new }
     ensures answers { AnswersRun
         (record { folder = L.folder logs.old; logs_faults = L.faults logs.old; out = S.written out.old; out_faults = S.faults out.old; err = E.written err.old; err_faults = E.faults err.old })
         (record { folder = L.folder logs.new; logs_faults = L.faults logs.new; out = S.written out.new; out_faults = S.faults out.new; err = E.written err.new; err_faults = E.faults err.new })
         (run_text spec.now (sections_in (λ t. t.value) template) moment (query_of query.now)) spec.now moment (query_of query.now) result }
+    ensures given { ReadsLogs (L.folder logs.new) (query_of query.now) (L.given logs.old) (L.given logs.new) }
     ensures input { input.new ≡ input.old }
     ensures silent { OnRefused result (err.new ≡ err.old) }
 {
@@ -135,10 +141,13 @@ fn run_built<L: Logs, I: Source, S: Sink, E: Sink>(
     requires built { all_built spec.now (query_of query.now) ≡ true }
     ensures grows { OnlyGrow (L.folder logs.old) (L.folder logs.new) }
     ensures later { L.faults logs.old ≤ L.faults logs.new }
+    ensures later_out { S.faults out.old ≤ S.faults out.new }
+    ensures later_err { E.faults err.old ≤ E.faults err.new }
     ensures answers { AnswersBuilt
         (record { folder = L.folder logs.old; logs_faults = L.faults logs.old; out = S.written out.old; out_faults = S.faults out.old; err = E.written err.old; err_faults = E.faults err.old })
         (record { folder = L.folder logs.new; logs_faults = L.faults logs.new; out = S.written out.new; out_faults = S.faults out.new; err = E.written err.new; err_faults = E.faults err.new })
         spec.now moment (query_of query.now) result }
+    ensures given { ReadsQuery (L.folder logs.new) spec.now (query_of query.now) (L.given logs.old) (L.given logs.new) }
     ensures input { input.new ≡ input.old }
     ensures silent { OnRefused result (err.new ≡ err.old) }
 {
@@ -164,10 +173,13 @@ fn run_query<L: Logs, I: Source, S: Sink, E: Sink>(
     requires range { IsInRange spec.now }
     ensures grows { OnlyGrow (L.folder logs.old) (L.folder logs.new) }
     ensures later { L.faults logs.old ≤ L.faults logs.new }
+    ensures later_out { S.faults out.old ≤ S.faults out.new }
+    ensures later_err { E.faults err.old ≤ E.faults err.new }
     ensures answers { AnswersQuery
         (record { folder = L.folder logs.old; logs_faults = L.faults logs.old; out = S.written out.old; out_faults = S.faults out.old; err = E.written err.old; err_faults = E.faults err.old })
         (record { folder = L.folder logs.new; logs_faults = L.faults logs.new; out = S.written out.new; out_faults = S.faults out.new; err = E.written err.new; err_faults = E.faults err.new })
         spec.now moment (query_of query.now) result }
+    ensures given { ReadsQuery (L.folder logs.new) spec.now (query_of query.now) (L.given logs.old) (L.given logs.new) }
     ensures input { input.new ≡ input.old }
     ensures silent { OnRefused result (err.new ≡ err.old) }
 {
@@ -194,6 +206,9 @@ fn run_words<L: Logs, I: Source, S: Sink, E: Sink>(
         result }
     ensures grows { OnlyGrow (L.folder logs.old) (L.folder logs.new) }
     ensures later { L.faults logs.old ≤ L.faults logs.new }
+    ensures later_out { S.faults out.old ≤ S.faults out.new }
+    ensures later_err { E.faults err.old ≤ E.faults err.new }
+    ensures given { ReadsWords (L.folder logs.old) (L.folder logs.new) words.now (L.given logs.old) (L.given logs.new) }
     ensures input { input.new ≡ input.old }
     ensures silent { OnRefused result (err.new ≡ err.old) }
 {
@@ -224,7 +239,8 @@ fn run_words<L: Logs, I: Source, S: Sink, E: Sink>(
 /// At `Done` the output has gained the text of the query over the records of the logs that FROM names, each up to its length
 /// at some moment of the call, and `err` the statistics; at every refusal `err` has gained its message. Of either `err` holds
 /// the front where it failed. An output by a template is by the sections of the file that `-tpl` names, which is read before
-/// the logs are listed. `disk` and `input` are left as they are.
+/// the logs are listed. `disk` and `input` are left as they are. Of the query's file, the template and each log no more bytes
+/// are read than it has at the end.
 pub fn run<L: Logs, D: Disk, I: Source, S: Sink, E: Sink>(
     alloc: Global,
     words: &TextList,
@@ -243,6 +259,9 @@ pub fn run<L: Logs, D: Disk, I: Source, S: Sink, E: Sink>(
     ensures disk { disk.new ≡ disk.old }
     ensures grows { OnlyGrow (L.folder logs.old) (L.folder logs.new) }
     ensures later { L.faults logs.old ≤ L.faults logs.new }
+    ensures later_out { S.faults out.old ≤ S.faults out.new }
+    ensures later_err { E.faults err.old ≤ E.faults err.new }
+    ensures given { ReadsWords (L.folder logs.old) (L.folder logs.new) words.now (L.given logs.old) (L.given logs.new) }
     ensures input { input.new ≡ input.old }
 {
     match run_words(alloc, words, moment, logs, input, out, err) {

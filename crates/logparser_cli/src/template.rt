@@ -1,12 +1,14 @@
 // The template of a run.
-ghost use Rattle.std.specs.Prelude.{◌≡◌, ◌≤◌, true, IfOk, IfErr, IsErrOf, IsSome};
+ghost use Rattle.std.specs.Prelude.{◌≡◌, ◌≤◌, ◌∷◌, [], true, IfOk, IfErr, IsErrOf, IsSome};
 ghost use Rattle.lp_model.specs.Outside.{OnlyGrow, Rose};
 ghost use Rattle.command_words.specs.declared.formats.OutputFormat.TheVariants as O;
 ghost use Rattle.execution.specs.Built.{all_built};
 ghost use Rattle.execution.specs.Texts.{output_of, sections_in};
 ghost use Rattle.query_tree.specs.Views.{query_of};
+ghost use Rattle.requests.specs.Given.{ReadsOnce};
 ghost use Rattle.requests.specs.Templates.{HoldsTemplate};
 ghost use Rattle.reports.specs.declared.status.Status.TheVariants as S;
+ghost use Rattle.logparser_cli.specs.Given.{template_files};
 ghost use Rattle.logparser_cli.specs.Templates.{IsTemplate, IsUntemplated, IsWithoutTemplate, untemplated};
 
 use command_words::{OutputFormat, Spec};
@@ -37,6 +39,7 @@ fn named_template<L: Logs>(alloc: Global, logs: &mut L, name: &Name) -> Result<R
     ensures later { L.faults logs.old ≤ L.faults logs.new }
     ensures holds { IfOk result (λ template. HoldsTemplate (L.folder logs.old) (L.folder logs.new) name.now template.value) }
     ensures refused { IfErr result (IsUntemplated (L.folder logs.old) (L.folder logs.new) name.now) }
+    ensures given { ReadsOnce (L.folder logs.new) (name.now ∷ []) (L.given logs.old) (L.given logs.new) }
     ensures failed { IsErrOf result S.LogsFault → Rose (L.faults logs.old) (L.faults logs.new) }
 {
     let template = match read_template(alloc, logs, name) {
@@ -62,6 +65,7 @@ pub(crate) fn find_template<L: Logs>(
     ensures found { IfOk result (λ template. IsTemplate (L.folder logs.old) (L.folder logs.new) spec.now (query_of query.now) (sections_in (λ t. t.value) template)) }
     ensures given { IfOk result (λ template. output_of spec.now (query_of query.now) ≡ O.Tpl → IsSome template) }
     ensures refused { IfErr result (IsWithoutTemplate (L.folder logs.old) (L.folder logs.new) spec.now (query_of query.now)) }
+    ensures reads { ReadsOnce (L.folder logs.new) (template_files spec.now (query_of query.now)) (L.given logs.old) (L.given logs.new) }
     ensures failed { IsErrOf result S.LogsFault → Rose (L.faults logs.old) (L.faults logs.new) }
 {
     match output_of(spec, query) {

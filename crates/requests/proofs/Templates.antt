@@ -1,5 +1,5 @@
 -- What a template's file holds, at other moments of a call.
-use Rattle.std.proofs.Common.{◌≡◌, ◌≤◌, ℕ, List, length, Option, Some, None, arith}
+use Rattle.std.proofs.Common.{◌≤◌, ℕ, List, length, Option, Some, None, arith}
 use Rattle.lp_model.specs.Outside.{Folder, OnlyGrow, Told, bytes_in}
 use Rattle.lp_model.proofs.Pieces.{length_grown}
 use Rattle.tpl_output.specs.Sections.{Sections}

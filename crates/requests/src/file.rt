@@ -1,6 +1,7 @@
 // A query file, and the bytes of any file.
-ghost use Rattle.std.specs.Prelude.{◌≡◌, ◌≤◌, take, length, IfOk, IfErr, IsErrOf};
+ghost use Rattle.std.specs.Prelude.{◌≡◌, ◌≤◌, ◌+◌, ◌∷◌, [], take, length, IfOk, IfErr, IsErrOf};
 ghost use Rattle.lp_model.specs.Outside.{OnlyGrow, Rose, Told, bytes_in};
+ghost use Rattle.requests.specs.Given.{ReadsOnce};
 ghost use Rattle.requests.specs.Texts.{IsCut};
 ghost use Rattle.requests.specs.Files.{IsFailure, IsFileFault};
 ghost use Rattle.requests.specs.declared.fault.RequestFault.TheVariants as F;
@@ -24,6 +25,7 @@ pub(crate) fn read_bytes<L: Logs>(
     ensures grows { OnlyGrow (L.folder logs.old) (L.folder logs.new) }
     ensures bytes { IfOk result (λ bytes. Told (L.folder logs.new) (λ folder. bytes ≡ take cut (bytes_in folder name.now))) }
     ensures faults { IfErr result IsFailure }
+    ensures given { L.given logs.new ≤ L.given logs.old + cut }
     ensures later { L.faults logs.old ≤ L.faults logs.new }
     ensures failed { IsErrOf result F.Logs → Rose (L.faults logs.old) (L.faults logs.new) }
 {
@@ -48,6 +50,7 @@ pub fn read_file<L: Logs>(alloc: Global, logs: &mut L, name: &Name) -> Result<By
     ensures grows { OnlyGrow (L.folder logs.old) (L.folder logs.new) }
     ensures bytes { IfOk result (λ bytes. Told (L.folder logs.new) (λ folder. IsCut (L.folder logs.old) folder name.now bytes)) }
     ensures faults { IfErr result (IsFileFault (L.folder logs.old) (L.folder logs.new) name.now) }
+    ensures given { ReadsOnce (L.folder logs.new) (name.now ∷ []) (L.given logs.old) (L.given logs.new) }
     ensures later { L.faults logs.old ≤ L.faults logs.new }
     ensures failed { IsErrOf result F.Logs → Rose (L.faults logs.old) (L.faults logs.new) }
 {

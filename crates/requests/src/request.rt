@@ -3,7 +3,9 @@ ghost use Rattle.std.specs.Prelude.{◌≡◌, ◌≤◌, OnOk, IfOk, IfErr, IsE
 ghost use Rattle.lp_model.specs.Outside.{OnlyGrow, Rose};
 ghost use Rattle.command_words.specs.Table.{IsAsked, IsInRange};
 ghost use Rattle.command_words.specs.Usage.{AreFine};
+ghost use Rattle.command_words.specs.Words.{query_in};
 ghost use Rattle.query_tree.specs.Views.{query_of};
+ghost use Rattle.requests.specs.Given.{ReadsOnce, query_files};
 ghost use Rattle.requests.specs.Texts.{HoldsQuery};
 ghost use Rattle.requests.specs.Files.{IsTextFault};
 ghost use Rattle.requests.specs.Requests.{IsWordsFault, Asks, IsRefused};
@@ -44,6 +46,7 @@ fn read_word<L: Logs>(alloc: Global, logs: &mut L, word: &str) -> Result<Query, 
     ensures grows { OnlyGrow (L.folder logs.old) (L.folder logs.new) }
     ensures query { IfOk result (λ q. HoldsQuery (L.folder logs.old) (L.folder logs.new) word.now (query_of q)) }
     ensures refused { IfErr result (IsTextFault (L.folder logs.old) (L.folder logs.new) word.now) }
+    ensures given { ReadsOnce (L.folder logs.new) (query_files word.now) (L.given logs.old) (L.given logs.new) }
     ensures later { L.faults logs.old ≤ L.faults logs.new }
     ensures failed { IsErrOf result F.Logs → Rose (L.faults logs.old) (L.faults logs.new) }
 {
@@ -65,6 +68,7 @@ pub fn read_request<L: Logs>(
     ensures in_range { IfOk result (λ request. IsInRange request.spec) }
     ensures asks { IfOk result (λ request. Asks (L.folder logs.old) (L.folder logs.new) words.now request.spec (query_of request.query)) }
     ensures refused { IfErr result (IsRefused (L.folder logs.old) (L.folder logs.new) words.now) }
+    ensures given { ReadsOnce (L.folder logs.new) (query_files (query_in words.now)) (L.given logs.old) (L.given logs.new) }
     ensures later { L.faults logs.old ≤ L.faults logs.new }
     ensures failed { IsErrOf result F.Logs → Rose (L.faults logs.old) (L.faults logs.new) }
 {

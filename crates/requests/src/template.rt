@@ -1,6 +1,7 @@
 // A template's file.
-ghost use Rattle.std.specs.Prelude.{◌≡◌, ◌≤◌, IfOk, IfErr, IsErrOf};
+ghost use Rattle.std.specs.Prelude.{◌≡◌, ◌≤◌, ◌∷◌, [], IfOk, IfErr, IsErrOf};
 ghost use Rattle.lp_model.specs.Outside.{OnlyGrow, Rose, Told};
+ghost use Rattle.requests.specs.Given.{ReadsOnce};
 ghost use Rattle.requests.specs.Texts.{IsCut};
 ghost use Rattle.requests.specs.Templates.{HoldsTemplate, IsNoTemplate, IsUnread};
 ghost use Rattle.requests.specs.declared.fault.NoTemplate.TheVariants as N;
@@ -18,6 +19,7 @@ fn file_bytes<L: Logs>(alloc: Global, logs: &mut L, name: &Name) -> Result<Bytes
     ensures grows { OnlyGrow (L.folder logs.old) (L.folder logs.new) }
     ensures bytes { IfOk result (λ bytes. Told (L.folder logs.new) (λ folder. IsCut (L.folder logs.old) folder name.now bytes)) }
     ensures unread { IfErr result (IsUnread (L.folder logs.new) name.now) }
+    ensures given { ReadsOnce (L.folder logs.new) (name.now ∷ []) (L.given logs.old) (L.given logs.new) }
     ensures later { L.faults logs.old ≤ L.faults logs.new }
     ensures failed { IsErrOf result N.Logs → Rose (L.faults logs.old) (L.faults logs.new) }
 {
@@ -42,6 +44,7 @@ pub fn read_template<L: Logs>(
     ensures grows { OnlyGrow (L.folder logs.old) (L.folder logs.new) }
     ensures template { IfOk result (HoldsTemplate (L.folder logs.old) (L.folder logs.new) name.now) }
     ensures refused { IfErr result (IsNoTemplate (L.folder logs.old) (L.folder logs.new) name.now) }
+    ensures given { ReadsOnce (L.folder logs.new) (name.now ∷ []) (L.given logs.old) (L.given logs.new) }
     ensures later { L.faults logs.old ≤ L.faults logs.new }
     ensures failed { IsErrOf result N.Logs → Rose (L.faults logs.old) (L.faults logs.new) }
 {

@@ -2,6 +2,7 @@
 ghost use Rattle.std.specs.Prelude.{◌≡◌, ◌≤◌, IfOk, IfErr, IsErrOf};
 ghost use Rattle.std.specs.Option.{option_copied};
 ghost use Rattle.lp_model.specs.Outside.{OnlyGrow, Rose};
+ghost use Rattle.requests.specs.Given.{ReadsOnce, query_files};
 ghost use Rattle.requests.specs.Texts.{file_in, HoldsText};
 ghost use Rattle.requests.specs.Files.{IsMemory, IsTextFault};
 ghost use Rattle.requests.specs.declared.fault.RequestFault.TheVariants as F;
@@ -39,6 +40,7 @@ pub fn query_text<L: Logs>(alloc: Global, logs: &mut L, word: &str) -> Result<By
     ensures grows { OnlyGrow (L.folder logs.old) (L.folder logs.new) }
     ensures text { IfOk result (HoldsText (L.folder logs.old) (L.folder logs.new) word.now) }
     ensures faults { IfErr result (IsTextFault (L.folder logs.old) (L.folder logs.new) word.now) }
+    ensures given { ReadsOnce (L.folder logs.new) (query_files word.now) (L.given logs.old) (L.given logs.new) }
     ensures later { L.faults logs.old ≤ L.faults logs.new }
     ensures failed { IsErrOf result F.Logs → Rose (L.faults logs.old) (L.faults logs.new) }
 {

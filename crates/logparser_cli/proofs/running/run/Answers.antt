@@ -1,4 +1,4 @@
-use Rattle.std.proofs.Common.{◌≡◌, ℤ, refl, subst}
+use Rattle.std.proofs.Common.{◌≡◌, ℤ, refl, subst, arith}
 use Rattle.std.proofs.lemmas.Int.{to_z-of_z}
 use Rattle.lp_model.specs.Outside.{Rose}
 use Rattle.reports.specs.Messages.{message}
@@ -21,5 +21,8 @@ returns-in_default g c =
       disk = refl;
       grows = c.run_words.ensures.grows;
       later = c.run_words.ensures.later;
+      later_out = c.run_words.ensures.later_out;
+      later_err = let first = c.run_words.ensures.later_err in let second = c.tell_refusal.ensures.later in omega arith;
+      given = c.run_words.ensures.given;
       input = c.run_words.ensures.input;
     }

@@ -1,4 +1,4 @@
-use Rattle.std.proofs.Common.{◌≡◌, ◌≤◌, ◌-◌, length}
+use Rattle.std.proofs.Common.{◌≡◌, ◌≤◌, ◌+◌, ◌-◌, length}
 use Rattle.lp_model.specs.Outside.{OnlyGrow}
 use Rattle.lp_model.specs.Pieces.{IsPiece}
 use Rattle.requests.proofs.file.read_bytes.Given as goal
@@ -8,6 +8,8 @@ abbrev pub invariant-loop-chunk : goal.invariant-loop-chunk
 invariant-loop-chunk g l = record {
   grows : OnlyGrow (g.L.Logs.folder l.initial.logs) (g.L.Logs.folder l.logs);
   piece : IsPiece (g.L.Logs.folder l.logs) l.name 0 l.cut l.bytes;
+  given : g.L.Logs.given l.logs ≡ g.L.Logs.given l.initial.logs + length l.bytes;
+  within : length l.bytes ≤ l.cut;
   later : g.L.Logs.faults l.initial.logs ≤ g.L.Logs.faults l.logs;
   chunk : length l.chunk ≡ 4096;
 }

@@ -1,0 +1,54 @@
+-- How many bytes of files a run reads.
+use Rattle.std.specs.Prelude.{◌≡◌, ◌⊎◌, ℕ, List, [], ◌∷◌, ◌++◌, Option, Some, None}
+use Rattle.grammar.specs.Trees as model
+use Rattle.lp_model.specs.Outside.{Folder}
+use Rattle.command_words.specs.declared.formats.OutputFormat.{OutputFormat}
+use Rattle.command_words.specs.declared.formats.OutputFormat.TheVariants as O
+use Rattle.command_words.specs.declared.spec.Spec.{Spec}
+use Rattle.command_words.specs.Words.{query_in}
+use Rattle.execution.specs.Texts.{output_of}
+use Rattle.log_listing.specs.Listed.{Lists}
+use Rattle.requests.specs.Given.{ReadsOnce, file_names, query_files}
+use Rattle.requests.specs.Requests.{Asks}
+use Rattle.logparser_cli.specs.Logs.{from_names}
+
+-- the file of the template, where the output is by one
+abbrev pub template_for : OutputFormat → Option (List ℕ) → List (List ℕ)
+template_for O.Nat name = []
+template_for O.Csv name = []
+template_for O.Tsv name = []
+template_for O.W3c name = []
+template_for O.Tpl name = file_names name
+
+abbrev pub template_files : Spec → model.Query → List (List ℕ)
+template_files spec q = template_for (output_of spec q) spec.tpl
+
+-- these are the logs of the FROM names, or none
+abbrev pub AreRead : Option Folder → model.Query → List (List ℕ) → Type 0
+AreRead now q logs = (logs ≡ []) ⊎ Lists now (from_names q) logs
+
+-- no more is read than the logs of a query, each once
+pub record ReadsLogs (now : Option Folder) (q : model.Query) (before later : ℕ) : Type 0 where
+  pub logs : List (List ℕ)
+  pub are_read : AreRead now q logs
+  pub once : ReadsOnce now logs before later
+
+-- no more is read than its template and its logs
+pub record ReadsQuery (now : Option Folder) (spec : Spec) (q : model.Query) (before later : ℕ) : Type 0 where
+  pub logs : List (List ℕ)
+  pub are_read : AreRead now q logs
+  pub once : ReadsOnce now (template_files spec q ++ logs) before later
+
+-- the words ask for a query, and no more is read than its file, its template and its logs
+pub record ReadsAsked (old now : Option Folder) (words : List (List ℕ)) (before later : ℕ) : Type 0 where
+  pub spec : Spec
+  pub q : model.Query
+  pub asks : Asks old now words spec q
+  pub logs : List (List ℕ)
+  pub are_read : AreRead now q logs
+  pub once : ReadsOnce now (query_files (query_in words) ++ (template_files spec q ++ logs)) before later
+
+-- A run of words reads no more than the query's file, the template and the logs, each once; before the words ask for a query it
+-- reads no more than the query's file.
+abbrev pub ReadsWords : Option Folder → Option Folder → List (List ℕ) → ℕ → ℕ → Type 0
+ReadsWords old now words before later = ReadsOnce now (query_files (query_in words)) before later ⊎ ReadsAsked old now words before later
