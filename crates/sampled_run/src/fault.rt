@@ -1,12 +1,15 @@
 // Why a run over sampled columns stops.
 use lp_outside::Name;
 use query_types::TypeFault;
+use row_output::Refused;
 
 /// Why a run over sampled columns stops.
 #[derive(Drop)]
 pub enum SampleFault {
     /// The query doesn't fit the columns of the logs.
     Plan(TypeFault),
+    /// An output of a row is refused.
+    Refused(Refused),
     /// A bad line is one too many: the log's identity, and the line's number.
     Bad { log: Name, row: u64 },
     /// A call of the logs failed.
