@@ -1,12 +1,12 @@
-mod Answering
-mod Arguments
+pub mod Answering
+pub mod Arguments
 mod Existing
 pub mod Forms
-mod Lists
-mod Meant
+pub mod Lists
+pub mod MeantSteps
 mod Placing
-mod Parts
-mod Spellings
-mod Steps
+pub mod Parts
+pub mod Spellings
+pub mod Steps
 mod Using
 mod Whole

@@ -16,6 +16,13 @@ aggregates = codes "COUNT" ∷ codes "SUM" ∷ codes "AVG" ∷ codes "MIN" ∷ c
 abbrev pub is_aggregate : List ℕ → Bool
 is_aggregate name = list_any (str_eq_ignore_ascii_case name) aggregates
 
+-- the aggregates of an argument
+abbrev pub totals : List (List ℕ)
+totals = codes "COUNT" ∷ codes "SUM" ∷ codes "AVG" ∷ codes "MIN" ∷ codes "MAX" ∷ []
+
+abbrev pub is_total : List ℕ → Bool
+is_total name = list_any (str_eq_ignore_ascii_case name) totals
+
 abbrev pub function_or_unknown : Option Function → Callee
 function_or_unknown (Some function) = C.Function function
 function_or_unknown None = C.Unknown

@@ -1,5 +1,5 @@
 -- What words and expressions mean over a table, and of which kind they are.
-use Rattle.std.specs.Prelude.{◌≡◌, ℕ, zero, suc, ℤ, Bool, true, false, ◌||◌, List, [], ◌∷◌, ◌++◌, map, if◌then◌else◌, Option, Some, None, Result, Ok, Err, ⊤}
+use Rattle.std.specs.Prelude.{◌≡◌, ◌==◌, ℕ, zero, suc, ℤ, Bool, true, false, ◌||◌, List, [], ◌∷◌, ◌++◌, map, if◌then◌else◌, Option, Some, None, Result, Ok, Err, ⊤}
 use Rattle.std.specs.List.{find, position, slice_get}
 use Rattle.std.specs.Str.{str_eq_ignore_ascii_case}
 use Rattle.grammar.specs.Trees.{Tree, Trees, no_trees, more_trees, Whens, no_whens, more_whens, Otherwise, no_else, an_else, Placed, place_of, text_in}
@@ -41,6 +41,9 @@ Answers view (Err (F.WrongArity at)) wanted = wanted ≡ Err (F.WrongArity at)
 Answers view (Err (F.TooFewColumns at)) wanted = wanted ≡ Err (F.TooFewColumns at)
 Answers view (Err (F.BadPattern at)) wanted = wanted ≡ Err (F.BadPattern at)
 Answers view (Err (F.NotInSelect at)) wanted = wanted ≡ Err (F.NotInSelect at)
+Answers view (Err (F.NotGrouped at)) wanted = wanted ≡ Err (F.NotGrouped at)
+Answers view (Err (F.NestedAggregate at)) wanted = wanted ≡ Err (F.NestedAggregate at)
+Answers view (Err (F.StarWithGroups at)) wanted = wanted ≡ Err (F.StarWithGroups at)
 
 -- what follows where there is no fault yet
 abbrev pub followed : {A B : Type 0} → Result A TypeFault → (A → Result B TypeFault) → Result B TypeFault
@@ -103,9 +106,10 @@ word_means table aliases at name = column_means (column_named table.columns name
 abbrev pub where_it_is : {A : Type 0} → Bool → TypeFault → A → Result A TypeFault
 where_it_is is fault a = if is then Ok a else Err fault
 
--- what stands before parentheses, where it is known and takes so many arguments
+-- what stands before parentheses, where it is known and takes so many arguments; of a record there is no aggregate and no GROUPING
 abbrev pub known : ℕ → ℕ → Callee → Result Callee TypeFault
 known at many C.Unknown = Err (F.UnknownFunction at)
+known at many C.Aggregate = if many == 1 then Err (F.NotGrouped at) else Err (F.WrongArity at)
 known at many found = where_it_is (has_arity found many) (F.WrongArity at) found
 
 abbrev pub count_trees : Trees → ℕ
@@ -162,7 +166,7 @@ moment_as Time value = to_time value
 abbrev pub said : Value → List Term → Term
 said value texts = made (kind_of value) (stated value) (terms_of texts)
 
--- a call with arguments that mean this; aggregates aren't built yet
+-- a call with arguments that mean this; of aggregates none is known here
 abbrev pub call_means : List NamedKind → Value → ℕ → Callee → Trees → List Term → Result Term TypeFault
 call_means columns moment at (C.Function function) es terms = function_means columns at function es terms
 call_means columns moment at (C.Now part) es terms = Ok (said (moment_as part moment) [])

@@ -18,11 +18,12 @@ use std::alloc::{AllocError, Global};
 use std::rc::Rc;
 
 /// What stands before parentheses, where it is known and takes so many arguments.
-pub(crate) fn known(at: u32, many: usize, found: Callee) -> Result<Callee, TypeFault>
+pub fn known(at: u32, many: usize, found: Callee) -> Result<Callee, TypeFault>
     ensures { Answers (λ callee. callee) result (known at many found) }
 {
     match found {
         Callee::Unknown => Err(TypeFault::UnknownFunction { at }),
+        Callee::Aggregate if many == 1 => Err(TypeFault::NotGrouped { at }),
         found if found.has_arity(many) => Ok(found),
         _ => Err(TypeFault::WrongArity { at }),
     }
@@ -105,7 +106,7 @@ fn function_means(
 }
 
 /// A call with arguments that mean this.
-pub(crate) fn call_means(
+pub fn call_means(
     alloc: Global,
     table: &TableColumns,
     moment: &Value,

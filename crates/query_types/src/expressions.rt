@@ -20,8 +20,8 @@ use lp_values::{Kind, Text, Value};
 use query_tree::{Expr, ExprList, WhenList};
 use std::alloc::{AllocError, Global};
 
-// What a word means: a column, an alias, or a column that the table doesn't list.
-fn word_means(
+/// What a word means: a column, an alias, or a column that the table doesn't list.
+pub fn word_means(
     alloc: Global,
     table: &TableColumns,
     aliases: &[Alias],
@@ -40,8 +40,8 @@ fn word_means(
     }
 }
 
-// A CASE of its subject and of what stands behind it.
-fn case_means(
+/// A CASE of its subject and of what stands behind it.
+pub fn case_means(
     alloc: Global,
     table: &TableColumns,
     subject: Meaning,
@@ -57,8 +57,8 @@ fn case_means(
     Ok(Meaning::new(made(kind, Operation::Case, all)))
 }
 
-// A CASE whose ELSE means this, where its kind agrees.
-fn case_ended(
+/// A CASE whose ELSE means this, where its kind agrees.
+pub fn case_ended(
     alloc: Global,
     table: &TableColumns,
     subject: Meaning,

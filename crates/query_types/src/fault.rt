@@ -21,6 +21,13 @@ pub enum TypeFault {
     BadPattern { at: u32 },
     /// An expression of ORDER BY that is none of SELECT's.
     NotInSelect { at: u32 },
+    /// In a query with groups a field outside aggregates that no key has, or GROUPING of what is no key, or at its word where it may not
+    /// stand; HAVING without groups, at its first word.
+    NotGrouped { at: u32 },
+    /// An aggregate within another, or in USING, WHERE or GROUP BY.
+    NestedAggregate { at: u32 },
+    /// `*` in a query with groups.
+    StarWithGroups { at: u32 },
     /// There was no memory.
     Memory,
 }

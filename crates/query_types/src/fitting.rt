@@ -34,7 +34,7 @@ fn agree(left: Kind, right: Kind) -> bool
 }
 
 /// Of two kinds that agree the one that isn't Any.
-pub(crate) fn sharper(kind: Kind, other: Kind) -> Kind
+pub fn sharper(kind: Kind, other: Kind) -> Kind
     ensures { result ≡ sharper kind other }
 {
     match kind {
@@ -44,7 +44,7 @@ pub(crate) fn sharper(kind: Kind, other: Kind) -> Kind
 }
 
 /// A right side at this place, whose kind has to fit.
-pub(crate) fn if_fits(
+pub fn if_fits(
     table: &TableColumns,
     kind: Kind,
     at: u32,
@@ -60,7 +60,7 @@ pub(crate) fn if_fits(
 }
 
 /// A value of a CASE at this place, whose kind has to agree.
-pub(crate) fn if_agrees(
+pub fn if_agrees(
     table: &TableColumns,
     kind: Kind,
     at: u32,

@@ -37,7 +37,7 @@ pub(crate) fn kinds_of_forms(
 }
 
 /// The kind of a CASE from what stands behind its subject.
-pub(crate) fn case_kind(table: &TableColumns, parts: &[Form]) -> Kind
+pub fn case_kind(table: &TableColumns, parts: &[Form]) -> Kind
     ensures { result ≡ case_kind table.now.columns Any (map term_of parts.now) }
 {
     let mut kind = Kind::Any;

@@ -109,8 +109,8 @@ pub(crate) fn is_same(form: &Form, other: &Form) -> bool
     }
 }
 
-// What the expressions of ORDER BY mean.
-fn order_meant(
+/// What the expressions of ORDER BY mean.
+pub fn order_meant(
     alloc: Global,
     table: &TableColumns,
     moment: &Value,
@@ -134,8 +134,8 @@ fn first_equal(items: &MeaningList, meaning: &Meaning) -> Option<usize>
     items.as_slice().iter().position(|item| meaning.is(item))
 }
 
-// The same, or the fault that there is none.
-fn place_among(items: &MeaningList, meaning: &Meaning, at: u32) -> Result<usize, TypeFault>
+/// The same, or the fault that there is none.
+pub fn place_among(items: &MeaningList, meaning: &Meaning, at: u32) -> Result<usize, TypeFault>
     ensures { Answers (λ place. place) result (place_among items.now meaning.now at) }
 {
     match first_equal(items, meaning) {

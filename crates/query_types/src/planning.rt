@@ -20,8 +20,8 @@ use lp_values::{TextList, Value};
 use query_tree::{Cond, Placed, Query};
 use std::alloc::{AllocError, Global};
 
-// What WHERE means.
-fn where_meant(
+/// What WHERE means.
+pub fn where_meant(
     alloc: Global,
     table: &TableColumns,
     moment: &Value,
@@ -39,8 +39,8 @@ fn where_meant(
     }
 }
 
-// Whether an INTO name has a star for each output column, or more.
-fn has_too_few(columns: usize, into: &Placed) -> bool
+/// Whether an INTO name has a star for each output column, or more.
+pub fn has_too_few(columns: usize, into: &Placed) -> bool
     ensures { result ≡ has_too_few columns (Some (placed_of into.now)) }
 {
     let stars = into
@@ -53,8 +53,8 @@ fn has_too_few(columns: usize, into: &Placed) -> bool
     columns <= stars
 }
 
-// The kinds of output columns.
-fn kinds_of(
+/// The kinds of output columns.
+pub fn kinds_of(
     alloc: Global,
     table: &TableColumns,
     items: &MeaningList,
@@ -118,8 +118,8 @@ fn filter_and_order(
     Ok((condition, order))
 }
 
-// The plan of what was found.
-fn planned(
+/// The plan of what was found.
+pub fn planned(
     alloc: Global,
     table: &TableColumns,
     names: TextList,

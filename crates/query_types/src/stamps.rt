@@ -73,7 +73,7 @@ fn stamp_read(
 }
 
 /// TIMESTAMP.
-pub(crate) fn stamp_means(
+pub fn stamp_means(
     alloc: Global,
     value: &Placed,
     pattern: &Placed,
@@ -85,7 +85,7 @@ pub(crate) fn stamp_means(
 }
 
 /// The moment of a run as a stamp; NULL outside the years of stamps.
-pub(crate) fn moment_value(moment: i64) -> Value
+pub fn moment_value(moment: i64) -> Value
     ensures { result ≡ stamp_value Both moment }
 {
     match Stamp::new(moment, Part::Both) {

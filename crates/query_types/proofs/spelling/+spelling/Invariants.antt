@@ -9,7 +9,7 @@ use Rattle.query_types.proofs.spelling.+spelling.Given as goal
 
 abbrev pub invariant-spell_call-loop-argument : goal.invariant-spell_call-loop-argument
 invariant-spell_call-loop-argument l = record {
-  text : l.initial.to ++ all_spelled l.table l.aliases [] (listed (map tree_of l.argument-items)) ≡ l.to ++ all_spelled l.table l.aliases l.separator (listed (map tree_of (drop l.argument-index l.argument-items)));
+  text : l.initial.to ++ all_spelled l.table l.aliases l.initial.separator (listed (map tree_of l.argument-items)) ≡ l.to ++ all_spelled l.table l.aliases l.separator (listed (map tree_of (drop l.argument-index l.argument-items)));
   utf8 : shadow (Utf8 l.separator);
 }
 

@@ -1,0 +1,4 @@
+mod TypedSteps
+mod Told
+mod TotalSteps
+mod PlanSteps

@@ -1,0 +1,9 @@
+pub mod Asks
+pub mod Modes
+pub mod Typed
+pub mod Tests
+pub mod Lists
+pub mod Collected
+pub mod Totals
+pub mod Grouped
+pub mod Ready
