@@ -1,20 +1,16 @@
 -- What has no column is the same in each row, so it can be worked out once.
-use Rattle.std.proofs.Common.{◌≡◌, ◌∙◌, ◌<◌, ◌+◌, ◌||◌, ◌&&◌, ℕ, Bool, true, false, cond, List, [], ◌∷◌, length, drop, get_or, map, Option, Some, None, option_map, refl, sym, ap, ap₂, Vec}
+use Rattle.std.proofs.Common.{◌≡◌, ◌∙◌, ◌||◌, ◌&&◌, ℕ, Bool, true, false, not, cond, List, [], ◌∷◌, map, Option, Some, None, Result, Ok, Err, IfOk, option_map, refl, sym, ap, ap₂}
 use Rattle.std.specs.List.{list_all}
-use Rattle.std.specs.declared.alloc.Global.{Global}
 use Rattle.lp_values.specs.declared.comparison.Compare.TheVariants as how
 use Rattle.lp_values.specs.declared.kind.Kind.{Kind}
 use Rattle.lp_values.specs.declared.value.Value.{Value}
 use Rattle.lp_values.specs.Comparing.{compared as comparison, truth_of}
 use Rattle.lp_values.specs.Truths.{both as and_both, either as or_either, opposite as not_it}
 use Rattle.query_types.specs.declared.form.Form.{Form}
-use Rattle.query_types.specs.declared.form.Form.TheViews as shown
-use Rattle.query_types.specs.declared.form.Operation.{Operation}
-use Rattle.query_types.specs.Terms.{Maker, Term, column, constant, made, Terms, no_terms, more_terms, maker_of, term_of, terms_of}
+use Rattle.query_types.specs.Terms.{Maker, Term, column, constant, made, Terms, no_terms, more_terms, term_of, terms_of}
 use Rattle.query_types.specs.Conditions.{Filter, either, both, opposite, compared, null, like, between, within}
-use Rattle.query_types.proofs.Forms.{dropped, made_term}
 use Rattle.row_engine.specs.Rows.{among, is_null, is_yes, keeps, likeness, made_by, selected_in, truth_in, turned, value_in, values_in}
-use Rattle.row_engine.specs.Settled.{all_settled, any_varies, are_settled, is_settled, is_settled_test, is_settled_where, settled, settled_test, varies}
+use Rattle.row_engine.specs.Settled.{all_settled, any_varies, are_settled, is_constant, is_settled, is_settled_test, is_settled_where, settled, settled_test, varies}
 
 or_false : (a b : Bool) → (a || b) ≡ false → (a ≡ false) × (b ≡ false)
 or_false false b is = (refl, is)
@@ -128,27 +124,58 @@ pub where_done : (condition : Option Filter) → is_settled_where (option_map se
 where_done None = refl
 where_done (Some filter) = test_done filter
 
-pub varies_step : (forms : List Form) (i : ℕ) (form : Form) → i < length forms → form ≡ get_or forms i form
-    → any_varies (terms_of (map term_of (drop i forms))) ≡ (varies (term_of form) || any_varies (terms_of (map term_of (drop (i + 1) forms))))
-varies_step forms i form here is = ap (λ (l : List Form). any_varies (terms_of (map term_of l))) (dropped forms i form here is)
+constant_if : (kind : Kind) (by : Maker) (all : Terms) (value : Value) (b : Bool) → is_constant (cond b (made kind by all) (constant value)) ≡ not b
+constant_if kind by all value true = refl
+constant_if kind by all value false = refl
 
--- what has no column becomes a constant
-pub settled_fixed : (term : Term) → varies term ≡ false → settled term ≡ constant (value_in [] term)
-settled_fixed (column k) is = absurd cc
-settled_fixed (constant value) is = refl
-settled_fixed (made kind by of) is = ap (λ (b : Bool). cond b (made kind by (all_settled of)) (constant (made_by by (values_in [] of)))) is
+-- what is settled is a constant where it has no column
+constant_settled : (term : Term) → is_constant (settled term) ≡ not (varies term)
+constant_settled (column k) = refl
+constant_settled (constant value) = refl
+constant_settled (made kind by of) = constant_if kind by (all_settled of) (made_by by (values_in [] of)) (any_varies of)
+
+neither : (a b : Bool) → (not a && not b) ≡ not (a || b)
+neither true b = refl
+neither false b = refl
+
+constants_settled : (terms : List Term) → list_all is_constant (map settled terms) ≡ not (any_varies (terms_of terms))
+constants_settled [] = refl
+constants_settled (term ∷ terms) =
+    ap₂ (λ (a b : Bool). a && b) (constant_settled term) (constants_settled terms) ∙ neither (varies term) (any_varies (terms_of terms))
+
+pub constants_map : (forms : List Form) → list_all (λ form. is_constant (term_of form)) forms ≡ list_all is_constant (map term_of forms)
+constants_map [] = refl
+constants_map (form ∷ forms) = ap (λ (b : Bool). is_constant (term_of form) && b) (constants_map forms)
 
 all_settled_map : (terms : List Term) → all_settled (terms_of terms) ≡ terms_of (map settled terms)
 all_settled_map [] = refl
 all_settled_map (term ∷ terms) = ap (λ (l : Terms). more_terms (settled term) l) (all_settled_map terms)
 
-made_varying : (kind : Kind) (by : Maker) (of : Terms) → any_varies of ≡ true → settled (made kind by of) ≡ made kind by (all_settled of)
-made_varying kind by of is = ap (λ (b : Bool). cond b (made kind by (all_settled of)) (constant (made_by by (values_in [] of)))) is
+not_true : (b : Bool) → not b ≡ true → b ≡ false
+not_true false is = refl
+not_true true is = absurd cc
 
--- of what is made of forms with a column each part is settled
-pub settled_made : (kind : Kind) (by : Operation) (of : Vec Form Global) → varies (term_of (shown.Made kind by of)) ≡ true
-    → settled (term_of (shown.Made kind by of)) ≡ made kind (maker_of by) (terms_of (map settled (map term_of of.items)))
-settled_made kind by of is =
-    let parts = map term_of of.items in
-    let term = made_term kind by of in
-    ap settled term ∙ made_varying kind (maker_of by) (terms_of parts) (sym (ap varies term) ∙ is) ∙ ap (made kind (maker_of by)) (all_settled_map parts)
+not_false : (b : Bool) → not b ≡ false → b ≡ true
+not_false false is = absurd cc
+not_false true is = refl
+
+-- of constants alone what is made is one
+pub made_constant : (kind : Kind) (by : Maker) (of : List Term) → list_all is_constant (map settled of) ≡ true
+    → constant (value_in [] (made kind by (terms_of (map settled of)))) ≡ settled (made kind by (terms_of of))
+made_constant kind by of is =
+    let none : any_varies (terms_of of) ≡ false = not_true (any_varies (terms_of of)) (sym (constants_settled of) ∙ is) in
+    ap (λ (l : Terms). constant (made_by by (values_in [] l))) (sym (all_settled_map of))
+    ∙ ap (λ (vs : List Value). constant (made_by by vs)) (values_settled [] (terms_of of))
+    ∙ sym (ap (λ (b : Bool). cond b (made kind by (all_settled (terms_of of))) (constant (made_by by (values_in [] (terms_of of))))) none)
+
+-- of what has a column each part is settled
+pub made_varying : (kind : Kind) (by : Maker) (of : List Term) → list_all is_constant (map settled of) ≡ false
+    → made kind by (terms_of (map settled of)) ≡ settled (made kind by (terms_of of))
+made_varying kind by of is =
+    let some : any_varies (terms_of of) ≡ true = not_false (any_varies (terms_of of)) (sym (constants_settled of) ∙ is) in
+    ap (made kind by) (sym (all_settled_map of))
+    ∙ sym (ap (λ (b : Bool). cond b (made kind by (all_settled (terms_of of))) (constant (made_by by (values_in [] (terms_of of))))) some)
+
+pub if_ok_more : {A E : Type 0} (r : Result A E) (P Q : A → Type 0) → ((a : A) → P a → Q a) → IfOk r P → IfOk r Q
+if_ok_more (Ok a) P Q more is = more a is
+if_ok_more (Err e) P Q more is = tt

@@ -16,6 +16,11 @@ abbrev mutual
   any_varies no_terms = false
   any_varies (more_terms term terms) = varies term || any_varies terms
 
+abbrev pub is_constant : Term → Bool
+is_constant (column k) = false
+is_constant (constant value) = true
+is_constant (made kind by of) = false
+
 -- whether all that has no column is a constant
 abbrev mutual
   pub is_settled : Term → Bool

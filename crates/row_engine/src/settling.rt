@@ -6,31 +6,30 @@ ghost use Rattle.query_types.specs.Boxed.{boxed_filter};
 ghost use Rattle.query_types.specs.Conditions.{filter_of};
 ghost use Rattle.query_types.specs.Conditions.{Filter as filter};
 ghost use Rattle.query_types.specs.Terms.{maker_of, term_of, terms_of};
+ghost use Rattle.query_types.specs.Terms.{Term};
 ghost use Rattle.query_types.specs.Terms.{Term as term};
 ghost use Rattle.row_engine.specs.Rows.{keeps, selected_in, value_in};
-ghost use Rattle.row_engine.specs.Settled.{is_settled, is_settled_where, settled, settled_test, varies};
+ghost use Rattle.row_engine.specs.Settled.{is_settled, is_settled_where, is_constant, settled, settled_test};
 
 use crate::values::form_value;
 use lp_values::{Compare, Kind, ListOf, Text, Value, ValueList, copy_texts};
 use query_types::{Condition, Form, Meaning, MeaningList, Operation, Plan};
 use std::alloc::{AllocError, Global};
 
-// Whether a form has a column, so that rows may differ in it.
-fn varies(form: &Form) -> bool
-    ensures { result ≡ varies (term_of form.now) }
+fn is_constant(form: &Form) -> bool
+    ensures { result ≡ is_constant (term_of form.now) }
 {
     match form {
-        Form::Column(_) => true,
-        Form::Constant(_) => false,
-        Form::Made { kind: _, by: _, of } => {
-            for part in of {
-                if varies(part) {
-                    return true;
-                }
-            }
-            false
-        }
+        Form::Constant(_) => true,
+        Form::Column(_) | Form::Made { .. } => false,
     }
+}
+
+// Whether each of some forms is a constant.
+fn are_constant(forms: &[Form]) -> bool
+    ensures { result ≡ list_all (λ form. is_constant (term_of form)) forms.now }
+{
+    forms.iter().all(is_constant)
 }
 
 // What a form gives in each row.
@@ -49,6 +48,24 @@ fn made(kind: Kind, by: Operation, of: Vec<Form>) -> Form
     Form::Made { kind, by, of }
 }
 
+// What is made of settled parts, worked out where none of them has a column: then each is a constant.
+fn made_of_settled(
+    alloc: Global,
+    kind: Kind,
+    by: Operation,
+    parts: Vec<Form>,
+) -> Result<Form, AllocError>
+    ensures { IfOk result (λ now. (of : List Term) → map term_of parts.items ≡ map settled of → term_of now ≡ settled (term.made kind (maker_of by) (terms_of of))) }
+{
+    let is_constant = are_constant(parts.as_slice());
+    let now = made(kind, by, parts);
+    if is_constant {
+        constant_of(alloc, &now)
+    } else {
+        Ok(now)
+    }
+}
+
 // A form with what has no column in it worked out.
 fn settled_form(alloc: Global, form: &Form) -> Result<Form, AllocError>
     ensures { IfOk result (λ now. term_of now ≡ settled (term_of form.now)) }
@@ -57,15 +74,12 @@ fn settled_form(alloc: Global, form: &Form) -> Result<Form, AllocError>
         Form::Column(index) => Ok(Form::Column(*index)),
         Form::Constant(value) => Ok(Form::Constant(value.copy(alloc)?)),
         Form::Made { kind, by, of } => {
-            if !varies(form) {
-                return constant_of(alloc, form);
-            }
             let mut parts = Vec::with_capacity(alloc, of.len())?;
             for part in of {
                 parts.push(settled_form(alloc, part)?)?;
             }
             let by = by.copy(alloc)?;
-            Ok(made(*kind, by, parts))
+            made_of_settled(alloc, *kind, by, parts)
         }
     }
 }
