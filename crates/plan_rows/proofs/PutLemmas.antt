@@ -58,3 +58,21 @@ put_past columns i row old values here past size so_far =
         | inr other ↦ so_far.kept k (sym (among_other (take i columns) column k other) ∙ h)
       ];
     })
+
+-- a value that stands at its place already
+pub put_there : (columns : List ℕ) (i : ℕ) (row old values : List Value) → i < length columns → get_or values (get_or columns i 0) Null ≡ get_or row (get_or columns i 0) Null
+    → Put (take i columns) row old values → Put (take (i + 1) columns) row old values
+put_there columns i row old values here stands so_far =
+    let column = get_or columns i 0 in
+    let Of : List ℕ → Type 0 = λ cs. Put cs row old values in
+    subst Of (sym (take_more columns i 0 here)) (record {
+      size = so_far.size;
+      put = λ k h. elim (cases_eq column k) [
+        | inl there ↦ subst (λ (n : ℕ). get_or values n Null ≡ get_or row n Null) there stands
+        | inr other ↦ so_far.put k (sym (among_other (take i columns) column k other) ∙ h)
+      ];
+      kept = λ k h. elim (cases_eq column k) [
+        | inl there ↦ absurd (let yes = among_last (take i columns) column k there in cc)
+        | inr other ↦ so_far.kept k (sym (among_other (take i columns) column k other) ∙ h)
+      ];
+    })

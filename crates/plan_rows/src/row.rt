@@ -1,5 +1,5 @@
 // The row of a record, as far as it is read.
-ghost use Rattle.std.specs.Prelude.{◌≡◌, ◌<◌, ◌≤◌, ◌+◌, ◌^◌, ◌∷◌, length, get_or, pos, OnOk, IfOk};
+ghost use Rattle.std.specs.Prelude.{◌≡◌, ◌<◌, ◌≤◌, ◌+◌, ◌^◌, ◌∷◌, length, get_or, pos, OnOk, IfOk, IsTrue};
 ghost use Rattle.line_input.specs.Taken.{slots_of};
 ghost use Rattle.plan_rows.specs.Picks.{Put, fields_read};
 ghost use Rattle.lp_values.specs.declared.value.Value.TheVariants as V;
@@ -51,6 +51,19 @@ fn column_value(
     }
 }
 
+// Whether the log's name is asked for, and stands in its place from the record before.
+fn is_named(values: &ValueList, column: usize, identity: &Name) -> bool
+    ensures { IsTrue result → (column ≡ 0) × (get_or values.now 0 V.Null ≡ V.Text identity.now) }
+{
+    if column != 0 {
+        return false;
+    }
+    match values.get(0) {
+        Some(Value::Text(name)) => name.as_str() == identity.as_str(),
+        _ => false,
+    }
+}
+
 /// Makes room for the values of so many columns.
 pub fn make_room(values: &mut ValueList, columns: usize) -> Result<(), AllocError>
     ensures { OnOk result (length values.new ≡ columns) }
@@ -81,6 +94,9 @@ pub(crate) fn read_columns(
     ensures { OnOk result (Put columns.now (V.Text identity.now ∷ V.Int (pos number) ∷ fields_read readings.now (slots_of line.now fields.now) 0) values.old values.new) }
 {
     for column in columns.as_slice() {
+        if is_named(values, *column, identity) {
+            continue;
+        }
         if *column < values.len() {
             let value = column_value(alloc, readings, identity, number, line, fields, *column)?;
             values.set(*column, value);

@@ -1,5 +1,5 @@
 // The output row of a row.
-ghost use Rattle.std.specs.Prelude.{◌≡◌, ◌&&◌, ℕ, false, get_or, slice_index_or, IfOk, OnOk};
+ghost use Rattle.std.specs.Prelude.{◌≡◌, ◌&&◌, ℕ, false, length, get_or, slice_index_or, IfOk, OnOk};
 ghost use Rattle.lp_values.specs.declared.value.Value.TheVariants.{Null};
 ghost use Rattle.query_types.specs.Terms.{any_has_column, has_column};
 ghost use Rattle.row_engine.specs.Rows.{selected_in, value_in};
@@ -50,25 +50,41 @@ fn is_last(uses: &LastUses, at: usize) -> bool
     uses.get(at).copied().unwrap_or(false)
 }
 
-// A meaning's value in a row; a column that is used for the last time is moved out.
+// A meaning's value in a row; a column that is used for the last time is moved out, and `old` stands in its place.
 fn taken(
     alloc: Global,
     row: &mut ValueList,
     meaning: &Meaning,
     is_last: bool,
+    old: Value,
 ) -> Result<Value, AllocError>
     ensures value { IfOk result (λ value. value ≡ value_in row.old meaning.now) }
     ensures others { (k : ℕ) → (is_last && has_column k meaning.now) ≡ false → get_or row.new k Null ≡ get_or row.old k Null }
 {
     match meaning.form() {
         Form::Column(index) if is_last && *index < row.len() => {
-            Ok(row.replace(*index, Value::Null))
+            Ok(row.replace(*index, old))
         }
         _ => copied(alloc, row, meaning),
     }
 }
 
-/// Puts the values of the output columns into `to`, in place of what it holds. What is used for the last time is moved out of the row.
+// Makes a row of so many values, if it isn't one.
+fn make_room(row: &mut ValueList, many: usize) -> Result<(), AllocError>
+    ensures { OnOk result (length row.new ≡ many) }
+{
+    if row.len() == many {
+        return Ok(());
+    }
+    row.clear();
+    while row.len() < many {
+        row.push(Value::Null)?;
+    }
+    Ok(())
+}
+
+/// Puts the values of the output columns into `to`, in place of what it holds. What is used for the last time changes places with
+/// that, so the log's name stands in the row for the next record.
 pub fn select_row(
     alloc: Global,
     plan: &Plan,
@@ -79,11 +95,12 @@ pub fn select_row(
     requires { uses.now ≡ last_uses plan.now.items }
     ensures { OnOk result (to.new ≡ selected_in row.old plan.now.items) }
 {
-    to.clear();
+    make_room(to, plan.items.len())?;
     let mut at = 0;
     for item in plan.items.as_slice() {
-        let value = taken(alloc, row, item, is_last(uses, at))?;
-        to.push(value)?;
+        let old = to.replace(at, Value::Null);
+        let value = taken(alloc, row, item, is_last(uses, at), old)?;
+        to.set(at, value);
         at += 1;
     }
     Ok(())

@@ -1,4 +1,4 @@
-use Rattle.std.proofs.Common.{◌≡◌, take, drop}
+use Rattle.std.proofs.Common.{◌≡◌, length, take, drop}
 use Rattle.row_engine.specs.Rows.{selected_in}
 use Rattle.row_engine.proofs.Uses.{Left}
 use Rattle.row_engine.proofs.selecting.select_row.Given as goal
@@ -7,6 +7,7 @@ use Rattle.row_engine.proofs.selecting.select_row.Given as goal
 abbrev pub invariant-loop-item : goal.invariant-loop-item
 invariant-loop-item l = record {
   at : l.at ≡ l.item-index;
-  taken : l.to ≡ selected_in l.initial.row (take l.item-index l.item-items);
+  size : length l.to ≡ length l.item-items;
+  taken : take l.at l.to ≡ selected_in l.initial.row (take l.item-index l.item-items);
   left : Left l.row l.initial.row (drop l.item-index l.item-items);
 }
