@@ -8,3 +8,4 @@ mod Beginnings
 mod Records
 mod Noted
 pub mod Taken
+mod SameNames

@@ -23,7 +23,7 @@ pub fn is_first(log: &Option<Name>, identity: &Name) -> bool
 }
 
 // The first column that has a name.
-fn place_of(columns: &Columns, name: &str) -> Option<usize>
+pub(crate) fn place_of(columns: &Columns, name: &str) -> Option<usize>
     ensures { result ≡ position (λ column. is_same_name column name.now) columns.now }
 {
     columns
@@ -33,7 +33,7 @@ fn place_of(columns: &Columns, name: &str) -> Option<usize>
 }
 
 // The first of a record's own columns that has a name.
-fn own_place(own: &Option<Columns>, name: &str) -> Option<usize>
+pub(crate) fn own_place(own: &Option<Columns>, name: &str) -> Option<usize>
     ensures { result ≡ own_place own.now name.now }
 {
     match own {

@@ -7,6 +7,7 @@
 #![tactic(auto)]
 
 mod beginning;
+mod binding;
 mod ending;
 mod fields;
 mod gathering;
@@ -20,6 +21,7 @@ mod phase;
 mod taking;
 mod turning;
 
+pub use binding::{Binding, place_by};
 pub use fields::{field_in, is_first, place_for};
 pub use judging::{Judged, judge, table_of};
 pub use kept::{FirstLog, KeptRow, KeptRows};

@@ -1,11 +1,11 @@
 // A plan over sampled columns as a picker.
-ghost use Rattle.std.specs.Prelude.{◌≡◌, ◌+◌, ◌≤◌, length, option_map, IfOk};
+ghost use Rattle.std.specs.Prelude.{◌≡◌, ◌+◌, ◌≤◌, length, option_map, IfOk, IfSome, Some};
 ghost use Rattle.query_types.specs.Conditions.{filter_of};
 ghost use Rattle.query_types.specs.Planned.{Covers};
 ghost use Rattle.sampled_table.specs.Picks.{sampled_picks};
 
 use crate::row::read_columns;
-use column_kinds::Judged;
+use column_kinds::{Binding, Judged, is_first};
 use line_input::{Columns, Fields};
 use lp_outside::Name;
 use lp_time::Pattern;
@@ -14,6 +14,7 @@ use plan_rows::{ReadyPlan, make_room};
 use query_run::Picker;
 use query_types::Plan;
 use std::alloc::{AllocError, Global};
+use std::cell::Cell;
 
 /// Makes of each record the output row of a plan over a run's columns.
 #[derive(Drop)]
@@ -21,6 +22,8 @@ pub struct SampledPicker<'a> {
     pub ready: ReadyPlan,
     pub pattern: &'a Pattern,
     pub told: Judged,
+    // Where the columns of the log of the record before stand, unless that is the first log: they are looked up once for a log.
+    binding: Cell<Option<Binding>>,
     ghost fits: { length told.columns + 2 ≤ length ready.plan.used },
 }
 
@@ -43,7 +46,38 @@ impl<'a> SampledPicker<'a> {
             ready,
             pattern,
             told,
+            binding: Cell::new(None),
         })
+    }
+
+    // The binding to a record's own columns, unless it is of the first log or has none.
+    fn bind(
+        &self,
+        alloc: Global,
+        identity: &Name,
+        own: &Option<Columns>,
+    ) -> Result<Option<Binding>, AllocError>
+        ensures { IfOk result (λ binding. IfSome binding (λ columns. own.now ≡ Some columns)) }
+    {
+        let Some(columns) = own else {
+            return Ok(None);
+        };
+        if is_first(&self.told.log, identity) {
+            return Ok(None);
+        }
+        if let Some(binding) = self.binding.replace(None) {
+            if binding.is_to(columns) {
+                return Ok(Some(binding));
+            }
+        }
+        Ok(Some(Binding::new(alloc, &self.told.columns, columns)?))
+    }
+
+    // Keeps a binding for the next record.
+    fn keep(&self, binding: Option<Binding>) {
+        if binding.is_some() {
+            self.binding.set(binding);
+        }
     }
 }
 
@@ -62,6 +96,7 @@ impl<'a> Picker for SampledPicker<'a> {
         row: &mut ValueList,
     ) -> Result<bool, AllocError> {
         make_room(values, self.ready.plan.used.len())?;
+        let binding = self.bind(alloc, identity, columns)?;
         read_columns(
             alloc,
             &self.ready.columns.asked,
@@ -70,12 +105,14 @@ impl<'a> Picker for SampledPicker<'a> {
             identity,
             number,
             columns,
+            &binding,
             line,
             fields,
             values,
         )?;
         let is_kept = self.ready.keeps(alloc, values)?;
         if !is_kept {
+            self.keep(binding);
             return Ok(false);
         }
         read_columns(
@@ -86,11 +123,13 @@ impl<'a> Picker for SampledPicker<'a> {
             identity,
             number,
             columns,
+            &binding,
             line,
             fields,
             values,
         )?;
         self.ready.select(alloc, values, row)?;
+        self.keep(binding);
         Ok(true)
     }
 }

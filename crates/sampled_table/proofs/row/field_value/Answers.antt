@@ -20,7 +20,7 @@ returns c =
     let index = c.args.index in
     let column = c.in-Some.column.now in
     let sum : index ≡ 0 + index = omega arith in
-    let place = c.place_for-place.ensures ∙ ap (λ (name : List ℕ). place_for c.args.is_of_first own index name) c.as_str.ensures in
+    let place = c.place_by-place.ensures ∙ ap (λ (name : List ℕ). place_for c.args.is_of_first own index name) c.as_str.ensures in
     let there = ap (field_value column.kind pattern) (c.field_in.ensures ∙ ap (field_in slots) place)
     ∙ (ap (λ n. value_in_column pattern c.args.is_of_first own slots n column) sum
     ∙ sym (indexed_at (value_in_column pattern c.args.is_of_first own slots) columns 0 index column (sym c.in-Some.ensures))) in
