@@ -1,9 +1,11 @@
 //! The tests of the command over objects in memory.
 //!
-//! What no case of the program can show: logs, outputs and messages that fail at each call, and clocks of other years.
+//! What no case of the program can show: logs, disks, outputs and messages that fail at each call, and clocks of other years.
 //! They stand here, so that no crate with proofs is proved once more with its tests.
 #![tactic(auto)]
 
+#[cfg(test)]
+mod files;
 #[cfg(test)]
 mod messages;
 #[cfg(test)]
