@@ -1,5 +1,5 @@
 -- From the groups that were gathered to the outputs.
-use Rattle.std.proofs.Common.{◌≡◌, ℕ, Bool, List, [], ◌++◌, Option, ◌∙◌, ap, subst}
+use Rattle.std.proofs.Common.{◌≡◌, ℕ, Bool, List, [], Option, ◌∙◌, ap, subst}
 use Rattle.std.proofs.lemmas.List.{append-nil}
 use Rattle.lp_values.specs.declared.value.Value.{Value}
 use Rattle.lp_values.specs.declared.group.AggKind.{AggKind}
@@ -23,7 +23,6 @@ use Rattle.row_output.specs.Rows.{IsRefused, Stops}
 use Rattle.row_output.proofs.Stopping.{rows_stop}
 use Rattle.row_output.specs.declared.fault.OutputFault.{OutputFault}
 use Rattle.row_output.specs.declared.fault.OutputFault.TheVariants as O
-use Rattle.row_output.specs.declared.fault.Refused.{Refused}
 use Rattle.row_output.specs.declared.kept.RowOutput.{RowOutput}
 use Rattle.row_steps.specs.Grouped.{records_of, group_output, grouped_output}
 use Rattle.query_run.proofs.WholeRun.{told_map}

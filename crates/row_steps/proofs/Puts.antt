@@ -1,7 +1,6 @@
 -- Rows that are put one after the other.
-use Rattle.std.proofs.Common.{◌≡◌, List, [], ◌∷◌, ◌++◌, Result, Ok, Err, OnErr, IfErr, ap, sym, ◌∙◌, refl, subst, append_assoc}
+use Rattle.std.proofs.Common.{◌≡◌, [], ◌++◌, Result, Ok, Err, OnErr, IfErr, ap, sym, ◌∙◌, refl, subst, append_assoc}
 use Rattle.std.proofs.lemmas.List.{append-nil}
-use Rattle.lp_values.specs.declared.value.Value.{Value}
 use Rattle.text_output.specs.Output.{StageKind}
 use Rattle.row_output.specs.Asked.{Asked}
 use Rattle.row_output.specs.FileRows.{OnRefused}
@@ -10,7 +9,6 @@ use Rattle.row_output.specs.Rows.{IsRefused, Stops}
 use Rattle.row_output.proofs.Stopping.{rows_stop}
 use Rattle.row_output.specs.declared.fault.OutputFault.{OutputFault}
 use Rattle.row_output.specs.declared.fault.OutputFault.TheVariants as O
-use Rattle.row_output.specs.declared.fault.Refused.{Refused}
 use Rattle.row_output.specs.declared.kept.RowOutput.{RowOutput}
 use Rattle.row_steps.specs.Rows.{Rows, PutsRows, StopsBy}
 

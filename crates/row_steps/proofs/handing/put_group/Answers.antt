@@ -1,4 +1,4 @@
-use Rattle.std.proofs.Common.{List, [], ◌∷◌, OnOk, IfErr, sym, subst}
+use Rattle.std.proofs.Common.{[], ◌∷◌, OnOk, IfErr, sym, subst}
 use Rattle.std.proofs.lemmas.Result.{on_ok_weaker}
 use Rattle.text_output.specs.Output.{kind_of}
 use Rattle.row_steps.specs.Rows.{Rows, PutsRows, StopsBy}

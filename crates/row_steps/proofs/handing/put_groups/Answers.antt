@@ -65,10 +65,11 @@ returns-in_err-put_group-clause-stops g c =
     let none = c.no_group.result in
     let within : i < length all = omega (arith, c.len-index-end.ensures, so_far.size) in
     let is : group ≡ get_or all i none = taken_at now all i group none c.replace-group.ensures.result so_far.behind in
+    let fault : OutputFault = c.in_err-put_group.field-0.0 in
     let Of : Rows → OutputFault → Type 0 = λ rows fault. StopsBy kind rows first c.args.stage.now fault c.put_group.new.stage in
-    handed_on c.from_residual.result _ (Of (group_output plan all)) c.from_residual.ensures.1
-    (subst (λ (rows : Rows). Of rows _) (output_split plan all i group none within is)
-    (stops_later kind _ _ (group_output plan (drop (i + 1) all)) first c.loop-index.output c.args.stage.now c.loop-index.stage _ c.put_group.new.stage so_far.puts c.in_err-put_group.ensures.stops))
+    handed_on c.from_residual.result fault (Of (group_output plan all)) c.from_residual.ensures.1
+    (subst (λ (rows : Rows). Of rows fault) (output_split plan all i group none within is)
+    (stops_later kind _ _ (group_output plan (drop (i + 1) all)) first c.loop-index.output c.args.stage.now c.loop-index.stage fault c.put_group.new.stage so_far.puts c.in_err-put_group.ensures.stops))
 
 pub returns-clause-puts : goal.returns-clause-puts
 returns-clause-puts g c =

@@ -1,5 +1,5 @@
-use Rattle.std.proofs.Common.{◌≡◌, ℕ, List, [], length, Err, Option, None, ap, sym, ◌∙◌, subst}
-use Rattle.std.proofs.lemmas.Result.{IfOk-weaker, IfErr-weaker, on_err_weaker}
+use Rattle.std.proofs.Common.{◌≡◌, ℕ, List, [], length, Err, Option, None, ap, sym, ◌∙◌, subst, refl}
+use Rattle.std.proofs.lemmas.Result.{IfOk-weaker, IfErr-weaker, IfErr-at_err, on_err_weaker}
 use Rattle.lp_model.specs.Outside.{Folder, Told}
 use Rattle.lp_model.proofs.Growing.{OnlyGrow-refl}
 use Rattle.lp_model.proofs.Results.{on_err}
@@ -13,6 +13,7 @@ use Rattle.row_output.specs.Kept.{HasRows, asked_of}
 use Rattle.row_output.specs.Rows.{Holds, IsRefused, Stops}
 use Rattle.row_output.specs.declared.fault.Refused.{Refused}
 use Rattle.query_run.specs.Faults.{OnBad, OnRefusedOutput}
+use Rattle.query_run.specs.declared.fault.WriteFault.{WriteFault}
 use Rattle.query_run.specs.declared.fault.WriteFault.TheVariants as W
 use Rattle.query_run.proofs.Reasons.{bad_in, bad_so, logs_in, refused_in, refused_so}
 use Rattle.query_run.proofs.WholeRun.{told_all, told_map, rows_taken, bad_taken}
@@ -52,7 +53,10 @@ returns-in_err-page-clause-refused g c =
 
 pub returns-in_err-page-clause-too_many : goal.returns-in_err-page-clause-too_many
 returns-in_err-page-clause-too_many g c =
-    handed_on c.from_residual.result _ _ c.from_residual.ensures.1 (bad_so _ (λ line. ⊥) _ (λ line none. absurd none) c.in_err-page.ensures.good)
+    let format = g.R.LineReader.format c.args.reader.now in
+    let told = g.L.Logs.folder c.args.logs.now in
+    let Of : BadLine → Type 0 = λ line. Told told (λ folder. AreKept format c.args.waits c.args.spans.now folder → IsTooMany c.args.most_bad 0 (spans_bad_lines format c.args.waits folder c.args.spans.now) line) in
+    handed_on c.from_residual.result _ (OnBad Of) c.from_residual.ensures.1 (bad_so _ (λ line. ⊥) Of (λ line none. absurd none) c.in_err-page.ensures.good)
 
 pub returns-in_default-clause-stops : goal.returns-in_default-clause-stops
 returns-in_default-clause-stops g c =
@@ -63,8 +67,8 @@ returns-in_default-clause-stops g c =
     told_all _ (λ folder. AreKept format c.args.waits c.args.spans.now folder → Stops kind (asked_of c.args.output) c.args.stage.now (rows folder) c.open_page.new.stage)
     (λ folder kept. subst (λ asked. Stops kind asked c.args.stage.now (rows folder) c.open_page.new.stage) c.open_page.ensures.asked (rows_stop kind c.open_page.new.output c.args.stage.now [] (rows folder) c.open_page.new.stage c.in_ok-page.ensures.has))
 
-pub returns-in-Err-clause-stops : goal.returns-in-Err-clause-stops
-returns-in-Err-clause-stops g c =
+pub returns-clause-stops : goal.returns-clause-stops
+returns-clause-stops g c =
     let kind = kind_of g.G.Stage.state g.G.Stage.ended in
     let told = g.L.Logs.folder c.take_spans.new.logs in
     let asks = c.args.asks.now in
@@ -75,11 +79,17 @@ returns-in-Err-clause-stops g c =
     (subst (λ asked. Stops kind asked c.args.stage.now (rows folder) c.open_page.new.stage) c.open_page.ensures.asked (rows_stop kind c.open_page.new.output c.args.stage.now [] (rows folder) c.open_page.new.stage c.in_ok-page.ensures.has)))
     c.in-Err.ensures.stops
 
-pub returns-in-Err-clause-refused : goal.returns-in-Err-clause-refused
-returns-in-Err-clause-refused g c = subst (OnRefusedOutput _) (sym c.stopped_in.ensures) (refused_in c.in-Err.fault None _ tt)
+pub returns-clause-refused : goal.returns-clause-refused
+returns-clause-refused g c =
+    let told = g.L.Logs.folder c.take_spans.new.logs in
+    let asks = c.args.asks.now in
+    let format = g.R.LineReader.format c.args.reader.now in
+    let rows : Folder → List (List Value) = λ folder. grouped_output asks.keys asks.aggregates asks.rollup (g.P.Picker.picks c.args.picker) c.args.plan.plan (spans_found format c.args.waits folder c.args.spans.now) in
+    let Q : Refused → Type 0 = λ why. Told told (λ folder. AreKept format c.args.waits c.args.spans.now folder → IsRefused (asked_of c.args.output) (rows folder) why) in
+    subst (OnRefusedOutput Q) (sym c.stopped_in.ensures) (refused_in c.in-Err.fault None Q tt)
 
-pub returns-in-Err-clause-too_many : goal.returns-in-Err-clause-too_many
-returns-in-Err-clause-too_many g c =
+pub returns-clause-too_many : goal.returns-clause-too_many
+returns-clause-too_many g c =
     let page = c.in_ok-page.page in
     let format = g.R.LineReader.format c.args.reader.now in
     let told = g.L.Logs.folder c.take_spans.new.logs in
@@ -89,10 +99,13 @@ returns-in-Err-clause-too_many g c =
     (λ line s. subst (λ (most : Option ℕ). Of most 0 line) c.in_ok-page.ensures.most (subst (λ (bad : ℕ). Of page.most_bad bad line) c.in_ok-page.ensures.bad s))
     c.in-Err.ensures.too_many))
 
-pub returns-in-Err-clause-logs : goal.returns-in-Err-clause-logs
-returns-in-Err-clause-logs g c = λ e.
-    let is : c.stopped_in.result ≡ W.Logs = cc in
+pub returns-clause-logs : goal.returns-clause-logs
+returns-clause-logs g c = λ e.
+    let is : c.stopped_in.result ≡ W.Logs = IfErr-at_err (λ (f : WriteFault). c.stopped_in.result ≡ f) e refl in
     c.in-Err.ensures.logs (ap (λ f. Err f) (logs_in c.in-Err.fault None (sym c.stopped_in.ensures ∙ is)))
+
+pub returns-clause-goes : goal.returns-clause-goes
+returns-clause-goes g c = g.met.G.Stage.goes_on c.args.stage.now c.open_page.new.stage c.take_spans.new.out c.open_page.ensures.goes c.take_spans.ensures.goes
 
 pub returns-in-Ok-take_spans-clause-holds : goal.returns-in-Ok-take_spans-clause-holds
 returns-in-Ok-take_spans-clause-holds g c =
@@ -121,6 +134,9 @@ returns-in-Ok-take_spans-clause-stops g c =
     c.in_ok-page.page c.take_spans.new.page c.open_page.new.stage c.take_spans.new.out (λ s. HasRows kind c.open_page.new.output c.args.stage.now [] s) (λ asked out. Stops kind asked c.args.stage.now out c.end_page.new.stage) (asked_of c.open_page.new.output) (asked_of c.args.output) c.open_page.ensures.asked
     opened.groups opened.picker opened.plan c.in-Ok-take_spans.ensures.takes opened.has (stops c.args.stage.now)) c.end_page.ensures.stops
 
+pub returns-in-Ok-take_spans-clause-took : goal.returns-in-Ok-take_spans-clause-took
+returns-in-Ok-take_spans-clause-took g c = IfOk-weaker c.end_page.result _ _ (λ written same. c.in-Ok-take_spans.ensures.took) c.end_page.ensures.processed
+
 pub returns-in-Ok-take_spans-clause-refused : goal.returns-in-Ok-take_spans-clause-refused
 returns-in-Ok-take_spans-clause-refused g c =
     let kind = kind_of g.G.Stage.state g.G.Stage.ended in
@@ -131,7 +147,11 @@ returns-in-Ok-take_spans-clause-refused g c =
     opened.groups opened.picker opened.plan c.in-Ok-take_spans.ensures.takes opened.has (is c.args.stage.now)) refused) c.end_page.ensures.refused
 
 pub returns-in-Ok-take_spans-clause-too_many : goal.returns-in-Ok-take_spans-clause-too_many
-returns-in-Ok-take_spans-clause-too_many g c = IfErr-weaker c.end_page.result _ _ (λ fault good. bad_so fault (λ line. ⊥) _ (λ line none. absurd none) good) c.end_page.ensures.good
+returns-in-Ok-take_spans-clause-too_many g c =
+    let format = g.R.LineReader.format c.args.reader.now in
+    let told = g.L.Logs.folder c.take_spans.new.logs in
+    let Of : BadLine → Type 0 = λ line. Told told (λ folder. AreKept format c.args.waits c.args.spans.now folder → IsTooMany c.args.most_bad 0 (spans_bad_lines format c.args.waits folder c.args.spans.now) line) in
+    IfErr-weaker c.end_page.result _ _ (λ fault good. bad_so fault (λ line. ⊥) Of (λ line none. absurd none) good) c.end_page.ensures.good
 
 pub returns-in-Ok-take_spans-clause-processed : goal.returns-in-Ok-take_spans-clause-processed
 returns-in-Ok-take_spans-clause-processed g c =

@@ -1,10 +1,12 @@
-use Rattle.std.proofs.Common.{◌≡◌, [], ap, sym, ◌∙◌, subst, Err}
+use Rattle.std.proofs.Common.{◌≡◌, [], ap, sym, ◌∙◌, subst, refl, Err}
+use Rattle.std.proofs.lemmas.Result.{IfErr-at_err}
 use Rattle.text_output.specs.Output.{kind_of}
-use Rattle.row_output.specs.Kept.{HasRows, asked_of}
+use Rattle.row_output.specs.Kept.{asked_of}
 use Rattle.row_output.specs.Rows.{IsRefused}
 use Rattle.row_output.proofs.Stopping.{new_has, none_stops}
 use Rattle.row_output.specs.declared.fault.Refused.{Refused}
 use Rattle.query_run.specs.Faults.{OnBad, OnRefusedOutput}
+use Rattle.query_run.specs.declared.fault.WriteFault.{WriteFault}
 use Rattle.query_run.specs.declared.fault.WriteFault.TheVariants as W
 use Rattle.query_run.proofs.Reasons.{bad_end, logs_end, output_end, refused_end}
 use Rattle.row_steps.specs.Rows.{Rows}
@@ -32,10 +34,10 @@ returns-in-Err-clause-good g c = subst (OnBad (λ line. ⊥)) (sym c.ended_by.en
 
 pub returns-in-Err-clause-logs : goal.returns-in-Err-clause-logs
 returns-in-Err-clause-logs g c = λ e.
-    let is : c.ended_by.result ≡ W.Logs = cc in
+    let is : c.ended_by.result ≡ W.Logs = IfErr-at_err (λ (f : WriteFault). c.ended_by.result ≡ f) e refl in
     logs_end c.in-Err.fault (sym c.ended_by.ensures ∙ is)
 
 pub returns-in-Err-clause-sink : goal.returns-in-Err-clause-sink
 returns-in-Err-clause-sink g c = λ e.
-    let is : c.ended_by.result ≡ W.Output = cc in
+    let is : c.ended_by.result ≡ W.Output = IfErr-at_err (λ (f : WriteFault). c.ended_by.result ≡ f) e refl in
     c.in-Err.ensures.failed (ap (λ f. Err f) (output_end c.in-Err.fault (sym c.ended_by.ensures ∙ is)))
