@@ -1,14 +1,10 @@
 -- A taker that was made for the columns, and has taken what was kept.
-use Rattle.std.proofs.Common.{◌≡◌, ℕ, List, [], ◌∷◌, ◌++◌, map, Option, ap, ap₂, sym, ◌∙◌, subst, refl, inl, inr}
+use Rattle.std.proofs.Common.{◌≡◌, ℕ, List, [], ◌∷◌, map, ap, ap₂, sym, ◌∙◌, subst, refl, inl, inr}
 use Rattle.lp_time.specs.declared.piece.Piece.{Piece}
-use Rattle.log_reading.specs.Found.{Found, Met}
-use Rattle.log_reading.specs.declared.taker.TakeFault.{TakeFault}
-use Rattle.log_reading.specs.declared.taker.TakeFault.TheVariants as F
-use Rattle.query_types.specs.declared.fault.TypeFault.{TypeFault}
+use Rattle.log_reading.specs.Found.{Met}
 use Rattle.column_kinds.specs.declared.judging.Judged.{Judged}
 use Rattle.column_kinds.specs.declared.kept.KeptRow.{KeptRow}
 use Rattle.column_kinds.specs.declared.maker.Stop.{Stop}
-use Rattle.column_kinds.specs.declared.maker.Stop.TheVariants as S
 use Rattle.column_kinds.specs.declared.maker.Unmade.{Unmade}
 use Rattle.column_kinds.specs.declared.maker.Unmade.TheVariants as U
 use Rattle.column_kinds.specs.declared.phase.Gathering.{Gathering}
@@ -17,9 +13,9 @@ use Rattle.column_kinds.specs.declared.phase.Phase.TheVariants as P
 use Rattle.column_kinds.specs.Judged.{judged}
 use Rattle.column_kinds.specs.Kept.{found_in, met_in}
 use Rattle.column_kinds.specs.Laws.{IsTaker, rows_of-append, told_stays}
-use Rattle.column_kinds.specs.Makers.{OnRefused, stop_of, stop_unmade}
+use Rattle.column_kinds.specs.Makers.{OnRefused, stop_unmade}
 use Rattle.column_kinds.specs.Past.{Past, Later, IsTold}
-use Rattle.column_kinds.specs.Sampling.{SampleKind, Rules, Asks, Begun, Gathers, IsStop, IsWithin, PhaseHolds, PhaseStopped, TakesOn, rows_of, told_by}
+use Rattle.column_kinds.specs.Sampling.{SampleKind, Rules, Asks, Begun, Gathers, IsFront, IsStop, StopsAs, PhaseHolds, TakesOn, rows_of, told_by}
 
 pub rows_kept : (rows : List KeptRow) → map met_in rows ≡ rows_of (map found_in rows)
 rows_kept [] = refl
@@ -53,14 +49,13 @@ begun_is {O = O} kind limit pattern gathering made taker u v makes takes rules s
 -- it stopped within what was kept, whatever comes behind it
 pub begun_within : {M T O : Type 0} (kind : SampleKind M T O) (laws : IsTaker kind) (limit : ℕ) (pattern : List Piece) (gathering : Gathering M) (made last : T) (u v : O)
     → kind.makes gathering.maker (judged limit pattern gathering.first (map found_in gathering.rows)) made → kind.stops made u (map met_in gathering.rows) last v
-    → (rules : Rules M) (start : O) (past later : Past) → Asks limit pattern rules → Gathers rules start past gathering u → Later past later → told_by rules later ≡ told_by rules past → IsWithin kind rules start later v
+    → (rules : Rules M) (start : O) (past later : Past) → Asks limit pattern rules → Gathers rules start past gathering u → Later past later → told_by rules later ≡ told_by rules past → StopsAs kind rules start later last v
 begun_within {O = O} kind laws limit pattern gathering made last u v makes stops rules start past later asks gathers follows stays =
     let Of : O → List Met → Type 0 = λ out mets. kind.stops made out mets last v in
     let here : Of start (rows_of past.founds) = subst (λ (out : O). Of out (rows_of past.founds)) gathers.nothing (subst (Of u) (rows_kept gathering.rows ∙ ap rows_of gathers.rows) stops) in
     record {
       made = made;
       is_made = subst (λ (told : Judged). kind.makes rules.maker told made) (sym stays) (made_is kind limit pattern rules start u past gathering made makes asks gathers);
-      last = last;
       stopped = subst (Of start) (sym (rows_of-append past.founds follows.more) ∙ sym (ap rows_of follows.founds)) (laws.stops_more made last start v (rows_of past.founds) (rows_of follows.more) here);
     }
 
@@ -77,10 +72,8 @@ nothing_begun {M = M} kind limit pattern gathering (U.Refused fault) u refused r
 nothing_begun kind limit pattern gathering U.Memory u refused rules start past later asks gathers stays = inl gathers.nothing
 
 -- the taker failed
-pub failed_begun : {M T O : Type 0} (kind : SampleKind M T O) (rules : Rules M) (start : O) (later : Past) (fault : TakeFault) (v : O) → IsWithin kind rules start later v → IsStop kind rules start later (stop_of fault) v
-failed_begun kind rules start later F.Memory v within = inr within
-failed_begun kind rules start later F.Stopped v within = inr within
-failed_begun kind rules start later F.Failed v within = inr within
+pub failed_begun : {M T O : Type 0} (kind : SampleKind M T O) (rules : Rules M) (start : O) (later : Past) (last : T) (v : O) → StopsAs kind rules start later last v → IsFront kind rules start later v
+failed_begun kind rules start later last v stops = inr (record { last = last; stops = stops })
 
 -- ---- the turn from keeping records to having them taken
 
@@ -91,7 +84,7 @@ turned {M = M} {T = T} kind limit pattern phase gathering taker u v is begun rul
     let Of : Phase M T → Type 0 = λ p. PhaseHolds kind rules start past p u in
     record { told = told; begun = begun rules start past asks (subst Of is holds) }
 
-pub turn_stopped : {M T O : Type 0} (kind : SampleKind M T O) (limit : ℕ) (pattern : List Piece) (phase : Phase M T) (gathering : Gathering M) (stop : Stop) (u v : O) → phase ≡ P.Gathering gathering
+pub turn_stopped : {M T O : Type 0} (kind : SampleKind M T O) (limit : ℕ) (pattern : List Piece) (phase : Phase M T) (gathering : Gathering M) (stop : Stop T) (u v : O) → phase ≡ P.Gathering gathering
     → ((rules : Rules M) (start : O) (past later : Past) → Asks limit pattern rules → Gathers rules start past gathering u → Later past later → told_by rules later ≡ told_by rules past → IsStop kind rules start later stop v)
     → (rules : Rules M) (start : O) (past later : Past) → Asks limit pattern rules → PhaseHolds kind rules start past phase u → IsTold rules.limit past → Later past later → IsStop kind rules start later stop v
 turn_stopped {M = M} {T = T} kind limit pattern phase gathering stop u v is stopped rules start past later asks holds told follows =

@@ -2,8 +2,8 @@
 use Rattle.std.proofs.Common.{◌≡◌, ℕ, suc, ◌+◌, Bool, List, [], ◌∷◌, ◌++◌, length, drop, Option, Some, None, refl, sym, ◌∙◌, ap, ap₂, subst, arith, append_assoc}
 use Rattle.std.proofs.lemmas.List.{append-nil}
 use Rattle.lp_model.specs.Outside.{Folder}
-use Rattle.lp_model.specs.Lines.{Line, lines_to_come}
-use Rattle.lp_model.specs.Reading.{Columns, Format, columns_behind, lines_before, lines_between, records_of, standing_at, Standing}
+use Rattle.lp_model.specs.Lines.{lines_to_come}
+use Rattle.lp_model.specs.Reading.{Columns, Format, columns_behind, lines_before, records_of, standing_at, Standing}
 use Rattle.lp_model.specs.Following.{IsLineEnd}
 use Rattle.lp_model.proofs.Following.{records_of-following}
 use Rattle.lp_model.proofs.Ordered.{lines_between_end}

@@ -1,5 +1,5 @@
 -- What holds of a sample before its first record, and behind the records of a log.
-use Rattle.std.proofs.Common.{◌≡◌, ℕ, List, [], ◌∷◌, map, Option, Some, None, ap, sym, ◌∙◌, subst, refl}
+use Rattle.std.proofs.Common.{◌≡◌, ℕ, List, [], ◌∷◌, map, Option, Some, ap, sym, ◌∙◌, subst}
 use Rattle.lp_model.specs.Reading.{Columns}
 use Rattle.log_reading.specs.Found.{log_ended}
 use Rattle.column_kinds.specs.declared.kept.FirstLog.{FirstLog}

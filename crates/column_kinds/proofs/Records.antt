@@ -1,7 +1,6 @@
 -- One record more.
-use Rattle.std.proofs.Common.{◌≡◌, ℕ, ◌+◌, ◌≤◌, List, [], ◌∷◌, ◌++◌, length, map, Option, Some, None, ap, sym, ◌∙◌, refl, subst, inl, inr, arith, append_assoc, length-append}
+use Rattle.std.proofs.Common.{◌≡◌, ℕ, ◌≤◌, List, [], ◌∷◌, ◌++◌, length, map, Option, Some, None, ap, sym, ◌∙◌, refl, subst, inl, arith, append_assoc, length-append}
 use Rattle.std.proofs.lemmas.List.{length-map}
-use Rattle.lp_time.specs.declared.piece.Piece.{Piece}
 use Rattle.log_reading.specs.Found.{Found, Met, row_met}
 use Rattle.query_types.specs.declared.fault.TypeFault.{TypeFault}
 use Rattle.column_kinds.specs.declared.judging.Judged.{Judged}
@@ -13,7 +12,7 @@ use Rattle.column_kinds.specs.declared.phase.Sampled.{Sampled}
 use Rattle.column_kinds.specs.Kept.{found_in}
 use Rattle.column_kinds.specs.Laws.{Halts, IsTaker, later_with, rows_of-append, told_stays}
 use Rattle.column_kinds.specs.Past.{Past, Later, IsTold, first_seen, log_of, past_with}
-use Rattle.column_kinds.specs.Sampling.{SampleKind, Rules, Asks, Gathers, Holds, IsFront, PhaseHolds, PhaseStopped, TakesOn, rows_of, told_by}
+use Rattle.column_kinds.specs.Sampling.{SampleKind, Rules, Asks, Gathers, Holds, PhaseHolds, PhaseStopped, TakesOn, StopsAs, rows_of}
 
 -- ---- a record that is kept
 
@@ -65,7 +64,7 @@ takes_on kind laws rules start u v past old new found takes on =
     }
 
 stops_on : {M T O : Type 0} (kind : SampleKind M T O) (laws : IsTaker kind) (rules : Rules M) (start u v : O) (past later : Past) (old last : T) (found : Found)
-    → kind.stops old u (row_met found ∷ []) last v → TakesOn kind rules start past old u → Later (past_with past (found ∷ [])) later → IsFront kind rules start later v
+    → kind.stops old u (row_met found ∷ []) last v → TakesOn kind rules start past old u → Later (past_with past (found ∷ [])) later → StopsAs kind rules start later last v
 stops_on kind laws rules start u v past later old last found stops on follows =
     let begun = on.begun in
     let all : later.founds ≡ past.founds ++ (found ∷ follows.more) = follows.founds ∙ append_assoc past.founds (found ∷ []) follows.more in
@@ -74,13 +73,12 @@ stops_on kind laws rules start u v past later old last found stops on follows =
     let Of : List Met → Type 0 = λ mets. kind.stops begun.made start mets last v in
     let here : Of (rows_of (past.founds ++ found ∷ [])) =
     subst Of (sym (rows_of-append past.founds (found ∷ []))) (laws.stops_later begun.made old last start u v (rows_of past.founds) (row_met found ∷ []) begun.taken stops) in
-    inr (record {
+    record {
       made = begun.made;
       is_made = subst (λ (told : Judged). kind.makes rules.maker told begun.made) (sym stays) begun.is_made;
-      last = last;
       stopped = subst Of (sym (rows_of-append (past.founds ++ found ∷ []) follows.more) ∙ sym (ap rows_of follows.founds))
           (laws.stops_more begun.made last start v (rows_of (past.founds ++ found ∷ [])) (rows_of follows.more) here);
-    })
+    }
 
 -- ---- the phases
 

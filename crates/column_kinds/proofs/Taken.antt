@@ -1,14 +1,14 @@
 -- What a run has taken of all that it met in spans, as what is known behind these spans.
-use Rattle.std.proofs.Common.{◌≡◌, ℕ, Bool, List, [], ◌∷◌, ◌++◌, length, Option, Some, None, ap, sym, ◌∙◌, refl, subst}
+use Rattle.std.proofs.Common.{◌≡◌, ℕ, Bool, List, [], ◌∷◌, length, Option, Some, None, ap, sym, ◌∙◌, refl, subst}
 use Rattle.lp_model.specs.Outside.{Folder, Told}
 use Rattle.lp_model.specs.Reading.{Format, Record, records_of, standing_at}
-use Rattle.log_reading.specs.Found.{Found, Met, found_of, met_of, log_ended}
+use Rattle.log_reading.specs.Found.{Found, found_of, met_of, log_ended}
 use Rattle.log_reading.specs.declared.page.Page.{Page}
 use Rattle.log_reading.specs.declared.span.Span.{Span}
-use Rattle.log_reading.specs.Spans.{AreKept, TakesSpans, cut_of, span_found, span_met, span_rows, spans_met}
+use Rattle.log_reading.specs.Spans.{AreKept, TakesSpans, cut_of, span_met, span_rows, spans_met}
 use Rattle.column_kinds.specs.Past.{Past, Later, noted, past_met, past_with}
 use Rattle.column_kinds.specs.Spans.{past_behind, past_behind_span}
-use Rattle.column_kinds.specs.Sampling.{SampleKind, Rules, Holds}
+use Rattle.column_kinds.specs.Sampling.{SampleKind, Holds}
 use Rattle.column_kinds.specs.SpansTold.{SamplesSpans, HaltsIn, spans_told}
 use Rattle.column_kinds.specs.declared.phase.Sampled.{Sampled}
 use Rattle.column_kinds.specs.Laws.{Samples, Halts, past_met-append, past_with-append, past_with-none}

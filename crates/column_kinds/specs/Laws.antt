@@ -1,18 +1,16 @@
 -- How a taker behind a sample takes records, and what follows.
-use Rattle.std.specs.Prelude.{◌≡◌, ℕ, List, [], ◌∷◌, ◌++◌, map, Option, Some, None}
+use Rattle.std.specs.Prelude.{◌≡◌, ℕ, List, [], ◌∷◌, ◌++◌, Option, Some, None}
 use Rattle.std.proofs.Common.{ap, ap₂, sym, ◌∙◌, refl, subst, append_assoc, inl, inr}
 use Rattle.std.proofs.lemmas.List.{append-nil, map-append}
 use Rattle.log_reading.specs.Found.{Found, Met, row_met, log_ended}
-use Rattle.query_types.specs.declared.fault.TypeFault.{TypeFault}
 use Rattle.column_kinds.specs.declared.judging.Judged.{Judged}
 use Rattle.column_kinds.specs.declared.kept.FirstLog.{FirstLog}
-use Rattle.column_kinds.specs.declared.phase.Gathering.{Gathering}
 use Rattle.column_kinds.specs.declared.phase.Phase.{Phase}
 use Rattle.column_kinds.specs.declared.phase.Phase.TheVariants as P
 use Rattle.column_kinds.specs.declared.phase.Sampled.{Sampled}
 use Rattle.column_kinds.specs.Judged.{judged}
 use Rattle.column_kinds.specs.Past.{Past, Later, IsTold, first_seen, past_with, or_first, log_with, noted, past_met}
-use Rattle.column_kinds.specs.Sampling.{SampleKind, Rules, told_by, rows_of, Gathers, Begun, TakesOn, PhaseHolds, Holds, IsFront, IsWithin, PhaseStopped}
+use Rattle.column_kinds.specs.Sampling.{SampleKind, Rules, told_by, rows_of, Begun, PhaseHolds, Holds, IsFront, StopsAs, PhaseStopped}
 use Rattle.column_kinds.specs.Staying.{judged_stays}
 
 -- whatever is known before, it has taken all that is met here too
@@ -93,13 +91,12 @@ rows_of-append xs ys = map-append row_met xs ys
 
 -- the taker has taken the front of what there is
 pub within_later : {M T O : Type 0} (kind : SampleKind M T O) (laws : IsTaker kind) (rules : Rules M) (start now : O) (past later : Past) (taker : T)
-    → told_by rules later ≡ told_by rules past → Later past later → Begun kind rules start past taker now → IsWithin kind rules start later now
+    → told_by rules later ≡ told_by rules past → Later past later → Begun kind rules start past taker now → StopsAs kind rules start later taker now
 within_later {O = O} kind laws rules start now past later taker same follows begun =
     let Of : List Met → Type 0 = λ t. kind.stops begun.made start t taker now in
     record {
       made = begun.made;
       is_made = subst (λ (told : Judged). kind.makes rules.maker told begun.made) (sym same) begun.is_made;
-      last = taker;
       stopped = subst Of (sym (rows_of-append past.founds follows.more) ∙ sym (ap rows_of follows.founds))
           (laws.stops_here begun.made taker start now (rows_of past.founds) (rows_of follows.more) begun.taken);
     }
@@ -107,14 +104,14 @@ within_later {O = O} kind laws rules start now past later taker same follows beg
 pub phase_front : {M T O : Type 0} (kind : SampleKind M T O) (laws : IsTaker kind) (rules : Rules M) (start now : O) (past later : Past) (phase : Phase M T)
     → Later past later → PhaseHolds kind rules start past phase now → IsFront kind rules start later now
 phase_front kind laws rules start now past later (P.Gathering gathering) follows holds = inl holds.nothing
-phase_front kind laws rules start now past later (P.Taking taker) follows holds = inr (within_later kind laws rules start now past later taker (told_stays rules past later holds.told follows) follows holds.begun)
+phase_front kind laws rules start now past later (P.Taking taker) follows holds = inr (record { last = taker; stops = within_later kind laws rules start now past later taker (told_stays rules past later holds.told follows) follows holds.begun })
 phase_front kind laws rules start now past later (P.Refused fault) follows holds = absurd holds
 phase_front kind laws rules start now past later P.Lost follows holds = absurd holds
 
 pub phase_stopped : {M T O : Type 0} (kind : SampleKind M T O) (laws : IsTaker kind) (rules : Rules M) (start now : O) (past later : Past) (phase : Phase M T)
     → Later past later → PhaseHolds kind rules start past phase now → PhaseStopped kind rules start later phase now
 phase_stopped kind laws rules start now past later (P.Gathering gathering) follows holds = phase_front kind laws rules start now past later (P.Gathering gathering) follows holds
-phase_stopped kind laws rules start now past later (P.Taking taker) follows holds = phase_front kind laws rules start now past later (P.Taking taker) follows holds
+phase_stopped kind laws rules start now past later (P.Taking taker) follows holds = within_later kind laws rules start now past later taker (told_stays rules past later holds.told follows) follows holds.begun
 phase_stopped kind laws rules start now past later (P.Refused fault) follows holds = absurd holds
 phase_stopped kind laws rules start now past later P.Lost follows holds = absurd holds
 

@@ -1,7 +1,5 @@
 -- Why no taker is made.
 use Rattle.std.specs.Prelude.{⊤}
-use Rattle.log_reading.specs.declared.taker.TakeFault.{TakeFault}
-use Rattle.log_reading.specs.declared.taker.TakeFault.TheVariants as F
 use Rattle.query_types.specs.declared.fault.TypeFault.{TypeFault}
 use Rattle.column_kinds.specs.declared.maker.Unmade.{Unmade}
 use Rattle.column_kinds.specs.declared.maker.Unmade.TheVariants as U
@@ -14,12 +12,13 @@ OnRefused (U.Refused fault) P = P fault
 OnRefused U.Memory P = ⊤
 
 -- why it stops, where no taker is made
-abbrev pub stop_unmade : Unmade → Stop
+abbrev pub stop_unmade : {T : Type 0} → Unmade → Stop T
 stop_unmade (U.Refused fault) = S.Refused fault
 stop_unmade U.Memory = S.Memory
 
--- why it stops, where the taker did
-abbrev pub stop_of : TakeFault → Stop
-stop_of F.Memory = S.Memory
-stop_of F.Stopped = S.Memory
-stop_of F.Failed = S.Failed
+-- P of the taker that wants no more rows, where that is why
+abbrev pub OnHalted : {T : Type 0} → (T → Type 0) → Stop T → Type 0
+OnHalted P (S.Refused fault) = ⊤
+OnHalted P (S.Stopped taker) = P taker
+OnHalted P S.Failed = ⊤
+OnHalted P S.Memory = ⊤

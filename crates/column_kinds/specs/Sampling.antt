@@ -80,12 +80,16 @@ pub record IsRefused {M T O : Type 0} (kind : SampleKind M T O) (rules : Rules M
   pub refused : kind.refuses rules.maker (told_by rules past) fault
   pub nothing : now ≡ start
 
--- the taker for the columns stopped within these records
-pub record IsWithin {M T O : Type 0} (kind : SampleKind M T O) (rules : Rules M) (start : O) (past : Past) (now : O) : Type 0 where
+-- the taker for the columns stopped within these records, and this is its state
+pub record StopsAs {M T O : Type 0} (kind : SampleKind M T O) (rules : Rules M) (start : O) (past : Past) (last : T) (now : O) : Type 0 where
   pub made : T
   pub is_made : kind.makes rules.maker (told_by rules past) made
-  pub last : T
   pub stopped : kind.stops made start (rows_of past.founds) last now
+
+-- the taker for the columns stopped within these records
+pub record IsWithin {M T O : Type 0} (kind : SampleKind M T O) (rules : Rules M) (start : O) (past : Past) (now : O) : Type 0 where
+  pub last : T
+  pub stops : StopsAs kind rules start past last now
 
 -- nothing has come out, or the taker stopped within these records
 abbrev pub IsFront : {M T O : Type 0} → SampleKind M T O → Rules M → O → Past → O → Type 0
@@ -94,11 +98,12 @@ IsFront kind rules start past now = (now ≡ start) ⊎ IsWithin kind rules star
 -- how it stopped, of which these are all records
 abbrev pub PhaseStopped : {M T O : Type 0} → SampleKind M T O → Rules M → O → Past → Phase M T → O → Type 0
 PhaseStopped kind rules start past (P.Gathering gathering) now = IsFront kind rules start past now
-PhaseStopped kind rules start past (P.Taking taker) now = IsFront kind rules start past now
+PhaseStopped kind rules start past (P.Taking taker) now = StopsAs kind rules start past taker now
 PhaseStopped kind rules start past (P.Refused fault) now = IsRefused kind rules start past fault now
 PhaseStopped kind rules start past P.Lost now = IsFront kind rules start past now
 
-abbrev pub IsStop : {M T O : Type 0} → SampleKind M T O → Rules M → O → Past → Stop → O → Type 0
+abbrev pub IsStop : {M T O : Type 0} → SampleKind M T O → Rules M → O → Past → Stop T → O → Type 0
 IsStop kind rules start past (S.Refused fault) now = IsRefused kind rules start past fault now
+IsStop kind rules start past (S.Stopped taker) now = StopsAs kind rules start past taker now
 IsStop kind rules start past S.Failed now = IsFront kind rules start past now
 IsStop kind rules start past S.Memory now = IsFront kind rules start past now

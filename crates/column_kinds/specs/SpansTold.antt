@@ -1,5 +1,5 @@
 -- How a taker behind a sample takes the spans of logs.
-use Rattle.std.specs.Prelude.{◌≡◌, ◌+◌, ℕ, Bool, List, length}
+use Rattle.std.specs.Prelude.{◌≡◌, ◌+◌, Bool, List, length}
 use Rattle.lp_model.specs.Outside.{Folder}
 use Rattle.lp_model.specs.Reading.{Format}
 use Rattle.log_reading.specs.declared.page.Page.{Page}

@@ -3,7 +3,7 @@ ghost use Rattle.std.specs.Prelude.{◌≡◌, ◌≤◌, ◌<◌, ◌^◌, leng
 ghost use Rattle.lp_model.specs.Outside.{Rose};
 ghost use Rattle.column_kinds.specs.Judged.{judged};
 ghost use Rattle.column_kinds.specs.Kept.{found_in};
-ghost use Rattle.column_kinds.specs.Makers.{stop_of, stop_unmade, OnRefused};
+ghost use Rattle.column_kinds.specs.Makers.{stop_unmade, OnHalted, OnRefused};
 ghost use Rattle.column_kinds.specs.Past.{Past, Later};
 ghost use Rattle.column_kinds.specs.Sampling.{kind_of, Rules, Asks, Begun, Gathers, IsStop, told_by};
 
@@ -16,18 +16,8 @@ use std::alloc::Global;
 // More rows than fit into memory.
 const MOST: usize = 1 << 63;
 
-// Why it stops, where the taker did.
-fn stop_of(fault: TakeFault) -> Stop
-    ensures { result ≡ stop_of fault }
-{
-    match fault {
-        TakeFault::Memory | TakeFault::Stopped => Stop::Memory,
-        TakeFault::Failed => Stop::Failed,
-    }
-}
-
 // Why it stops, where no taker is made.
-fn stop_unmade(unmade: Unmade) -> Stop
+fn stop_unmade<T: Drop>(unmade: Unmade) -> Stop<T>
     ensures { result ≡ stop_unmade unmade }
 {
     match unmade {
@@ -73,7 +63,7 @@ pub(crate) fn begin<M: Maker<T, O> + Drop, T: Taker<O> + Drop, O>(
     pattern: &Pattern,
     gathering: Gathering<M>,
     out: &mut O,
-) -> Result<T, Stop>
+) -> Result<T, Stop<T>>
     ensures begun { IfOk result (λ taker. (rules : Rules M) (start : O) (past : Past) → Asks limit pattern.now rules → Gathers rules start past gathering out.old
         → Begun (kind_of M.makes M.refuses T.takes T.stops) rules start past taker out.new) }
     ensures count { IfOk result (λ taker. T.count taker ≡ length gathering.rows) }
@@ -81,6 +71,7 @@ pub(crate) fn begin<M: Maker<T, O> + Drop, T: Taker<O> + Drop, O>(
         → Later past later → told_by rules later ≡ told_by rules past → IsStop (kind_of M.makes M.refuses T.takes T.stops) rules start later stop out.new) }
     ensures goes { T.goes out.old out.new }
     ensures later { T.faults out.old ≤ T.faults out.new }
+    ensures halted { IfErr result (OnHalted T.stopped) }
     ensures failed { IsErrOf result Stop.Failed → Rose (T.faults out.old) (T.faults out.new) }
 {
     let Gathering { first, rows, maker } = gathering;
@@ -90,6 +81,8 @@ pub(crate) fn begin<M: Maker<T, O> + Drop, T: Taker<O> + Drop, O>(
     };
     match give_kept(alloc, &rows, &mut taker, out) {
         Ok(()) => Ok(taker),
-        Err(fault) => Err(stop_of(fault)),
+        Err(TakeFault::Stopped) => Err(Stop::Stopped(taker)),
+        Err(TakeFault::Failed) => Err(Stop::Failed),
+        Err(TakeFault::Memory) => Err(Stop::Memory),
     }
 }

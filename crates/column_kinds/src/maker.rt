@@ -19,10 +19,12 @@ pub enum Unmade {
 }
 
 /// Why a sample or its taker stops. The fault is never want of memory.
-#[derive(Clone, Copy, Debug, PartialEq, Eq)]
-pub enum Stop {
+#[derive(Drop)]
+pub enum Stop<T> {
     /// What is asked doesn't fit the columns.
     Refused(TypeFault),
+    /// The taker, which wants no more rows.
+    Stopped(T),
     /// The output failed.
     Failed,
     /// Memory was refused.

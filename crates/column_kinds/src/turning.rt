@@ -61,6 +61,10 @@ pub(crate) fn turn<M: Maker<T, O> + Drop, T: Taker<O> + Drop, O>(
             set_phase(phase, Phase::Refused(fault));
             Err(TakeFault::Stopped)
         }
+        Err(Stop::Stopped(taker)) => {
+            set_phase(phase, Phase::Taking(taker));
+            Err(TakeFault::Stopped)
+        }
         Err(Stop::Failed) => Err(TakeFault::Failed),
         Err(Stop::Memory) => Err(TakeFault::Memory),
     }

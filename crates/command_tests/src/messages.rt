@@ -26,6 +26,9 @@ fn status(word: &str) -> Result<Status, Fail> {
         "few" => Status::Query(QueryFault::Plan(TypeFault::TooFewColumns { at: 21 })),
         "select" => Status::Query(QueryFault::Plan(TypeFault::NotInSelect { at: 33 })),
         "logs" => Status::LogsFault,
+        "clash" => Status::NameClash(Name::read("logs/a.log").map_err(|_| "no name")?),
+        "outputs" => Status::TooManyOutputs,
+        "disk" => Status::DiskFault,
         _ => parse_errors()?,
     })
 }
@@ -44,7 +47,10 @@ usage => 2 Some(\"logparser: usage: word 4294967295: needs -tpl\\n\")
 open => 3 Some(\"logparser: query: at 65535: open bracket\\n\")
 few => 3 Some(\"logparser: query: at 21: too few columns\\n\")
 select => 3 Some(\"logparser: query: at 33: not in select\\n\")
+clash => 4 Some(\"logparser: input: name clash logs/a.log\\n\")
+outputs => 4 Some(\"logparser: input: more than 10000 outputs\\n\")
 logs => 5 Some(\"logparser: read fault: logs\\n\")
+disk => 6 Some(\"logparser: disk fault\\n\")
 row => 8 Some(\"logparser: parse errors: logs/ex 1.log row 4096\\n\")";
 
 #[test]

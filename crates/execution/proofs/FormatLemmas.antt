@@ -57,14 +57,6 @@ middle_true true true c is = refl
 middle_true true false c is = let same : false ≡ true = is in absurd cc
 middle_true false b c is = let same : false ≡ true = is in absurd cc
 
-first_true : (a b : Bool) → (a && b) ≡ true → a ≡ true
-first_true true b is = refl
-first_true false b is = let same : false ≡ true = is in absurd cc
-
-first_of_three : (a b c : Bool) → (a && b && c) ≡ true → a ≡ true
-first_of_three true b c is = refl
-first_of_three false b c is = let same : false ≡ true = is in absurd cc
-
 -- where all is built, the query is
 pub built_query : (spec : Spec) (q : Query) → all_built spec q ≡ true → is_built q ≡ true
 built_query spec q built = middle_true (are_options_built spec q) (is_built q) (not (reads_stdin (names_in q))) built

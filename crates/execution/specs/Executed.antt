@@ -1,5 +1,5 @@
 -- What a query writes over spans of logs.
-use Rattle.std.specs.Prelude.{◌≡◌, ◌⊎◌, ℕ, ℤ, true, false, List, length, pos, ◌≤ℤ◌, ◌<ℤ◌, Option, Ok, Err, ⊤}
+use Rattle.std.specs.Prelude.{◌≡◌, ◌⊎◌, ℕ, ℤ, false, List, length, pos, ◌≤ℤ◌, ◌<ℤ◌, Option, Ok, Err, ⊤}
 use Rattle.grammar.specs.Trees as model
 use Rattle.lp_model.specs.Outside.{Folder, Told}
 use Rattle.lp_time.specs.declared.piece.Piece.{Piece}
@@ -24,7 +24,9 @@ use Rattle.column_kinds.specs.Judged.{table_of as table_with}
 use Rattle.execution.specs.declared.formats.LogFormat.{LogFormat}
 use Rattle.execution.specs.declared.formats.LogFormat.TheVariants as F
 use Rattle.execution.specs.Formats.{lines_in}
-use Rattle.execution.specs.Texts.{RowsText, run_shown}
+use Rattle.row_output.specs.Asked.{Asked, left_of}
+use Rattle.row_output.specs.Rows.{IsRefused}
+use Rattle.row_output.specs.declared.fault.Refused.{Refused}
 
 -- from 1970-01-01 00:00:00 to 9999-12-31 23:59:59
 abbrev pub IsMoment : ℤ → Type 0
@@ -49,36 +51,36 @@ abbrev pub rows_in : LogFormat → List Piece → Planned → Folder → List Sp
 rows_in (F.Tabled format) pattern plan folder spans = plan_rows (readings_of format) plan (lines_of format) false folder spans
 rows_in (F.Sampled options limit) pattern plan folder spans = rows_with pattern (told_in options limit pattern folder spans) plan (spans_found (delimited_lines options) false folder spans)
 
--- the text of those that the query leaves, as a format makes one of rows
-abbrev pub text_in : RowsText → Spec → model.Query → LogFormat → Planned → Folder → List Span → List ℕ
-text_in text spec q format plan folder spans = text true plan.names (run_shown q plan (rows_in format spec.ts_format plan folder spans))
-
--- an output has gained the text of what a query leaves of a plan's rows, in a given sense; so many records, rows and bad lines were met
-pub record Writes (Has : List ℕ → Type 0) (text : RowsText) (spec : Spec) (q : model.Query) (format : LogFormat) (plan : Planned) (spans : List Span) (counts : Counts) (folder : Folder) : Type 0 where
-  pub has : Has (text_in text spec q format plan folder spans)
+-- Of what is asked of a plan's rows this is so; so many records, rows and bad lines were met.
+pub record Writes (Has : Asked → List (List Value) → Type 0) (asked : Planned → Asked) (spec : Spec) (format : LogFormat) (plan : Planned) (spans : List Span) (counts : Counts) (folder : Folder) : Type 0 where
+  pub has : Has (asked plan) (rows_in format spec.ts_format plan folder spans)
   pub processed : counts.processed ≡ length (spans_found (lines_in format) false folder spans)
-  pub output : counts.output ≡ length (run_shown q plan (rows_in format spec.ts_format plan folder spans))
+  pub output : counts.output ≡ length (left_of (asked plan) (rows_in format spec.ts_format plan folder spans))
   pub bad : counts.bad ≡ length (spans_bad (lines_in format) false folder spans)
 
--- where each span begins as its log was kept, the output gains the text of the rows of the query's plan over a table
-pub record WritesAll (format : LogFormat) (told : Option Folder) (Has : List ℕ → Type 0) (text : RowsText) (spec : Spec) (moment : ℤ) (q : model.Query) (spans : List Span) (counts : Counts) (table : TableColumns) : Type 0 where
+-- where each span begins as its log was kept, the rows of the query's plan over a table are written
+pub record WritesAll (format : LogFormat) (told : Option Folder) (Has : Asked → List (List Value) → Type 0) (asked : Planned → Asked) (spec : Spec) (moment : ℤ) (q : model.Query) (spans : List Span) (counts : Counts) (table : TableColumns) : Type 0 where
   pub plan : Planned
   pub is_planned : plan_of table moment q ≡ Ok plan
-  pub written : Told told (λ folder. AreKept (lines_in format) false spans folder → Writes Has text spec q format plan spans counts folder)
+  pub written : Told told (λ folder. AreKept (lines_in format) false spans folder → Writes Has asked spec format plan spans counts folder)
 
--- the output gains the text of the query's rows
-abbrev pub IsExecuted : LogFormat → Option Folder → (List ℕ → Type 0) → RowsText → Spec → ℤ → model.Query → List Span → Counts → Type 0
-IsExecuted format told Has text spec moment q spans counts = OnTable format spec.ts_format told spans (WritesAll format told Has text spec moment q spans counts)
+-- the query's rows are written
+abbrev pub IsExecuted : LogFormat → Option Folder → (Asked → List (List Value) → Type 0) → (Planned → Asked) → Spec → ℤ → model.Query → List Span → Counts → Type 0
+IsExecuted format told Has asked spec moment q spans counts = OnTable format spec.ts_format told spans (WritesAll format told Has asked spec moment q spans counts)
 
--- the output holds the front of that text
-pub record HoldsFront (format : LogFormat) (told : Option Folder) (Front : List ℕ → Type 0) (text : RowsText) (spec : Spec) (moment : ℤ) (q : model.Query) (spans : List Span) (table : TableColumns) : Type 0 where
+-- they were to be written
+pub record HoldsFront (format : LogFormat) (told : Option Folder) (Front : Asked → List (List Value) → Type 0) (asked : Planned → Asked) (spec : Spec) (moment : ℤ) (q : model.Query) (spans : List Span) (table : TableColumns) : Type 0 where
   pub plan : Planned
   pub is_planned : plan_of table moment q ≡ Ok plan
-  pub front : Told told (λ folder. AreKept (lines_in format) false spans folder → Front (text_in text spec q format plan folder spans))
+  pub front : Told told (λ folder. AreKept (lines_in format) false spans folder → Front (asked plan) (rows_in format spec.ts_format plan folder spans))
 
--- a run stopped before it wrote anything, or within the text
-abbrev pub IsStopped : LogFormat → Option Folder → Type 0 → (List ℕ → Type 0) → RowsText → Spec → ℤ → model.Query → List Span → Type 0
-IsStopped format told Nothing Front text spec moment q spans = OnTable format spec.ts_format told spans (λ table. Nothing ⊎ HoldsFront format told Front text spec moment q spans table)
+-- a run stopped before it wrote anything, or within the rows
+abbrev pub IsStopped : LogFormat → Option Folder → Type 0 → (Asked → List (List Value) → Type 0) → (Planned → Asked) → Spec → ℤ → model.Query → List Span → Type 0
+IsStopped format told Nothing Front asked spec moment q spans = OnTable format spec.ts_format told spans (λ table. Nothing ⊎ HoldsFront format told Front asked spec moment q spans table)
+
+-- an output of the rows is refused by this fault
+abbrev pub IsUnplaced : LogFormat → Option Folder → (Planned → Asked) → Spec → ℤ → model.Query → List Span → Refused → Type 0
+IsUnplaced format told asked spec moment q spans why = OnTable format spec.ts_format told spans (HoldsFront format told (λ asked rows. IsRefused asked rows why) asked spec moment q spans)
 
 -- over a table that is known before a log is read, the query has a plan
 abbrev pub IsTyped : LogFormat → ℤ → model.Query → Type 0

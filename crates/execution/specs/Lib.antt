@@ -2,5 +2,5 @@ pub mod Formats
 pub mod Built
 pub mod Executed
 pub mod Faults
-pub mod Standard
 pub mod Texts
+pub mod Outputs

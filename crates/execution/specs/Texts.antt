@@ -1,25 +1,18 @@
 -- The text of a run, in the format that is asked for.
-use Rattle.std.specs.Prelude.{ℕ, ℤ, Bool, true, List, [], Option, Some, None, is_some, if◌then◌else◌, unwrap_or}
+use Rattle.std.specs.Prelude.{ℤ, Bool, true, [], Option, Some, None, is_some, if◌then◌else◌, unwrap_or}
 use Rattle.grammar.specs.Trees.{Placed, Query}
 use Rattle.grammar.specs.Trees.{Query as query}
-use Rattle.lp_values.specs.declared.value.Value.{Value}
+use Rattle.row_output.specs.Asked.{RowsText}
 use Rattle.command_words.specs.declared.formats.OutputFormat.{OutputFormat}
 use Rattle.command_words.specs.declared.formats.OutputFormat.TheVariants as O
 use Rattle.command_words.specs.declared.spec.Spec.{Spec}
 use Rattle.command_words.specs.Formats.{output_by_name}
-use Rattle.order_top.specs.Finish.{finished}
 use Rattle.output_formats.specs.Headers.{csv_of}
-use Rattle.query_types.specs.Planned.{Planned}
-use Rattle.sampled_run.specs.Finishes.{finish_of}
 use Rattle.text_formats.specs.Nat.{nat_of}
 use Rattle.text_formats.specs.Tsv.{tsv_of}
 use Rattle.text_formats.specs.W3c.{w3c_of}
 use Rattle.tpl_output.specs.Sections.{Sections}
 use Rattle.tpl_output.specs.Tpl.{tpl_of}
-
--- the text of named rows, for an output that begins empty or not
-abbrev pub RowsText : Type 0
-RowsText = Bool → List (List ℕ) → List (List Value) → List ℕ
 
 abbrev pub into_in : Query → Option Placed
 into_in (query.query parts subqueries) = parts.into
@@ -57,7 +50,3 @@ text_as spec O.Tpl template moment = tpl_of template moment
 -- the text that a run of a query at a moment makes of rows, by a template where that is the format
 abbrev pub run_text : Spec → Sections → ℤ → Query → RowsText
 run_text spec template moment q = text_as spec (output_of spec q) template moment
-
--- the rows that DISTINCT, ORDER BY and TOP of a query leave of its plan's
-abbrev pub run_shown : Query → Planned → List (List Value) → List (List Value)
-run_shown q plan rows = finished (finish_of q plan) rows

@@ -4,40 +4,31 @@ ghost use Rattle.lp_model.specs.Outside.{Rose, OnlyGrow, Told, bytes_in};
 ghost use Rattle.command_words.specs.Table.{IsInRange};
 ghost use Rattle.log_reading.specs.Page.{IsWithin};
 ghost use Rattle.log_reading.specs.Spans.{AllSpans, IsSpan, spans_size};
-ghost use Rattle.query_run.specs.Output.{kind_of, placed_at, GainsText, GainsFront};
+ghost use Rattle.text_output.specs.Output.{kind_of};
+ghost use Rattle.row_output.specs.Rows.{Holds, Stops};
 ghost use Rattle.query_tree.specs.Views.{query_of};
 ghost use Rattle.execution.specs.Built.{all_built};
-ghost use Rattle.execution.specs.Executed.{IsMoment, IsExecuted, IsParseError, IsStopped, IsUnplanned, IsUntouched};
-ghost use Rattle.execution.specs.Faults.{IfParse, IfPlan};
+ghost use Rattle.execution.specs.Executed.{IsMoment, IsExecuted, IsParseError, IsStopped, IsUnplaced, IsUnplanned, IsUntouched};
+ghost use Rattle.execution.specs.Faults.{IfParse, IfPlan, IfRefused};
 ghost use Rattle.execution.specs.Formats.{log_format};
-ghost use Rattle.execution.specs.Standard.{IsStandard, standard_at};
-ghost use Rattle.execution.specs.Texts.{output_of, run_text, sections_in};
+ghost use Rattle.execution.specs.Outputs.{asked_in};
+ghost use Rattle.execution.specs.Texts.{output_of, sections_in};
 ghost use Rattle.command_words.specs.declared.formats.OutputFormat.TheVariants as O;
 
 use crate::formats::{LogFormat, log_format};
+use crate::outputs::into_of;
 use crate::sampled::execute_sampled;
 use crate::tabled::execute_tabled;
-use crate::texts::{output_of, text_as};
+use crate::texts::{output_of, wanted_as};
 use crate::{Ran, RunFault};
 use checkpoint::Spans;
 use command_words::Spec;
-use lp_outside::{Logs, Name, Source, Stage};
-use query_run::Target;
+use lp_outside::{Logs, Source, Stage};
 use query_tree::Query;
 use sampled_run::Moment;
 use std::alloc::Global;
 use std::rc::Rc;
 use tpl_output::Template;
-
-// The output of a run: the first of its stage, with the name that no log has.
-fn standard_output() -> Target
-    ensures { IsStandard result }
-{
-    match Name::read("STDOUT") {
-        Ok(name) => Target::new(0, name, 0),
-        Err(_) => unreachable!(),
-    }
-}
 
 /// Runs a query over spans of logs, in order: their records, of which it takes those that WHERE keeps, and the text of the rows
 /// that SELECT makes of them, by the template where the output is by one. The columns of CSV and TSV logs are known behind their
@@ -61,10 +52,10 @@ pub fn execute<L: Logs, I: Source, G: Stage>(
     requires spans { AllSpans spans.now IsSpan }
     requires there { Told (L.folder logs.old) (λ folder. AllSpans spans.now (λ span. span.listed ≤ length (bytes_in folder span.name))) }
     ensures grows { OnlyGrow (L.folder logs.old) (L.folder logs.new) }
-    ensures ran { IfOk result (λ ran. IsExecuted (log_format spec.now (query_of query.now)) (L.folder logs.new) (λ text. GainsText (standard_at (kind_of G.state G.ended) stage.old) (placed_at (kind_of G.state G.ended) 0 ran.output stage.new) text) (run_text spec.now (sections_in (λ t. t.value) template) moment (query_of query.now)) spec.now moment (query_of query.now) spans.now ran.counts) }
+    ensures ran { IfOk result (λ ran. IsExecuted (log_format spec.now (query_of query.now)) (L.folder logs.new) (λ asked rows. Holds (kind_of G.state G.ended) asked stage.old rows ran.outputs stage.new) (asked_in spec.now (sections_in (λ t. t.value) template) moment (query_of query.now) spans.now) spec.now moment (query_of query.now) spans.now ran.counts) }
     ensures within { IfOk result (λ ran. IsWithin spec.now.errors ran.counts.bad) }
-    ensures ended { IfOk result (λ ran. G.ended stage.new ran.output.name ran.output.base ran.output.mark) }
-    ensures stopped { OnErr result (IsStopped (log_format spec.now (query_of query.now)) (L.folder logs.new) (stage.new ≡ stage.old) (λ text. GainsFront (standard_at (kind_of G.state G.ended) stage.old) stage.new text) (run_text spec.now (sections_in (λ t. t.value) template) moment (query_of query.now)) spec.now moment (query_of query.now) spans.now) }
+    ensures stopped { OnErr result (IsStopped (log_format spec.now (query_of query.now)) (L.folder logs.new) (stage.new ≡ stage.old) (λ asked rows. Stops (kind_of G.state G.ended) asked stage.old rows stage.new) (asked_in spec.now (sections_in (λ t. t.value) template) moment (query_of query.now) spans.now) spec.now moment (query_of query.now) spans.now) }
+    ensures refused { IfRefused result (IsUnplaced (log_format spec.now (query_of query.now)) (L.folder logs.new) (asked_in spec.now (sections_in (λ t. t.value) template) moment (query_of query.now) spans.now) spec.now moment (query_of query.now) spans.now) }
     ensures plan { IfPlan result (IsUnplanned (log_format spec.now (query_of query.now)) (L.folder logs.new) spec.now moment (query_of query.now) spans.now) }
     ensures before { IfPlan result (λ fault. IsUntouched (log_format spec.now (query_of query.now)) (L.folder logs.new) (stage.new ≡ stage.old) spec.now spans.now) }
     ensures parse { IfParse result (IsParseError (log_format spec.now (query_of query.now)) (L.folder logs.new) spec.now moment (query_of query.now) spans.now) }
@@ -76,17 +67,17 @@ pub fn execute<L: Logs, I: Source, G: Stage>(
     ensures later { G.faults stage.old ≤ G.faults stage.new }
     ensures stage { IsErrOf result RunFault.StageFault → Rose (G.faults stage.old) (G.faults stage.new) }
 {
-    let target = standard_output();
+    let Ok(into) = into_of(alloc, spec, query, spans) else {
+        return Err(RunFault::Memory);
+    };
     let moment = Moment { seconds: moment };
-    let output = text_as(alloc, spec, output_of(spec, query), template, moment);
+    let wanted = wanted_as(spec, output_of(spec, query), template);
     match log_format(spec, query) {
-        LogFormat::Tabled(format) => {
-            execute_tabled(
-                alloc, spec, format, query, moment, logs, spans, output, target, stage,
-            )
-        }
+        LogFormat::Tabled(format) => execute_tabled(
+            alloc, spec, format, query, moment, logs, spans, wanted, into, stage,
+        ),
         LogFormat::Sampled(options, limit) => execute_sampled(
-            alloc, spec, options, limit, query, moment, logs, spans, output, target, stage,
+            alloc, spec, options, limit, query, moment, logs, spans, wanted, into, stage,
         ),
     }
 }

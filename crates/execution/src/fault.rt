@@ -1,14 +1,16 @@
 // How a run of a query ends.
 use lp_outside::Name;
-use query_run::{Counts, Output};
+use query_run::Counts;
 use query_types::TypeFault;
+use row_output::Refused;
+use text_output::OutputList;
 
 /// What a run did.
 #[derive(Drop)]
 pub struct Ran {
     pub counts: Counts,
-    /// The output that has the text.
-    pub output: Output,
+    /// The outputs that have the text, in order, without those whose files were left alone.
+    pub outputs: OutputList,
 }
 
 /// Why a run of a query stops. The fault of a plan is never want of memory.
@@ -16,6 +18,8 @@ pub struct Ran {
 pub enum RunFault {
     /// The query doesn't fit the columns of the logs.
     Plan(TypeFault),
+    /// An output is refused.
+    Refused(Refused),
     /// A call of the logs failed.
     LogsFault,
     /// A call of the stage failed.

@@ -4,24 +4,28 @@ ghost use Rattle.lp_model.specs.Outside.{Rose, OnlyGrow, Told, bytes_in};
 ghost use Rattle.delimited_input.specs.Separators.{IsRefused};
 ghost use Rattle.log_reading.specs.Page.{IsWithin};
 ghost use Rattle.log_reading.specs.Spans.{AllSpans, IsSpan, spans_size};
-ghost use Rattle.query_run.specs.Output.{kind_of, placed_at, reached, GainsText, GainsFront};
-ghost use Rattle.any_format.specs.Formats.{text_of};
+ghost use Rattle.any_format.specs.Wanted.{wanted_text};
+ghost use Rattle.text_output.specs.Output.{kind_of};
+ghost use Rattle.row_output.specs.Rows.{Holds, Stops};
+ghost use Rattle.row_output.specs.Sinks.{IsUnplaced, files_for};
 ghost use Rattle.query_tree.specs.Views.{query_of};
 ghost use Rattle.query_types.specs.Built.{is_built};
-ghost use Rattle.execution.specs.Executed.{IsExecuted, IsParseError, IsStopped, IsUnplanned, IsUntouched};
-ghost use Rattle.execution.specs.Faults.{IfParse, IfPlan};
+ghost use Rattle.execution.specs.Executed.{IsExecuted, IsMoment, IsParseError, IsStopped, IsUnplanned, IsUntouched};
+ghost use Rattle.execution.specs.Executed.{IsUnplaced as IsUnplacedRun};
+ghost use Rattle.sampled_run.specs.Finishes.{asked_by};
+ghost use Rattle.execution.specs.Faults.{IfParse, IfPlan, IfRefused};
 ghost use Rattle.execution.specs.declared.formats.LogFormat.TheVariants as F;
 
 use crate::errors::most_bad;
 use crate::{Ran, RunFault};
-use any_format::Format;
+use any_format::Wanted;
 use checkpoint::Spans;
 use command_words::Spec;
 use delimited_input::DelimitedOptions;
 use log_reading::TookList;
 use lp_outside::{Logs, Stage};
-use query_run::Target;
 use query_tree::Query;
+use row_output::Into;
 use sampled_run::{Moment, SampleFault, run_sampled};
 use std::alloc::Global;
 
@@ -35,20 +39,22 @@ pub(crate) fn execute_sampled<L: Logs, G: Stage>(
     moment: Moment,
     logs: &mut L,
     spans: &Spans,
-    output: Format,
-    target: Target,
+    wanted: Wanted,
+    into: Into,
     stage: &mut G,
 ) -> Result<Ran, RunFault>
     requires separator { ¬ IsRefused options.separator }
     requires built { is_built (query_of query.now) ≡ true }
+    requires moment { IsMoment moment.seconds }
+    requires none { IsUnplaced into }
     requires few { length spans.now ≤ 100000 }
     requires spans { AllSpans spans.now IsSpan }
     requires there { Told (L.folder logs.old) (λ folder. AllSpans spans.now (λ span. span.listed ≤ length (bytes_in folder span.name))) }
     ensures grows { OnlyGrow (L.folder logs.old) (L.folder logs.new) }
-    ensures ran { IfOk result (λ ran. IsExecuted (F.Sampled options limit) (L.folder logs.new) (λ text. GainsText (reached (kind_of G.state G.ended) target stage.old) (placed_at (kind_of G.state G.ended) target.output ran.output stage.new) text) (text_of output) spec.now moment.seconds (query_of query.now) spans.now ran.counts) }
+    ensures ran { IfOk result (λ ran. IsExecuted (F.Sampled options limit) (L.folder logs.new) (λ asked rows. Holds (kind_of G.state G.ended) asked stage.old rows ran.outputs stage.new) (asked_by (files_for into) (wanted_text wanted moment.seconds) (query_of query.now)) spec.now moment.seconds (query_of query.now) spans.now ran.counts) }
     ensures within { IfOk result (λ ran. IsWithin spec.now.errors ran.counts.bad) }
-    ensures ended { IfOk result (λ ran. G.ended stage.new ran.output.name ran.output.base ran.output.mark) }
-    ensures stopped { OnErr result (IsStopped (F.Sampled options limit) (L.folder logs.new) (stage.new ≡ stage.old) (λ text. GainsFront (reached (kind_of G.state G.ended) target stage.old) stage.new text) (text_of output) spec.now moment.seconds (query_of query.now) spans.now) }
+    ensures stopped { OnErr result (IsStopped (F.Sampled options limit) (L.folder logs.new) (stage.new ≡ stage.old) (λ asked rows. Stops (kind_of G.state G.ended) asked stage.old rows stage.new) (asked_by (files_for into) (wanted_text wanted moment.seconds) (query_of query.now)) spec.now moment.seconds (query_of query.now) spans.now) }
+    ensures refused { IfRefused result (IsUnplacedRun (F.Sampled options limit) (L.folder logs.new) (asked_by (files_for into) (wanted_text wanted moment.seconds) (query_of query.now)) spec.now moment.seconds (query_of query.now) spans.now) }
     ensures plan { IfPlan result (IsUnplanned (F.Sampled options limit) (L.folder logs.new) spec.now moment.seconds (query_of query.now) spans.now) }
     ensures before { IfPlan result (λ fault. IsUntouched (F.Sampled options limit) (L.folder logs.new) (stage.new ≡ stage.old) spec.now spans.now) }
     ensures parse { IfParse result (IsParseError (F.Sampled options limit) (L.folder logs.new) spec.now moment.seconds (query_of query.now) spans.now) }
@@ -66,23 +72,23 @@ pub(crate) fn execute_sampled<L: Logs, G: Stage>(
         limit,
         &spec.ts_format,
         moment,
-        output,
+        wanted,
+        into,
         query,
-        true,
         most_bad(spec.errors),
         false,
         logs,
         spans.as_slice(),
-        target,
         &mut took,
         stage,
     ) {
         Ok(run) => Ok(Ran {
             counts: run.counts,
-            output: run.output,
+            outputs: run.outputs,
         }),
         Err(SampleFault::Plan(fault)) => Err(RunFault::Plan(fault)),
         Err(SampleFault::Bad { log, row }) => Err(RunFault::ParseErrors { log, row }),
+        Err(SampleFault::Refused(why)) => Err(RunFault::Refused(why)),
         Err(SampleFault::Logs) => Err(RunFault::LogsFault),
         Err(SampleFault::Output) => Err(RunFault::StageFault),
         Err(SampleFault::Memory) => Err(RunFault::Memory),

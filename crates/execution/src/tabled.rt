@@ -3,28 +3,33 @@ ghost use Rattle.std.specs.Prelude.{◌≡◌, ◌≤◌, ◌+◌, true, length,
 ghost use Rattle.lp_model.specs.Outside.{Rose, OnlyGrow, Told, bytes_in};
 ghost use Rattle.log_reading.specs.Page.{IsWithin};
 ghost use Rattle.log_reading.specs.Spans.{AllSpans, IsSpan, spans_size};
-ghost use Rattle.query_run.specs.Output.{kind_of, placed_at, reached, GainsText, GainsFront};
-ghost use Rattle.any_format.specs.Formats.{text_of};
+ghost use Rattle.any_format.specs.Wanted.{wanted_text};
+ghost use Rattle.text_output.specs.Output.{kind_of};
+ghost use Rattle.row_output.specs.Rows.{Holds, Stops};
+ghost use Rattle.row_output.specs.Sinks.{IsUnplaced, files_for};
 ghost use Rattle.query_tree.specs.Views.{query_of};
 ghost use Rattle.query_types.specs.Built.{is_built};
-ghost use Rattle.execution.specs.Executed.{IsExecuted, IsParseError, IsStopped, IsUnplanned, IsUntouched};
-ghost use Rattle.execution.specs.Faults.{IfParse, IfPlan, unplanned};
+ghost use Rattle.execution.specs.Executed.{IsExecuted, IsMoment, IsParseError, IsStopped, IsUnplanned, IsUntouched};
+ghost use Rattle.execution.specs.Executed.{IsUnplaced as IsUnplacedRun};
+ghost use Rattle.sampled_run.specs.Finishes.{asked_by};
+ghost use Rattle.execution.specs.Faults.{IfParse, IfPlan, IfRefused, unplanned};
 ghost use Rattle.execution.specs.declared.formats.LogFormat.TheVariants as F;
 
 use crate::errors::most_bad;
 use crate::planning::plan_over;
 use crate::{Ran, RunFault};
-use any_format::Format;
+use any_format::Wanted;
 use checkpoint::Spans;
 use command_words::Spec;
 use input_tables::TableFormat;
-use log_reading::{RunFault as ReadFault, TookList};
+use log_reading::TookList;
 use lp_outside::{Logs, Stage};
 use plan_run::run_plan;
-use query_run::Target;
+use query_run::WriteFault;
 use query_tree::Query;
 use query_types::TypeFault;
-use sampled_run::{Moment, text_of_rows};
+use row_output::Into;
+use sampled_run::{Moment, output_of_rows};
 use std::alloc::Global;
 
 // Why a plan isn't made.
@@ -46,19 +51,21 @@ pub(crate) fn execute_tabled<L: Logs, G: Stage>(
     moment: Moment,
     logs: &mut L,
     spans: &Spans,
-    output: Format,
-    target: Target,
+    wanted: Wanted,
+    into: Into,
     stage: &mut G,
 ) -> Result<Ran, RunFault>
     requires built { is_built (query_of query.now) ≡ true }
+    requires moment { IsMoment moment.seconds }
+    requires none { IsUnplaced into }
     requires few { length spans.now ≤ 100000 }
     requires spans { AllSpans spans.now IsSpan }
     requires there { Told (L.folder logs.old) (λ folder. AllSpans spans.now (λ span. span.listed ≤ length (bytes_in folder span.name))) }
     ensures grows { OnlyGrow (L.folder logs.old) (L.folder logs.new) }
-    ensures ran { IfOk result (λ ran. IsExecuted (F.Tabled format) (L.folder logs.new) (λ text. GainsText (reached (kind_of G.state G.ended) target stage.old) (placed_at (kind_of G.state G.ended) target.output ran.output stage.new) text) (text_of output) spec.now moment.seconds (query_of query.now) spans.now ran.counts) }
+    ensures ran { IfOk result (λ ran. IsExecuted (F.Tabled format) (L.folder logs.new) (λ asked rows. Holds (kind_of G.state G.ended) asked stage.old rows ran.outputs stage.new) (asked_by (files_for into) (wanted_text wanted moment.seconds) (query_of query.now)) spec.now moment.seconds (query_of query.now) spans.now ran.counts) }
     ensures within { IfOk result (λ ran. IsWithin spec.now.errors ran.counts.bad) }
-    ensures ended { IfOk result (λ ran. G.ended stage.new ran.output.name ran.output.base ran.output.mark) }
-    ensures stopped { OnErr result (IsStopped (F.Tabled format) (L.folder logs.new) (stage.new ≡ stage.old) (λ text. GainsFront (reached (kind_of G.state G.ended) target stage.old) stage.new text) (text_of output) spec.now moment.seconds (query_of query.now) spans.now) }
+    ensures stopped { OnErr result (IsStopped (F.Tabled format) (L.folder logs.new) (stage.new ≡ stage.old) (λ asked rows. Stops (kind_of G.state G.ended) asked stage.old rows stage.new) (asked_by (files_for into) (wanted_text wanted moment.seconds) (query_of query.now)) spec.now moment.seconds (query_of query.now) spans.now) }
+    ensures refused { IfRefused result (IsUnplacedRun (F.Tabled format) (L.folder logs.new) (asked_by (files_for into) (wanted_text wanted moment.seconds) (query_of query.now)) spec.now moment.seconds (query_of query.now) spans.now) }
     ensures plan { IfPlan result (IsUnplanned (F.Tabled format) (L.folder logs.new) spec.now moment.seconds (query_of query.now) spans.now) }
     ensures before { IfPlan result (λ fault. IsUntouched (F.Tabled format) (L.folder logs.new) (stage.new ≡ stage.old) spec.now spans.now) }
     ensures parse { IfParse result (IsParseError (F.Tabled format) (L.folder logs.new) spec.now moment.seconds (query_of query.now) spans.now) }
@@ -73,32 +80,30 @@ pub(crate) fn execute_tabled<L: Logs, G: Stage>(
         Ok(plan) => plan,
         Err(fault) => return Err(unplanned(fault)),
     };
-    let Ok(text) = text_of_rows(alloc, output, query, &plan) else {
+    let Ok(output) = output_of_rows(alloc, wanted, moment, into, query, &plan) else {
         return Err(RunFault::Memory);
     };
     let mut took = TookList::new(alloc);
     match run_plan(
         alloc,
         format,
-        text,
+        output,
         plan,
-        true,
         false,
         logs,
         spans.as_slice(),
-        target,
         most_bad(spec.errors),
         &mut took,
         stage,
     ) {
         Ok(run) => Ok(Ran {
             counts: run.counts,
-            output: run.output,
+            outputs: run.outputs,
         }),
-        Err(ReadFault::Memory) => Err(RunFault::Memory),
-        Err(ReadFault::Logs) => Err(RunFault::LogsFault),
-        Err(ReadFault::Output) => Err(RunFault::StageFault),
-        Err(ReadFault::Stopped) => unreachable!(),
-        Err(ReadFault::Bad { log, row }) => Err(RunFault::ParseErrors { log, row }),
+        Err(WriteFault::Memory) => Err(RunFault::Memory),
+        Err(WriteFault::Logs) => Err(RunFault::LogsFault),
+        Err(WriteFault::Output) => Err(RunFault::StageFault),
+        Err(WriteFault::Refused(why)) => Err(RunFault::Refused(why)),
+        Err(WriteFault::Bad { log, row }) => Err(RunFault::ParseErrors { log, row }),
     }
 }

@@ -1,20 +1,15 @@
 // The text of a run, in the format that is asked for.
-ghost use Rattle.std.specs.Prelude.{◌≡◌, true, option_map, IsSome};
-ghost use Rattle.any_format.specs.Formats.{text_of};
+ghost use Rattle.std.specs.Prelude.{◌≡◌, ℤ, true, option_map, IsSome};
+ghost use Rattle.any_format.specs.Wanted.{wanted_text};
 ghost use Rattle.command_words.specs.declared.formats.OutputFormat.TheVariants as O;
 ghost use Rattle.query_tree.specs.Views.{placed_of, query_of};
-ghost use Rattle.execution.specs.Executed.{IsMoment};
 ghost use Rattle.execution.specs.Texts.{has_text, output_by_into, output_of, sections_in, text_as};
 
-use any_format::Format;
+use any_format::Wanted;
 use command_words::{OutputFormat, Spec};
-use output_formats::CsvOut;
 use query_tree::{Placed, Query};
-use sampled_run::Moment;
-use std::alloc::Global;
 use std::rc::Rc;
-use text_formats::{Nat, TsvOut, W3cOut};
-use tpl_output::{Template, Tpl};
+use tpl_output::Template;
 
 // The format by the INTO name.
 fn output_by_into(into: &Option<Placed>) -> OutputFormat
@@ -52,25 +47,18 @@ pub(crate) fn has_text(spec: &Spec, format: OutputFormat) -> bool
     }
 }
 
-/// The text in a format, as the words want it.
-pub(crate) fn text_as(
-    alloc: Global,
-    spec: &Spec,
-    format: OutputFormat,
-    template: Option<Rc<Template>>,
-    moment: Moment,
-) -> Format
+/// A format, with what the words say of it.
+pub(crate) fn wanted_as(spec: &Spec, format: OutputFormat, template: Option<Rc<Template>>) -> Wanted
     requires template { format ≡ O.Tpl → IsSome template }
-    requires moment { IsMoment moment.seconds }
-    ensures { text_of result ≡ text_as spec.now format (sections_in (λ t. t.value) template) moment.seconds }
+    ensures { (moment : ℤ) → wanted_text result moment ≡ text_as spec.now format (sections_in (λ t. t.value) template) moment }
 {
     match format {
-        OutputFormat::Nat => Format::Nat(Nat::new(alloc, spec.rtp, spec.headers)),
-        OutputFormat::Csv => Format::Csv(CsvOut::new(alloc, spec.headers)),
-        OutputFormat::Tsv => { Format::Tsv(TsvOut::new(alloc, spec.headers, spec.out_separator)) }
-        OutputFormat::W3c => Format::W3c(W3cOut::new(alloc, moment.seconds)),
+        OutputFormat::Nat => Wanted::Nat(spec.rtp, spec.headers),
+        OutputFormat::Csv => Wanted::Csv(spec.headers),
+        OutputFormat::Tsv => Wanted::Tsv(spec.headers, spec.out_separator),
+        OutputFormat::W3c => Wanted::W3c,
         OutputFormat::Tpl => match template {
-            Some(template) => Format::Tpl(Tpl::new(alloc, template, moment.seconds)),
+            Some(template) => Wanted::Tpl(template),
             None => unreachable!(),
         },
     }

@@ -7,12 +7,12 @@ logparser [options] query
 logparser [options] file:NAME
 
 Reads logs, runs an SQL-like query over their rows, and writes what it gives to standard
-output. Statistics and messages go to standard error.
+output or to files. Statistics and messages go to standard error.
 
 Query (or a file that holds it: file:NAME)
   SELECT * | value [AS name], ..    what is written
   [USING value AS name, ..]         names for values
-  [INTO STDOUT]
+  [INTO STDOUT | name]              a file; each * in its name takes a first column's value
   FROM log, ..                      names of files, * and ? in their last part
   [WHERE condition]                 = <> < > <= >=, [NOT] LIKE 'pattern', [NOT] IN (..),
                                     [NOT] BETWEEN .. AND .., IS [NOT] NULL, AND, OR, NOT,
@@ -49,6 +49,8 @@ Options, in any order and in any case
   -headers:OFF   no line of names (AUTO, ON)
   -rtp:N         NAT: a new table after N rows, 1 to 10000 (10); one of all rows (-1)
   -oSeparator:C  TSV output: what parts fields: space, tab, or another character (tab)
+  -fileMode:N    INTO files: 0 adds to a file, 1 writes it anew (1), 2 leaves it alone unless
+                 it is empty
   -stats:OFF     no statistics (ON)
   --help         alone: this text
   --version      alone: the version
@@ -76,11 +78,11 @@ Examples
   logparser -o:CSV \"SELECT DateTime, Request FROM nc1.log WHERE StatusCode >= 500\" | head
   logparser -o:CSV \"SELECT name, MUL(price, 2) AS twice FROM list.csv WHERE name LIKE 'a%'\"
 
-Not built yet, and answered so: INTO files, -iCheckpoint, COUNT and the like, GROUP BY, HAVING,
-subqueries, standard input.
+Not built yet, and answered so: -iCheckpoint, COUNT and the like, GROUP BY, HAVING, subqueries,
+standard input.
 
 The manual is docs/manual.md in the repository; docs/examples.md answers common questions.
 
-Status: 0 whole; 1 out of memory; 2 words, clock, or not built; 3 query; 4 logs, or the
-template; 5 read fault; 7 write fault; 8 too many lines that can't be read.
+Status: 0 whole; 1 out of memory; 2 words, clock, or not built; 3 query; 4 logs, outputs, or the
+template; 5 read fault; 6 disk fault; 7 write fault; 8 too many lines that can't be read.
 ";

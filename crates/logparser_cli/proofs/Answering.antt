@@ -1,14 +1,14 @@
 -- What the steps of a run make of its answer.
-use Rattle.std.proofs.Common.{◌≡◌, ◌⊎◌, ℕ, ℤ, ◌≤◌, false, List, Option, Err, refl, inl, inr, arith}
+use Rattle.std.proofs.Common.{◌≡◌, ◌⊎◌, ℕ, ℤ, ◌≤◌, Bool, true, false, List, Option, Err, refl, inl, inr, arith}
 use Rattle.grammar.specs.Trees as model
-use Rattle.lp_model.specs.Outside.{Folder, OnlyGrow, Gains, GainsSome, Rose}
+use Rattle.lp_model.specs.Outside.{Folder, OnlyGrow, Rose}
 use Rattle.checkpoint.specs.Wholes.{whole_spans}
 use Rattle.command_words.specs.declared.spec.Spec.{Spec}
-use Rattle.execution.specs.Executed.{IsExecuted, IsMoment, IsUntouched, Writes, text_in}
-use Rattle.execution.specs.Executed.{HoldsFront as HoldsSpans, IsParseError as IsExceeded, IsStopped as IsStoppedIn, IsUnplanned as IsUnplannedIn, WritesAll as WritesSpans}
+use Rattle.execution.specs.Executed.{IsExecuted, IsMoment, IsUntouched, Writes, rows_in}
+use Rattle.execution.specs.Executed.{HoldsFront as HoldsSpans, IsParseError as IsExceeded, IsStopped as IsStoppedIn, IsUnplaced as IsUnplacedIn, IsUnplanned as IsUnplannedIn, WritesAll as WritesSpans}
 use Rattle.execution.specs.Formats.{lines_in, log_format}
-use Rattle.execution.specs.Texts.{RowsText, run_text}
-use Rattle.execution.specs.Faults.{IfParse, IfPlan}
+use Rattle.execution.specs.Outputs.{asked_in}
+use Rattle.execution.specs.Faults.{IfParse, IfPlan, IfRefused}
 use Rattle.execution.specs.declared.fault.RunFault.{RunFault}
 use Rattle.execution.specs.declared.fault.RunFault.TheVariants as X
 use Rattle.log_reading.specs.declared.span.Span.{Span}
@@ -20,17 +20,23 @@ use Rattle.query_text.specs.declared.fault.QueryFault.TheVariants as Q
 use Rattle.query_types.specs.declared.fault.TypeFault.{TypeFault}
 use Rattle.query_types.specs.declared.table.TableColumns.{TableColumns}
 use Rattle.query_types.specs.Planned.{plan_of}
+use Rattle.order_top.specs.Finish.{Row}
+use Rattle.row_output.specs.Asked.{Asked}
+use Rattle.row_output.specs.Rows.{IsRefused as IsRefusedRow}
+use Rattle.row_output.specs.declared.fault.Refused.{Refused}
+use Rattle.row_output.specs.declared.fault.Refused.TheVariants as W
 use Rattle.log_listing.specs.declared.lengths.NameLength.{NameLength}
 use Rattle.reports.specs.declared.status.Status.{Status}
-use Rattle.reports.specs.declared.status.Status.TheVariants.{Done, Memory, Clock, Usage, Query, NotBuilt, NoSuchLog, BadName, TooManyLogs, Template, LogsFault, SinkFault, ParseErrors}
+use Rattle.reports.specs.declared.status.Status.TheVariants.{Done, Memory, Clock, Usage, Query, NotBuilt, NoSuchLog, BadName, NameClash, TooManyOutputs, TooManyLogs, Template, LogsFault, DiskFault, SinkFault, ParseErrors}
 use Rattle.reports.specs.Status.{OnRefused}
 use Rattle.requests.specs.Requests.{Asks, IsRefused}
 use Rattle.requests.specs.declared.fault.RequestFault.{RequestFault}
 use Rattle.requests.specs.declared.fault.RequestFault.TheVariants as R
 use Rattle.requests.proofs.Growing.{asks_grown}
 use Rattle.logparser_cli.specs.Logs.{AreSpans, IsUnlisted}
-use Rattle.logparser_cli.specs.Whole.{World, Tells, told_statistics, HoldsFront, IsFront, IsHalted, IsParseError, IsUnplanned, IsWhole, WritesAll}
-use Rattle.logparser_cli.specs.Answers.{IsStopped, IsUnplannable, AnswersBuilt, AnswersQuery, AnswersRun, IsUnasked, Answers, unasked, stopped}
+use Rattle.logparser_cli.specs.Outputs.{HasFront, HasWritten, IsUnwritten, OutputRose, World}
+use Rattle.logparser_cli.specs.Whole.{Tells, told_statistics, IsFront, IsHalted, IsParseError, IsUnplaced, IsUnplanned, IsWhole, OnRows, WritesAll}
+use Rattle.logparser_cli.specs.Answers.{IsStopped, IsUnplannable, AnswersBuilt, AnswersQuery, AnswersRun, IsUnasked, Answers, failed_output, unasked, unplaced, stopped}
 use Rattle.logparser_cli.specs.Templates.{IsTemplate, IsUntemplated, IsWithoutTemplate}
 use Rattle.requests.proofs.Templates.{template_grown, template_since, fault_since}
 use Rattle.tpl_output.specs.Sections.{Sections}
@@ -45,9 +51,12 @@ on_refused (Query fault) P p = p
 on_refused NotBuilt P p = p
 on_refused (NoSuchLog name) P p = p
 on_refused (BadName fault) P p = p
+on_refused (NameClash name) P p = p
+on_refused TooManyOutputs P p = p
 on_refused TooManyLogs P p = p
 on_refused (Template fault) P p = p
 on_refused LogsFault P p = p
+on_refused DiskFault P p = p
 on_refused SinkFault P p = p
 on_refused (ParseErrors log row) P p = p
 
@@ -56,101 +65,138 @@ pub rose_since : (a b c : ℕ) → a ≤ b → Rose b c → Rose a c
 rose_since a b c later rose = omega arith
 
 -- the FROM names list no logs
-pub unlisted_answers : (old new : World) (text : RowsText) (spec : Spec) (moment : ℤ) (q : model.Query) (status : Status) → IsUnlisted new.folder q status → new.out ≡ old.out → (status ≡ LogsFault → Rose old.logs_faults new.logs_faults) → AnswersRun old new text spec moment q status
-unlisted_answers old new text spec moment q Done is same rose = absurd is
-unlisted_answers old new text spec moment q Memory is same rose = inl same
-unlisted_answers old new text spec moment q (Clock at) is same rose = absurd is
-unlisted_answers old new text spec moment q (Usage fault) is same rose = absurd is
-unlisted_answers old new text spec moment q (Query fault) is same rose = absurd is
-unlisted_answers old new text spec moment q NotBuilt is same rose = absurd is
-unlisted_answers old new text spec moment q (NoSuchLog name) is same rose = (is, same)
-unlisted_answers old new text spec moment q (BadName fault) is same rose = (is, same)
-unlisted_answers old new text spec moment q TooManyLogs is same rose = (is, same)
-unlisted_answers old new text spec moment q (Template fault) is same rose = absurd is
-unlisted_answers old new text spec moment q LogsFault is same rose = (inl same, rose refl)
-unlisted_answers old new text spec moment q SinkFault is same rose = absurd is
-unlisted_answers old new text spec moment q (ParseErrors log row) is same rose = absurd is
+pub unlisted_answers : (old new : World) (template : Sections) (spec : Spec) (moment : ℤ) (q : model.Query) (status : Status) → IsUnlisted new.folder q status → IsUnwritten old.held new.held → (status ≡ LogsFault → Rose old.logs_faults new.logs_faults) → AnswersRun old new template spec moment q status
+unlisted_answers old new template spec moment q Done is same rose = absurd is
+unlisted_answers old new template spec moment q Memory is same rose = inl same
+unlisted_answers old new template spec moment q (Clock at) is same rose = absurd is
+unlisted_answers old new template spec moment q (Usage fault) is same rose = absurd is
+unlisted_answers old new template spec moment q (Query fault) is same rose = absurd is
+unlisted_answers old new template spec moment q NotBuilt is same rose = absurd is
+unlisted_answers old new template spec moment q (NoSuchLog name) is same rose = (is, same)
+unlisted_answers old new template spec moment q (BadName fault) is same rose = inl (is, same)
+unlisted_answers old new template spec moment q (NameClash name) is same rose = absurd is
+unlisted_answers old new template spec moment q TooManyOutputs is same rose = absurd is
+unlisted_answers old new template spec moment q TooManyLogs is same rose = (is, same)
+unlisted_answers old new template spec moment q (Template fault) is same rose = absurd is
+unlisted_answers old new template spec moment q LogsFault is same rose = (inl same, rose refl)
+unlisted_answers old new template spec moment q DiskFault is same rose = absurd is
+unlisted_answers old new template spec moment q SinkFault is same rose = absurd is
+unlisted_answers old new template spec moment q (ParseErrors log row) is same rose = absurd is
 
 -- a query was run over whole logs
-pub whole : (old new : World) (mid : Option Folder) (text : RowsText) (spec : Spec) (moment : ℤ) (q : model.Query) (spans : List Span) (counts : Counts) → AreSpans old.folder mid q spans → OnlyGrow mid new.folder
-    → IsExecuted (log_format spec q) new.folder (λ (t : List ℕ). Gains old.out new.out t) text spec moment q spans counts → IsWithin spec.errors counts.bad → Tells old.err new.err (told_statistics spec.stats counts) (Rose old.err_faults new.err_faults) → IsWhole old new text spec moment q
-whole old new mid text spec moment q spans counts found grow ran within told = record {
+pub whole : (old new : World) (mid : Option Folder) (template : Sections) (spec : Spec) (moment : ℤ) (q : model.Query) (spans : List Span) (counts : Counts) → AreSpans old.folder mid q spans → OnlyGrow mid new.folder
+    → IsExecuted (log_format spec q) new.folder (HasWritten old.held new.held) (asked_in spec template moment q spans) spec moment q spans counts → IsWithin spec.errors counts.bad → Tells old.err new.err (told_statistics spec.stats counts) (Rose old.err_faults new.err_faults) → IsWhole old new template spec moment q
+whole old new mid template spec moment q spans counts found grow ran within told = record {
   logs = found.logs;
   are_logs = logs_later old.folder mid new.folder q found.logs grow found.are_logs;
   counts = counts;
-  written = on_whole new.folder (log_format spec q) spec.ts_format found.logs spans (WritesSpans (log_format spec q) new.folder (λ (t : List ℕ). Gains old.out new.out t) text spec moment q spans counts) (WritesAll new.folder old.out new.out text spec moment q found.logs counts) found.wholes
+  written = on_whole new.folder (log_format spec q) spec.ts_format found.logs spans (WritesSpans (log_format spec q) new.folder (HasWritten old.held new.held) (asked_in spec template moment q spans) spec moment q spans counts) (WritesAll new.folder old.held new.held template spec moment q found.logs counts) found.wholes
       (λ table w. record {
         plan = w.plan;
         is_planned = w.is_planned;
-        written = whole_told new.folder (log_format spec q) found.logs spans (λ s folder. Writes (λ (t : List ℕ). Gains old.out new.out t) text spec q (log_format spec q) w.plan s counts folder) found.wholes w.written;
+        written = whole_told new.folder (log_format spec q) found.logs spans (λ s folder. Writes (HasWritten old.held new.held) (asked_in spec template moment q s) spec (log_format spec q) w.plan s counts folder) found.wholes w.written;
       })
       ran;
   within = within;
   told = told;
 }
 
--- nothing is written, or the front of the text
-front_of : (old new : World) (text : RowsText) (spec : Spec) (moment : ℤ) (q : model.Query) (logs : List NameLength) (spans : List Span) (table : TableColumns) → spans ≡ whole_spans logs
-    → (new.out ≡ old.out) ⊎ HoldsSpans (log_format spec q) new.folder (λ (t : List ℕ). GainsSome old.out new.out t) text spec moment q spans table → (new.out ≡ old.out) ⊎ HoldsFront new.folder old.out new.out text spec moment q logs table
-front_of old new text spec moment q logs spans table wholes (inl same) = inl same
-front_of old new text spec moment q logs spans table wholes (inr front) = inr (record {
-  plan = front.plan;
-  is_planned = front.is_planned;
-  front = whole_told new.folder (log_format spec q) logs spans (λ s folder. GainsSome old.out new.out (text_in text spec q (log_format spec q) front.plan folder s)) wholes front.front;
-})
+-- a fact on the rows of a plan over spans
+rows_of : (told : Option Folder) (P : Asked → List Row → Type 0) (template : Sections) (spec : Spec) (moment : ℤ) (q : model.Query) (logs : List NameLength) (spans : List Span) (table : TableColumns) → spans ≡ whole_spans logs
+    → HoldsSpans (log_format spec q) told P (asked_in spec template moment q spans) spec moment q spans table → OnRows told P template spec moment q logs table
+rows_of told P template spec moment q logs spans table wholes h = record {
+  plan = h.plan;
+  is_planned = h.is_planned;
+  holds = whole_told told (log_format spec q) logs spans (λ s folder. P (asked_in spec template moment q s h.plan) (rows_in (log_format spec q) spec.ts_format h.plan folder s)) wholes h.front;
+}
 
-stopped_front : (old new : World) (text : RowsText) (spec : Spec) (moment : ℤ) (q : model.Query) (logs : List NameLength) (spans : List Span) → spans ≡ whole_spans logs → IsStoppedIn (log_format spec q) new.folder (new.out ≡ old.out) (λ (t : List ℕ). GainsSome old.out new.out t) text spec moment q spans → IsFront new.folder old.out new.out text spec moment q logs
-stopped_front old new text spec moment q logs spans wholes stop =
-    on_whole new.folder (log_format spec q) spec.ts_format logs spans (λ table. (new.out ≡ old.out) ⊎ HoldsSpans (log_format spec q) new.folder (λ (t : List ℕ). GainsSome old.out new.out t) text spec moment q spans table)
-    (λ table. (new.out ≡ old.out) ⊎ HoldsFront new.folder old.out new.out text spec moment q logs table) wholes (λ table front. front_of old new text spec moment q logs spans table wholes front) stop
+-- nothing is written, or some of it
+front_of : (old new : World) (template : Sections) (spec : Spec) (moment : ℤ) (q : model.Query) (logs : List NameLength) (spans : List Span) (table : TableColumns) → spans ≡ whole_spans logs
+    → IsUnwritten old.held new.held ⊎ HoldsSpans (log_format spec q) new.folder (HasFront old.held new.held) (asked_in spec template moment q spans) spec moment q spans table → IsUnwritten old.held new.held ⊎ OnRows new.folder (HasFront old.held new.held) template spec moment q logs table
+front_of old new template spec moment q logs spans table wholes (inl same) = inl same
+front_of old new template spec moment q logs spans table wholes (inr front) = inr (rows_of new.folder (HasFront old.held new.held) template spec moment q logs spans table wholes front)
+
+-- the run stopped over these spans
+abbrev pub StopsOver : World → World → Sections → Spec → ℤ → model.Query → List Span → Type 0
+StopsOver old new template spec moment q spans = IsStoppedIn (log_format spec q) new.folder (IsUnwritten old.held new.held) (HasFront old.held new.held) (asked_in spec template moment q spans) spec moment q spans
+
+stopped_front : (old new : World) (template : Sections) (spec : Spec) (moment : ℤ) (q : model.Query) (logs : List NameLength) (spans : List Span) → spans ≡ whole_spans logs → StopsOver old new template spec moment q spans → IsFront new.folder old.held new.held template spec moment q logs
+stopped_front old new template spec moment q logs spans wholes stop =
+    on_whole new.folder (log_format spec q) spec.ts_format logs spans (λ table. IsUnwritten old.held new.held ⊎ HoldsSpans (log_format spec q) new.folder (HasFront old.held new.held) (asked_in spec template moment q spans) spec moment q spans table)
+    (λ table. IsUnwritten old.held new.held ⊎ OnRows new.folder (HasFront old.held new.held) template spec moment q logs table) wholes (λ table front. front_of old new template spec moment q logs spans table wholes front) stop
 
 -- it stopped
-halted : (old new : World) (mid : Option Folder) (text : RowsText) (spec : Spec) (moment : ℤ) (q : model.Query) (spans : List Span) → AreSpans old.folder mid q spans → OnlyGrow mid new.folder → IsStoppedIn (log_format spec q) new.folder (new.out ≡ old.out) (λ (t : List ℕ). GainsSome old.out new.out t) text spec moment q spans → IsHalted old.folder new.folder old.out new.out text spec moment q
-halted old new mid text spec moment q spans found grow stop = record {
+halted : (old new : World) (mid : Option Folder) (template : Sections) (spec : Spec) (moment : ℤ) (q : model.Query) (spans : List Span) → AreSpans old.folder mid q spans → OnlyGrow mid new.folder → StopsOver old new template spec moment q spans → IsHalted old.folder new.folder old.held new.held template spec moment q
+halted old new mid template spec moment q spans found grow stop = record {
   logs = found.logs;
   are_logs = logs_later old.folder mid new.folder q found.logs grow found.are_logs;
-  front = stopped_front old new text spec moment q found.logs spans found.wholes stop;
+  front = stopped_front old new template spec moment q found.logs spans found.wholes stop;
 }
 
 -- a bad line was one too many
-exceeded : (old new : World) (mid : Option Folder) (text : RowsText) (spec : Spec) (moment : ℤ) (q : model.Query) (spans : List Span) (line : BadLine) → AreSpans old.folder mid q spans → OnlyGrow mid new.folder
-    → IsStoppedIn (log_format spec q) new.folder (new.out ≡ old.out) (λ (t : List ℕ). GainsSome old.out new.out t) text spec moment q spans → IsExceeded (log_format spec q) new.folder spec moment q spans line → IsParseError old.folder new.folder old.out new.out text spec moment q line
-exceeded old new mid text spec moment q spans line found grow stop e = record {
+exceeded : (old new : World) (mid : Option Folder) (template : Sections) (spec : Spec) (moment : ℤ) (q : model.Query) (spans : List Span) (line : BadLine) → AreSpans old.folder mid q spans → OnlyGrow mid new.folder
+    → StopsOver old new template spec moment q spans → IsExceeded (log_format spec q) new.folder spec moment q spans line → IsParseError old.folder new.folder old.held new.held template spec moment q line
+exceeded old new mid template spec moment q spans line found grow stop e = record {
   logs = found.logs;
   are_logs = logs_later old.folder mid new.folder q found.logs grow found.are_logs;
   typed = e.typed;
   exceeds = whole_told new.folder (log_format spec q) found.logs spans (λ s folder. IsTooMany spec.errors 0 (spans_bad_lines (lines_in (log_format spec q)) false folder s) line) found.wholes e.exceeds;
-  front = stopped_front old new text spec moment q found.logs spans found.wholes stop;
+  front = stopped_front old new template spec moment q found.logs spans found.wholes stop;
 }
+
+-- an output was refused
+unplaced_is : (old new : World) (mid : Option Folder) (template : Sections) (spec : Spec) (moment : ℤ) (q : model.Query) (spans : List Span) (why : Refused) → AreSpans old.folder mid q spans → OnlyGrow mid new.folder
+    → StopsOver old new template spec moment q spans → IsUnplacedIn (log_format spec q) new.folder (asked_in spec template moment q spans) spec moment q spans why → IsUnplaced old.folder new.folder old.held new.held template spec moment q why
+unplaced_is old new mid template spec moment q spans why found grow stop refused = record {
+  logs = found.logs;
+  are_logs = logs_later old.folder mid new.folder q found.logs grow found.are_logs;
+  refused = on_whole new.folder (log_format spec q) spec.ts_format found.logs spans (HoldsSpans (log_format spec q) new.folder (λ asked rows. IsRefusedRow asked rows why) (asked_in spec template moment q spans) spec moment q spans)
+      (OnRows new.folder (λ asked rows. IsRefusedRow asked rows why) template spec moment q found.logs) found.wholes
+      (λ table h. rows_of new.folder (λ asked rows. IsRefusedRow asked rows why) template spec moment q found.logs spans table found.wholes h) refused;
+  front = stopped_front old new template spec moment q found.logs spans found.wholes stop;
+}
+
+unplaced_answers : (old new : World) (template : Sections) (spec : Spec) (moment : ℤ) (q : model.Query) (why : Refused) → IsUnplaced old.folder new.folder old.held new.held template spec moment q why → AnswersRun old new template spec moment q (unplaced why)
+unplaced_answers old new template spec moment q W.TooManyOutputs is = is
+unplaced_answers old new template spec moment q (W.BadName fault) is = inr is
+unplaced_answers old new template spec moment q (W.NameClash name) is = is
+
+-- a call of the outputs failed
+failed_answers : (old new : World) (template : Sections) (spec : Spec) (moment : ℤ) (q : model.Query) (standard : Bool) → IsStopped old new template spec moment q → OutputRose standard (Rose old.disk_faults new.disk_faults) (Rose old.out_faults new.out_faults)
+    → AnswersRun old new template spec moment q (failed_output standard)
+failed_answers old new template spec moment q true stop rose = (stop, rose)
+failed_answers old new template spec moment q false stop rose = (stop, rose)
 
 -- no plan was made
 unplanned : (old new : World) (mid : Option Folder) (spec : Spec) (moment : ℤ) (q : model.Query) (spans : List Span) (fault : TypeFault) → AreSpans old.folder mid q spans → OnlyGrow mid new.folder
-    → IsUnplannedIn (log_format spec q) new.folder spec moment q spans fault → IsUntouched (log_format spec q) new.folder (new.out ≡ old.out) spec spans → IsUnplanned old.folder new.folder old.out new.out spec moment q fault
+    → IsUnplannedIn (log_format spec q) new.folder spec moment q spans fault → IsUntouched (log_format spec q) new.folder (IsUnwritten old.held new.held) spec spans → IsUnplanned old.folder new.folder old.held new.held spec moment q fault
 unplanned old new mid spec moment q spans fault found grow plan before = record {
   logs = found.logs;
   are_logs = logs_later old.folder mid new.folder q found.logs grow found.are_logs;
   unplanned = on_whole new.folder (log_format spec q) spec.ts_format found.logs spans (λ table. plan_of table moment q ≡ Err fault) (λ table. plan_of table moment q ≡ Err fault) found.wholes (λ table is. is) plan;
-  unwritten = on_whole new.folder (log_format spec q) spec.ts_format found.logs spans (λ table. new.out ≡ old.out) (λ table. new.out ≡ old.out) found.wholes (λ table same. same) before;
+  unwritten = on_whole new.folder (log_format spec q) spec.ts_format found.logs spans (λ table. IsUnwritten old.held new.held) (λ table. IsUnwritten old.held new.held) found.wholes (λ table same. same) before;
 }
 
-pub stopped_answers : (old new : World) (mid : Option Folder) (text : RowsText) (spec : Spec) (moment : ℤ) (q : model.Query) (spans : List Span) (fault : RunFault) → AreSpans old.folder mid q spans → OnlyGrow mid new.folder
-    → IsStoppedIn (log_format spec q) new.folder (new.out ≡ old.out) (λ (t : List ℕ). GainsSome old.out new.out t) text spec moment q spans → IfPlan {T = Unit {0}} (Err fault) (IsUnplannedIn (log_format spec q) new.folder spec moment q spans)
-    → IfPlan {T = Unit {0}} (Err fault) (λ f. IsUntouched (log_format spec q) new.folder (new.out ≡ old.out) spec spans)
+pub stopped_answers : (old new : World) (mid : Option Folder) (template : Sections) (spec : Spec) (moment : ℤ) (q : model.Query) (spans : List Span) (standard : Bool) (fault : RunFault) → AreSpans old.folder mid q spans → OnlyGrow mid new.folder
+    → StopsOver old new template spec moment q spans → IfPlan {T = Unit {0}} (Err fault) (IsUnplannedIn (log_format spec q) new.folder spec moment q spans)
+    → IfPlan {T = Unit {0}} (Err fault) (λ f. IsUntouched (log_format spec q) new.folder (IsUnwritten old.held new.held) spec spans)
     → IfParse {T = Unit {0}} (Err fault) (IsExceeded (log_format spec q) new.folder spec moment q spans)
-    → (fault ≡ X.LogsFault → Rose old.logs_faults new.logs_faults) → (fault ≡ X.StageFault → Rose old.out_faults new.out_faults) → AnswersRun old new text spec moment q (stopped fault)
-stopped_answers old new mid text spec moment q spans (X.Plan fault) found grow stop plan before parse logs stage = unplanned old new mid spec moment q spans fault found grow plan before
-stopped_answers old new mid text spec moment q spans X.LogsFault found grow stop plan before parse logs stage = (inr (halted old new mid text spec moment q spans found grow stop), logs refl)
-stopped_answers old new mid text spec moment q spans X.StageFault found grow stop plan before parse logs stage = (inr (halted old new mid text spec moment q spans found grow stop), stage refl)
-stopped_answers old new mid text spec moment q spans (X.ParseErrors log row) found grow stop plan before parse logs stage = exceeded old new mid text spec moment q spans (bad_line log row) found grow stop parse
-stopped_answers old new mid text spec moment q spans X.Memory found grow stop plan before parse logs stage = inr (halted old new mid text spec moment q spans found grow stop)
+    → IfRefused {T = Unit {0}} (Err fault) (IsUnplacedIn (log_format spec q) new.folder (asked_in spec template moment q spans) spec moment q spans)
+    → (fault ≡ X.LogsFault → Rose old.logs_faults new.logs_faults) → (fault ≡ X.StageFault → OutputRose standard (Rose old.disk_faults new.disk_faults) (Rose old.out_faults new.out_faults)) → AnswersRun old new template spec moment q (stopped standard fault)
+stopped_answers old new mid template spec moment q spans standard (X.Plan fault) found grow stop plan before parse refused logs stage = unplanned old new mid spec moment q spans fault found grow plan before
+stopped_answers old new mid template spec moment q spans standard (X.Refused why) found grow stop plan before parse refused logs stage = unplaced_answers old new template spec moment q why (unplaced_is old new mid template spec moment q spans why found grow stop refused)
+stopped_answers old new mid template spec moment q spans standard X.LogsFault found grow stop plan before parse refused logs stage = (inr (halted old new mid template spec moment q spans found grow stop), logs refl)
+stopped_answers old new mid template spec moment q spans standard X.StageFault found grow stop plan before parse refused logs stage = failed_answers old new template spec moment q standard (inr (halted old new mid template spec moment q spans found grow stop)) (stage refl)
+stopped_answers old new mid template spec moment q spans standard (X.ParseErrors log row) found grow stop plan before parse refused logs stage = exceeded old new mid template spec moment q spans (bad_line log row) found grow stop parse
+stopped_answers old new mid template spec moment q spans standard X.Memory found grow stop plan before parse refused logs stage = inr (halted old new mid template spec moment q spans found grow stop)
 
 -- the same world with the logs as they were before
 abbrev with_logs : World → Option Folder → ℕ → World
-with_logs world folder faults = record { folder = folder; logs_faults = faults; out = world.out; out_faults = world.out_faults; err = world.err; err_faults = world.err_faults }
+with_logs world folder faults = record { folder = folder; logs_faults = faults; held = world.held; disk_faults = world.disk_faults; out_faults = world.out_faults; err = world.err; err_faults = world.err_faults }
 
-stop_earlier : (mid new : World) (before : Option Folder) (faults : ℕ) (text : RowsText) (spec : Spec) (moment : ℤ) (q : model.Query) → OnlyGrow before mid.folder → IsStopped mid new text spec moment q → IsStopped (with_logs mid before faults) new text spec moment q
-stop_earlier mid new before faults text spec moment q grow (inl same) = inl same
-stop_earlier mid new before faults text spec moment q grow (inr stop) = inr (record { logs = stop.logs; are_logs = logs_earlier before mid.folder new.folder q stop.logs grow stop.are_logs; front = stop.front })
+stop_earlier : (mid new : World) (before : Option Folder) (faults : ℕ) (template : Sections) (spec : Spec) (moment : ℤ) (q : model.Query) → OnlyGrow before mid.folder → IsStopped mid new template spec moment q → IsStopped (with_logs mid before faults) new template spec moment q
+stop_earlier mid new before faults template spec moment q grow (inl same) = inl same
+stop_earlier mid new before faults template spec moment q grow (inr stop) = inr (record { logs = stop.logs; are_logs = logs_earlier before mid.folder new.folder q stop.logs grow stop.are_logs; front = stop.front })
 
 unplannable_earlier : (mid new : World) (before : Option Folder) (faults : ℕ) (spec : Spec) (moment : ℤ) (q : model.Query) (fault : QueryFault) → OnlyGrow before mid.folder → IsUnplannable mid new spec moment q fault → IsUnplannable (with_logs mid before faults) new spec moment q fault
 unplannable_earlier mid new before faults spec moment q Q.TooLong grow s = absurd s
@@ -161,21 +207,28 @@ unplannable_earlier mid new before faults spec moment q (Q.StdinMisplaced at) gr
 unplannable_earlier mid new before faults spec moment q (Q.Plan fault) grow s =
     record { logs = s.logs; are_logs = logs_earlier before mid.folder new.folder q s.logs grow s.are_logs; unplanned = s.unplanned; unwritten = s.unwritten }
 
-run_earlier : (mid new : World) (before : Option Folder) (faults : ℕ) (text : RowsText) (spec : Spec) (moment : ℤ) (q : model.Query) (status : Status) → OnlyGrow before mid.folder → faults ≤ mid.logs_faults
-    → AnswersRun mid new text spec moment q status → AnswersRun (with_logs mid before faults) new text spec moment q status
-run_earlier mid new before faults text spec moment q Done grow later w = record { logs = w.logs; are_logs = logs_earlier before mid.folder new.folder q w.logs grow w.are_logs; counts = w.counts; written = w.written; within = w.within; told = w.told }
-run_earlier mid new before faults text spec moment q Memory grow later s = stop_earlier mid new before faults text spec moment q grow s
-run_earlier mid new before faults text spec moment q (Clock at) grow later s = absurd s
-run_earlier mid new before faults text spec moment q (Usage fault) grow later s = absurd s
-run_earlier mid new before faults text spec moment q (Query fault) grow later s = unplannable_earlier mid new before faults spec moment q fault grow s
-run_earlier mid new before faults text spec moment q NotBuilt grow later s = absurd s
-run_earlier mid new before faults text spec moment q (NoSuchLog name) grow later s = s
-run_earlier mid new before faults text spec moment q (BadName fault) grow later s = s
-run_earlier mid new before faults text spec moment q TooManyLogs grow later s = s
-run_earlier mid new before faults text spec moment q (Template fault) grow later s = absurd s
-run_earlier mid new before faults text spec moment q LogsFault grow later s = (stop_earlier mid new before faults text spec moment q grow s.0, rose_since faults mid.logs_faults new.logs_faults later s.1)
-run_earlier mid new before faults text spec moment q SinkFault grow later s = (stop_earlier mid new before faults text spec moment q grow s.0, s.1)
-run_earlier mid new before faults text spec moment q (ParseErrors log row) grow later s = record { logs = s.logs; are_logs = logs_earlier before mid.folder new.folder q s.logs grow s.are_logs; typed = s.typed; exceeds = s.exceeds; front = s.front }
+unplaced_earlier : (mid new : World) (before : Option Folder) (faults : ℕ) (template : Sections) (spec : Spec) (moment : ℤ) (q : model.Query) (why : Refused) → OnlyGrow before mid.folder → IsUnplaced mid.folder new.folder mid.held new.held template spec moment q why → IsUnplaced before new.folder mid.held new.held template spec moment q why
+unplaced_earlier mid new before faults template spec moment q why grow s = record { logs = s.logs; are_logs = logs_earlier before mid.folder new.folder q s.logs grow s.are_logs; refused = s.refused; front = s.front }
+
+run_earlier : (mid new : World) (before : Option Folder) (faults : ℕ) (template : Sections) (spec : Spec) (moment : ℤ) (q : model.Query) (status : Status) → OnlyGrow before mid.folder → faults ≤ mid.logs_faults
+    → AnswersRun mid new template spec moment q status → AnswersRun (with_logs mid before faults) new template spec moment q status
+run_earlier mid new before faults template spec moment q Done grow later w = record { logs = w.logs; are_logs = logs_earlier before mid.folder new.folder q w.logs grow w.are_logs; counts = w.counts; written = w.written; within = w.within; told = w.told }
+run_earlier mid new before faults template spec moment q Memory grow later s = stop_earlier mid new before faults template spec moment q grow s
+run_earlier mid new before faults template spec moment q (Clock at) grow later s = absurd s
+run_earlier mid new before faults template spec moment q (Usage fault) grow later s = absurd s
+run_earlier mid new before faults template spec moment q (Query fault) grow later s = unplannable_earlier mid new before faults spec moment q fault grow s
+run_earlier mid new before faults template spec moment q NotBuilt grow later s = absurd s
+run_earlier mid new before faults template spec moment q (NoSuchLog name) grow later s = s
+run_earlier mid new before faults template spec moment q (BadName fault) grow later (inl s) = inl s
+run_earlier mid new before faults template spec moment q (BadName fault) grow later (inr s) = inr (unplaced_earlier mid new before faults template spec moment q (W.BadName fault) grow s)
+run_earlier mid new before faults template spec moment q (NameClash name) grow later s = unplaced_earlier mid new before faults template spec moment q (W.NameClash name) grow s
+run_earlier mid new before faults template spec moment q TooManyOutputs grow later s = unplaced_earlier mid new before faults template spec moment q W.TooManyOutputs grow s
+run_earlier mid new before faults template spec moment q TooManyLogs grow later s = s
+run_earlier mid new before faults template spec moment q (Template fault) grow later s = absurd s
+run_earlier mid new before faults template spec moment q LogsFault grow later s = (stop_earlier mid new before faults template spec moment q grow s.0, rose_since faults mid.logs_faults new.logs_faults later s.1)
+run_earlier mid new before faults template spec moment q DiskFault grow later s = (stop_earlier mid new before faults template spec moment q grow s.0, s.1)
+run_earlier mid new before faults template spec moment q SinkFault grow later s = (stop_earlier mid new before faults template spec moment q grow s.0, s.1)
+run_earlier mid new before faults template spec moment q (ParseErrors log row) grow later s = record { logs = s.logs; are_logs = logs_earlier before mid.folder new.folder q s.logs grow s.are_logs; typed = s.typed; exceeds = s.exceeds; front = s.front }
 
 untemplated_since : (before mid now : Option Folder) (name : List ℕ) (status : Status) → OnlyGrow before mid → IsUntemplated mid now name status → IsUntemplated before now name status
 untemplated_since before mid now name Done grow s = s
@@ -186,9 +239,12 @@ untemplated_since before mid now name (Query fault) grow s = s
 untemplated_since before mid now name NotBuilt grow s = s
 untemplated_since before mid now name (NoSuchLog missing) grow s = s
 untemplated_since before mid now name (BadName fault) grow s = s
+untemplated_since before mid now name (NameClash clash) grow s = s
+untemplated_since before mid now name TooManyOutputs grow s = s
 untemplated_since before mid now name TooManyLogs grow s = s
 untemplated_since before mid now name (Template fault) grow s = fault_since before mid now name fault grow s
 untemplated_since before mid now name LogsFault grow s = s
+untemplated_since before mid now name DiskFault grow s = s
 untemplated_since before mid now name SinkFault grow s = s
 untemplated_since before mid now name (ParseErrors log row) grow s = s
 
@@ -207,20 +263,20 @@ built_earlier mid new before faults spec moment q status grow later (inl none) =
 built_earlier mid new before faults spec moment q status grow later (inr read) = inr (record {
   template = read.template;
   is_template = λ asked. let is = read.is_template asked in record { name = is.name; named = is.named; holds = template_since before mid.folder new.folder is.name read.template grow is.holds };
-  answers = run_earlier mid new before faults (run_text spec read.template moment q) spec moment q status grow later read.answers;
+  answers = run_earlier mid new before faults read.template spec moment q status grow later read.answers;
 })
 
 -- the template isn't read
-pub unread_answers : (old new : World) (spec : Spec) (moment : ℤ) (q : model.Query) (status : Status) → IsWithoutTemplate old.folder new.folder spec q status → new.out ≡ old.out → (status ≡ LogsFault → Rose old.logs_faults new.logs_faults) → AnswersBuilt old new spec moment q status
+pub unread_answers : (old new : World) (spec : Spec) (moment : ℤ) (q : model.Query) (status : Status) → IsWithoutTemplate old.folder new.folder spec q status → IsUnwritten old.held new.held → (status ≡ LogsFault → Rose old.logs_faults new.logs_faults) → AnswersBuilt old new spec moment q status
 unread_answers old new spec moment q status refused same rose = inl (record { refused = refused; unwritten = same; rose = rose })
 
 -- a template was read, and the query run over logs
 pub read_answers : (mid new : World) (before : Option Folder) (faults : ℕ) (spec : Spec) (moment : ℤ) (q : model.Query) (template : Sections) (status : Status) → OnlyGrow before mid.folder → faults ≤ mid.logs_faults → OnlyGrow mid.folder new.folder
-    → IsTemplate before mid.folder spec q template → AnswersRun mid new (run_text spec template moment q) spec moment q status → AnswersBuilt (with_logs mid before faults) new spec moment q status
+    → IsTemplate before mid.folder spec q template → AnswersRun mid new template spec moment q status → AnswersBuilt (with_logs mid before faults) new spec moment q status
 read_answers mid new before faults spec moment q template status grow later grew found answers = inr (record {
   template = template;
   is_template = λ asked. let is = found asked in record { name = is.name; named = is.named; holds = template_grown before mid.folder new.folder is.name template grew is.holds };
-  answers = run_earlier mid new before faults (run_text spec template moment q) spec moment q status grow later answers;
+  answers = run_earlier mid new before faults template spec moment q status grow later answers;
 })
 
 query_earlier : (mid new : World) (before : Option Folder) (faults : ℕ) (spec : Spec) (moment : ℤ) (q : model.Query) (status : Status) → OnlyGrow before mid.folder → faults ≤ mid.logs_faults
@@ -234,7 +290,7 @@ pub asked_answers : (mid new : World) (before : Option Folder) (faults : ℕ) (m
 asked_answers mid new before faults moment words spec q status now grow later grew asks answers =
     inr (now, inr (record { spec = spec; q = q; asks = asks_grown before mid.folder new.folder words spec q grew asks; answers = query_earlier mid new before faults spec moment q status grow later answers }))
 
-is_unasked : (old new : World) (words : List (List ℕ)) (fault : RequestFault) → IsRefused old.folder new.folder words fault → new.out ≡ old.out → (fault ≡ R.Logs → Rose old.logs_faults new.logs_faults) → IsUnasked old new words (unasked fault)
+is_unasked : (old new : World) (words : List (List ℕ)) (fault : RequestFault) → IsRefused old.folder new.folder words fault → IsUnwritten old.held new.held → (fault ≡ R.Logs → Rose old.logs_faults new.logs_faults) → IsUnasked old new words (unasked fault)
 is_unasked old new words (R.Usage fault) refused same rose = (refused, same)
 is_unasked old new words (R.BadName fault) refused same rose = (refused, same)
 is_unasked old new words (R.NoSuchLog name) refused same rose = (refused, same)
@@ -243,33 +299,36 @@ is_unasked old new words R.Logs refused same rose = (rose refl, same)
 is_unasked old new words R.Memory refused same rose = same
 
 -- the words ask for nothing that can be done
-pub unasked_answers : (old new : World) (moment : ℤ) (words : List (List ℕ)) (fault : RequestFault) → IsMoment moment → IsRefused old.folder new.folder words fault → new.out ≡ old.out → (fault ≡ R.Logs → Rose old.logs_faults new.logs_faults)
+pub unasked_answers : (old new : World) (moment : ℤ) (words : List (List ℕ)) (fault : RequestFault) → IsMoment moment → IsRefused old.folder new.folder words fault → IsUnwritten old.held new.held → (fault ≡ R.Logs → Rose old.logs_faults new.logs_faults)
     → Answers moment words old new (unasked fault)
 unasked_answers old new moment words fault now refused same rose = inr (now, inl (is_unasked old new words fault refused same rose))
 
 -- the same world with more told on `err`
 abbrev with_err : World → Option (List ℕ) → ℕ → World
-with_err world err faults = record { folder = world.folder; logs_faults = world.logs_faults; out = world.out; out_faults = world.out_faults; err = err; err_faults = faults }
+with_err world err faults = record { folder = world.folder; logs_faults = world.logs_faults; held = world.held; disk_faults = world.disk_faults; out_faults = world.out_faults; err = err; err_faults = faults }
 
-run_told : (old new : World) (err : Option (List ℕ)) (faults : ℕ) (text : RowsText) (spec : Spec) (moment : ℤ) (q : model.Query) (status : Status) → (status ≡ Done → ⊥) → AnswersRun old new text spec moment q status → AnswersRun old (with_err new err faults) text spec moment q status
-run_told old new err faults text spec moment q Done refused s = absurd (refused refl)
-run_told old new err faults text spec moment q Memory refused s = s
-run_told old new err faults text spec moment q (Clock at) refused s = s
-run_told old new err faults text spec moment q (Usage fault) refused s = s
-run_told old new err faults text spec moment q (Query fault) refused s = s
-run_told old new err faults text spec moment q NotBuilt refused s = s
-run_told old new err faults text spec moment q (NoSuchLog name) refused s = s
-run_told old new err faults text spec moment q (BadName fault) refused s = s
-run_told old new err faults text spec moment q TooManyLogs refused s = s
-run_told old new err faults text spec moment q (Template fault) refused s = s
-run_told old new err faults text spec moment q LogsFault refused s = s
-run_told old new err faults text spec moment q SinkFault refused s = s
-run_told old new err faults text spec moment q (ParseErrors log row) refused s = s
+run_told : (old new : World) (err : Option (List ℕ)) (faults : ℕ) (template : Sections) (spec : Spec) (moment : ℤ) (q : model.Query) (status : Status) → (status ≡ Done → ⊥) → AnswersRun old new template spec moment q status → AnswersRun old (with_err new err faults) template spec moment q status
+run_told old new err faults template spec moment q Done refused s = absurd (refused refl)
+run_told old new err faults template spec moment q Memory refused s = s
+run_told old new err faults template spec moment q (Clock at) refused s = s
+run_told old new err faults template spec moment q (Usage fault) refused s = s
+run_told old new err faults template spec moment q (Query fault) refused s = s
+run_told old new err faults template spec moment q NotBuilt refused s = s
+run_told old new err faults template spec moment q (NoSuchLog name) refused s = s
+run_told old new err faults template spec moment q (BadName fault) refused s = s
+run_told old new err faults template spec moment q (NameClash name) refused s = s
+run_told old new err faults template spec moment q TooManyOutputs refused s = s
+run_told old new err faults template spec moment q TooManyLogs refused s = s
+run_told old new err faults template spec moment q (Template fault) refused s = s
+run_told old new err faults template spec moment q LogsFault refused s = s
+run_told old new err faults template spec moment q DiskFault refused s = s
+run_told old new err faults template spec moment q SinkFault refused s = s
+run_told old new err faults template spec moment q (ParseErrors log row) refused s = s
 
 built_told : (old new : World) (err : Option (List ℕ)) (faults : ℕ) (spec : Spec) (moment : ℤ) (q : model.Query) (status : Status) → (status ≡ Done → ⊥) → AnswersBuilt old new spec moment q status → AnswersBuilt old (with_err new err faults) spec moment q status
 built_told old new err faults spec moment q status refused (inl none) = inl (record { refused = none.refused; unwritten = none.unwritten; rose = none.rose })
 built_told old new err faults spec moment q status refused (inr read) =
-    inr (record { template = read.template; is_template = read.is_template; answers = run_told old new err faults (run_text spec read.template moment q) spec moment q status refused read.answers })
+    inr (record { template = read.template; is_template = read.is_template; answers = run_told old new err faults read.template spec moment q status refused read.answers })
 
 query_told : (old new : World) (err : Option (List ℕ)) (faults : ℕ) (spec : Spec) (moment : ℤ) (q : model.Query) (status : Status) → (status ≡ Done → ⊥) → AnswersQuery old new spec moment q status → AnswersQuery old (with_err new err faults) spec moment q status
 query_told old new err faults spec moment q status refused (inl none) = inl none
@@ -284,9 +343,12 @@ unasked_told old new err faults words (Query fault) s = s
 unasked_told old new err faults words NotBuilt s = s
 unasked_told old new err faults words (NoSuchLog name) s = s
 unasked_told old new err faults words (BadName fault) s = s
+unasked_told old new err faults words (NameClash name) s = s
+unasked_told old new err faults words TooManyOutputs s = s
 unasked_told old new err faults words TooManyLogs s = s
 unasked_told old new err faults words (Template fault) s = s
 unasked_told old new err faults words LogsFault s = s
+unasked_told old new err faults words DiskFault s = s
 unasked_told old new err faults words SinkFault s = s
 unasked_told old new err faults words (ParseErrors log row) s = s
 
@@ -307,8 +369,11 @@ refused_is (Query fault) P refused p = p
 refused_is NotBuilt P refused p = p
 refused_is (NoSuchLog name) P refused p = p
 refused_is (BadName fault) P refused p = p
+refused_is (NameClash name) P refused p = p
+refused_is TooManyOutputs P refused p = p
 refused_is TooManyLogs P refused p = p
 refused_is (Template fault) P refused p = p
 refused_is LogsFault P refused p = p
+refused_is DiskFault P refused p = p
 refused_is SinkFault P refused p = p
 refused_is (ParseErrors log row) P refused p = p

@@ -1,4 +1,6 @@
 pub mod Given
 pub mod Wholes
 pub mod Answering
-mod Streamed
+mod Mapping
+mod Filed
+mod Written

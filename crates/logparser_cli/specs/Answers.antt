@@ -1,25 +1,27 @@
 -- What each answer of a run says.
-use Rattle.std.specs.Prelude.{◌≡◌, ◌⊎◌, ℕ, ℤ, true, false, List}
+use Rattle.std.specs.Prelude.{◌≡◌, ◌⊎◌, ℕ, ℤ, Bool, true, false, List}
 use Rattle.grammar.specs.Trees as model
 use Rattle.lp_model.specs.Outside.{Rose}
 use Rattle.command_words.specs.declared.spec.Spec.{Spec}
 use Rattle.execution.specs.Built.{all_built}
 use Rattle.execution.specs.Executed.{IsMoment}
-use Rattle.execution.specs.Texts.{RowsText, run_text}
 use Rattle.log_reading.specs.Spans.{bad_line}
 use Rattle.query_text.specs.declared.fault.QueryFault.{QueryFault}
 use Rattle.query_text.specs.declared.fault.QueryFault.TheVariants as Q
 use Rattle.reports.specs.declared.status.Status.{Status}
-use Rattle.reports.specs.declared.status.Status.TheVariants.{Done, Memory, Clock, Usage, Query, NotBuilt, NoSuchLog, BadName, TooManyLogs, Template, LogsFault, SinkFault, ParseErrors}
+use Rattle.reports.specs.declared.status.Status.TheVariants.{Done, Memory, Clock, Usage, Query, NotBuilt, NoSuchLog, BadName, NameClash, TooManyOutputs, TooManyLogs, Template, LogsFault, DiskFault, SinkFault, ParseErrors}
 use Rattle.requests.specs.Requests.{Asks, IsRefused}
 use Rattle.requests.specs.declared.fault.RequestFault.{RequestFault}
 use Rattle.requests.specs.declared.fault.RequestFault.TheVariants as R
 use Rattle.execution.specs.declared.fault.RunFault.{RunFault}
 use Rattle.execution.specs.declared.fault.RunFault.TheVariants as X
+use Rattle.row_output.specs.declared.fault.Refused.{Refused}
+use Rattle.row_output.specs.declared.fault.Refused.TheVariants as W
 use Rattle.tpl_output.specs.Sections.{Sections}
 use Rattle.logparser_cli.specs.Logs.{IsUnlisted}
 use Rattle.logparser_cli.specs.Templates.{IsTemplate, IsWithoutTemplate}
-use Rattle.logparser_cli.specs.Whole.{World, IsWhole, IsHalted, IsParseError, IsUnplanned, IsUnwritten}
+use Rattle.logparser_cli.specs.Outputs.{World, IsUnwritten}
+use Rattle.logparser_cli.specs.Whole.{IsWhole, IsHalted, IsParseError, IsUnplaced, IsUnplanned}
 
 -- the query's fault is one of its plan
 abbrev pub IsUnplannable : World → World → Spec → ℤ → model.Query → QueryFault → Type 0
@@ -28,39 +30,46 @@ IsUnplannable old new spec moment q Q.NotUtf8 = ⊥
 IsUnplannable old new spec moment q (Q.Lex fault) = ⊥
 IsUnplannable old new spec moment q (Q.Parse fault) = ⊥
 IsUnplannable old new spec moment q (Q.StdinMisplaced at) = ⊥
-IsUnplannable old new spec moment q (Q.Plan fault) = IsUnplanned old.folder new.folder old.out new.out spec moment q fault
+IsUnplannable old new spec moment q (Q.Plan fault) = IsUnplanned old.folder new.folder old.held new.held spec moment q fault
 
 -- the run stopped before it wrote anything, or while it wrote
-abbrev pub IsStopped : World → World → RowsText → Spec → ℤ → model.Query → Type 0
-IsStopped old new text spec moment q = IsUnwritten old new ⊎ IsHalted old.folder new.folder old.out new.out text spec moment q
+abbrev pub IsStopped : World → World → Sections → Spec → ℤ → model.Query → Type 0
+IsStopped old new template spec moment q = IsUnwritten old.held new.held ⊎ IsHalted old.folder new.folder old.held new.held template spec moment q
 
--- what an answer says of a run over logs whose rows have a text
-abbrev pub AnswersRun : World → World → RowsText → Spec → ℤ → model.Query → Status → Type 0
-AnswersRun old new text spec moment q Done = IsWhole old new text spec moment q
-AnswersRun old new text spec moment q Memory = IsStopped old new text spec moment q
-AnswersRun old new text spec moment q (Clock at) = ⊥
-AnswersRun old new text spec moment q (Usage fault) = ⊥
-AnswersRun old new text spec moment q (Query fault) = IsUnplannable old new spec moment q fault
-AnswersRun old new text spec moment q NotBuilt = ⊥
-AnswersRun old new text spec moment q (NoSuchLog name) = IsUnlisted new.folder q (NoSuchLog name) × IsUnwritten old new
-AnswersRun old new text spec moment q (BadName fault) = IsUnlisted new.folder q (BadName fault) × IsUnwritten old new
-AnswersRun old new text spec moment q TooManyLogs = IsUnlisted new.folder q TooManyLogs × IsUnwritten old new
-AnswersRun old new text spec moment q (Template fault) = ⊥
-AnswersRun old new text spec moment q LogsFault = IsStopped old new text spec moment q × Rose old.logs_faults new.logs_faults
-AnswersRun old new text spec moment q SinkFault = IsStopped old new text spec moment q × Rose old.out_faults new.out_faults
-AnswersRun old new text spec moment q (ParseErrors log row) = IsParseError old.folder new.folder old.out new.out text spec moment q (bad_line log row)
+-- the FROM names list no logs, and nothing was written
+abbrev pub IsWithoutLogs : World → World → model.Query → Status → Type 0
+IsWithoutLogs old new q status = IsUnlisted new.folder q status × IsUnwritten old.held new.held
+
+-- what an answer says of a run over logs, whose output is by a template of these sections or by none
+abbrev pub AnswersRun : World → World → Sections → Spec → ℤ → model.Query → Status → Type 0
+AnswersRun old new template spec moment q Done = IsWhole old new template spec moment q
+AnswersRun old new template spec moment q Memory = IsStopped old new template spec moment q
+AnswersRun old new template spec moment q (Clock at) = ⊥
+AnswersRun old new template spec moment q (Usage fault) = ⊥
+AnswersRun old new template spec moment q (Query fault) = IsUnplannable old new spec moment q fault
+AnswersRun old new template spec moment q NotBuilt = ⊥
+AnswersRun old new template spec moment q (NoSuchLog name) = IsWithoutLogs old new q (NoSuchLog name)
+AnswersRun old new template spec moment q (BadName fault) = IsWithoutLogs old new q (BadName fault) ⊎ IsUnplaced old.folder new.folder old.held new.held template spec moment q (W.BadName fault)
+AnswersRun old new template spec moment q (NameClash name) = IsUnplaced old.folder new.folder old.held new.held template spec moment q (W.NameClash name)
+AnswersRun old new template spec moment q TooManyOutputs = IsUnplaced old.folder new.folder old.held new.held template spec moment q W.TooManyOutputs
+AnswersRun old new template spec moment q TooManyLogs = IsWithoutLogs old new q TooManyLogs
+AnswersRun old new template spec moment q (Template fault) = ⊥
+AnswersRun old new template spec moment q LogsFault = IsStopped old new template spec moment q × Rose old.logs_faults new.logs_faults
+AnswersRun old new template spec moment q DiskFault = IsStopped old new template spec moment q × Rose old.disk_faults new.disk_faults
+AnswersRun old new template spec moment q SinkFault = IsStopped old new template spec moment q × Rose old.out_faults new.out_faults
+AnswersRun old new template spec moment q (ParseErrors log row) = IsParseError old.folder new.folder old.held new.held template spec moment q (bad_line log row)
 
 -- the template isn't read, and nothing was written
 pub record IsUnread (old new : World) (spec : Spec) (q : model.Query) (status : Status) : Type 0 where
   pub refused : IsWithoutTemplate old.folder new.folder spec q status
-  pub unwritten : IsUnwritten old new
+  pub unwritten : IsUnwritten old.held new.held
   pub rose : status ≡ LogsFault → Rose old.logs_faults new.logs_faults
 
--- the text is that of a template, where the output is by one
+-- the output is by a template where it is by one
 pub record IsRead (old new : World) (spec : Spec) (moment : ℤ) (q : model.Query) (status : Status) : Type 0 where
   pub template : Sections
   pub is_template : IsTemplate old.folder new.folder spec q template
-  pub answers : AnswersRun old new (run_text spec template moment q) spec moment q status
+  pub answers : AnswersRun old new template spec moment q status
 
 -- what an answer says of a query that is built
 abbrev pub AnswersBuilt : World → World → Spec → ℤ → model.Query → Status → Type 0
@@ -68,7 +77,7 @@ AnswersBuilt old new spec moment q status = IsUnread old new spec q status ⊎ I
 
 -- what an answer says of a query: that it isn't built, or what became of it
 abbrev pub AnswersQuery : World → World → Spec → ℤ → model.Query → Status → Type 0
-AnswersQuery old new spec moment q status = (all_built spec q ≡ false) × (status ≡ NotBuilt) × IsUnwritten old new ⊎ (all_built spec q ≡ true) × AnswersBuilt old new spec moment q status
+AnswersQuery old new spec moment q status = (all_built spec q ≡ false) × (status ≡ NotBuilt) × IsUnwritten old.held new.held ⊎ (all_built spec q ≡ true) × AnswersBuilt old new spec moment q status
 
 -- the words ask for these options and this query, of which the answer tells
 pub record Asked (moment : ℤ) (old new : World) (words : List (List ℕ)) (status : Status) : Type 0 where
@@ -80,16 +89,19 @@ pub record Asked (moment : ℤ) (old new : World) (words : List (List ℕ)) (sta
 -- the words ask for nothing that can be done, and the answer tells why
 abbrev pub IsUnasked : World → World → List (List ℕ) → Status → Type 0
 IsUnasked old new words Done = ⊥
-IsUnasked old new words Memory = IsUnwritten old new
+IsUnasked old new words Memory = IsUnwritten old.held new.held
 IsUnasked old new words (Clock at) = ⊥
-IsUnasked old new words (Usage fault) = IsRefused old.folder new.folder words (R.Usage fault) × IsUnwritten old new
-IsUnasked old new words (Query fault) = IsRefused old.folder new.folder words (R.Query fault) × IsUnwritten old new
+IsUnasked old new words (Usage fault) = IsRefused old.folder new.folder words (R.Usage fault) × IsUnwritten old.held new.held
+IsUnasked old new words (Query fault) = IsRefused old.folder new.folder words (R.Query fault) × IsUnwritten old.held new.held
 IsUnasked old new words NotBuilt = ⊥
-IsUnasked old new words (NoSuchLog name) = IsRefused old.folder new.folder words (R.NoSuchLog name) × IsUnwritten old new
-IsUnasked old new words (BadName fault) = IsRefused old.folder new.folder words (R.BadName fault) × IsUnwritten old new
+IsUnasked old new words (NoSuchLog name) = IsRefused old.folder new.folder words (R.NoSuchLog name) × IsUnwritten old.held new.held
+IsUnasked old new words (BadName fault) = IsRefused old.folder new.folder words (R.BadName fault) × IsUnwritten old.held new.held
+IsUnasked old new words (NameClash name) = ⊥
+IsUnasked old new words TooManyOutputs = ⊥
 IsUnasked old new words TooManyLogs = ⊥
 IsUnasked old new words (Template fault) = ⊥
-IsUnasked old new words LogsFault = Rose old.logs_faults new.logs_faults × IsUnwritten old new
+IsUnasked old new words LogsFault = Rose old.logs_faults new.logs_faults × IsUnwritten old.held new.held
+IsUnasked old new words DiskFault = ⊥
 IsUnasked old new words SinkFault = ⊥
 IsUnasked old new words (ParseErrors log row) = ⊥
 
@@ -97,7 +109,7 @@ IsUnasked old new words (ParseErrors log row) = ⊥
 pub record IsClock (moment : ℤ) (old new : World) (status : Status) : Type 0 where
   pub same : status ≡ Clock moment
   pub none : ¬ IsMoment moment
-  pub unwritten : IsUnwritten old new
+  pub unwritten : IsUnwritten old.held new.held
 
 -- what an answer says of words at a moment
 abbrev pub Answers : ℤ → List (List ℕ) → World → World → Status → Type 0
@@ -112,10 +124,22 @@ unasked (R.Query fault) = Query fault
 unasked R.Logs = LogsFault
 unasked R.Memory = Memory
 
--- what a run of a query is that stopped
-abbrev pub stopped : RunFault → Status
-stopped (X.Plan fault) = Query (Q.Plan fault)
-stopped X.LogsFault = LogsFault
-stopped X.StageFault = SinkFault
-stopped (X.ParseErrors log row) = ParseErrors log row
-stopped X.Memory = Memory
+-- why an output is refused, as an answer
+abbrev pub unplaced : Refused → Status
+unplaced W.TooManyOutputs = TooManyOutputs
+unplaced (W.BadName fault) = BadName fault
+unplaced (W.NameClash name) = NameClash name
+
+-- what a failed call of the outputs is: of standard output, or of the disk
+abbrev pub failed_output : Bool → Status
+failed_output true = SinkFault
+failed_output false = DiskFault
+
+-- what a run of a query is that stopped, whose rows go to standard output or not
+abbrev pub stopped : Bool → RunFault → Status
+stopped standard (X.Plan fault) = Query (Q.Plan fault)
+stopped standard (X.Refused why) = unplaced why
+stopped standard X.LogsFault = LogsFault
+stopped standard X.StageFault = failed_output standard
+stopped standard (X.ParseErrors log row) = ParseErrors log row
+stopped standard X.Memory = Memory

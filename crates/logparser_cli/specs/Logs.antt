@@ -12,7 +12,7 @@ use Rattle.log_listing.specs.Listed.{Lists, IsRefused}
 use Rattle.log_reading.specs.declared.span.Span.{Span}
 use Rattle.query_text.specs.Stdin.{names_in}
 use Rattle.reports.specs.declared.status.Status.{Status}
-use Rattle.reports.specs.declared.status.Status.TheVariants.{Done, Memory, Clock, Usage, Query, NotBuilt, NoSuchLog, BadName, TooManyLogs, Template, LogsFault, SinkFault, ParseErrors}
+use Rattle.reports.specs.declared.status.Status.TheVariants.{Done, Memory, Clock, Usage, Query, NotBuilt, NoSuchLog, BadName, NameClash, TooManyOutputs, TooManyLogs, Template, LogsFault, DiskFault, SinkFault, ParseErrors}
 
 -- the names behind FROM
 abbrev pub from_names : model.Query → List (List ℕ)
@@ -40,9 +40,12 @@ IsUnlisted now q (Query fault) = ⊥
 IsUnlisted now q NotBuilt = ⊥
 IsUnlisted now q (NoSuchLog name) = IsRefused now (from_names q) (L.NoSuchLog name)
 IsUnlisted now q (BadName fault) = IsRefused now (from_names q) (L.BadName fault)
+IsUnlisted now q (NameClash name) = ⊥
+IsUnlisted now q TooManyOutputs = ⊥
 IsUnlisted now q TooManyLogs = IsRefused now (from_names q) L.TooManyLogs
 IsUnlisted now q (Template fault) = ⊥
 IsUnlisted now q LogsFault = ⊤
+IsUnlisted now q DiskFault = ⊥
 IsUnlisted now q SinkFault = ⊥
 IsUnlisted now q (ParseErrors log row) = ⊥
 

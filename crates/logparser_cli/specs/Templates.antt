@@ -9,7 +9,7 @@ use Rattle.requests.specs.Templates.{HoldsTemplate, HoldsFault}
 use Rattle.requests.specs.declared.fault.NoTemplate.{NoTemplate}
 use Rattle.requests.specs.declared.fault.NoTemplate.TheVariants as N
 use Rattle.reports.specs.declared.status.Status.{Status}
-use Rattle.reports.specs.declared.status.Status.TheVariants.{Done, Memory, Clock, Usage, Query, NotBuilt, NoSuchLog, BadName, TooManyLogs, Template, LogsFault, SinkFault, ParseErrors}
+use Rattle.reports.specs.declared.status.Status.TheVariants.{Done, Memory, Clock, Usage, Query, NotBuilt, NoSuchLog, BadName, NameClash, TooManyOutputs, TooManyLogs, Template, LogsFault, DiskFault, SinkFault, ParseErrors}
 use Rattle.tpl_output.specs.Sections.{Sections}
 
 -- the file that `-tpl` names holds a template of these sections
@@ -32,9 +32,12 @@ IsUntemplated before now name (Query fault) = ⊥
 IsUntemplated before now name NotBuilt = ⊥
 IsUntemplated before now name (NoSuchLog missing) = (missing ≡ name) × Told now (λ folder. folder name ≡ None)
 IsUntemplated before now name (BadName fault) = ⊥
+IsUntemplated before now name (NameClash clash) = ⊥
+IsUntemplated before now name TooManyOutputs = ⊥
 IsUntemplated before now name TooManyLogs = ⊥
 IsUntemplated before now name (Template fault) = HoldsFault before now name fault
 IsUntemplated before now name LogsFault = ⊤
+IsUntemplated before now name DiskFault = ⊥
 IsUntemplated before now name SinkFault = ⊥
 IsUntemplated before now name (ParseErrors log row) = ⊥
 

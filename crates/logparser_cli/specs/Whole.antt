@@ -6,29 +6,26 @@ use Rattle.lp_model.specs.Report.{statistics}
 use Rattle.lp_time.specs.declared.piece.Piece.{Piece}
 use Rattle.command_words.specs.declared.spec.Spec.{Spec}
 use Rattle.checkpoint.specs.Wholes.{whole_spans}
-use Rattle.execution.specs.Executed.{IsTyped, Writes, text_in, told_table}
+use Rattle.execution.specs.Executed.{IsTyped, Writes, rows_in, told_table}
 use Rattle.execution.specs.Formats.{lines_in, log_format}
-use Rattle.execution.specs.Texts.{RowsText}
+use Rattle.execution.specs.Outputs.{asked_in}
 use Rattle.execution.specs.declared.formats.LogFormat.{LogFormat}
 use Rattle.execution.specs.declared.formats.LogFormat.TheVariants as F
 use Rattle.input_tables.specs.Tables.{table_of}
 use Rattle.log_listing.specs.declared.lengths.NameLength.{NameLength}
 use Rattle.log_reading.specs.Page.{IsTooMany, IsWithin}
 use Rattle.log_reading.specs.Spans.{BadLine, spans_bad_lines}
+use Rattle.order_top.specs.Finish.{Row}
 use Rattle.query_run.specs.declared.executing.Counts.{Counts}
 use Rattle.query_types.specs.declared.fault.TypeFault.{TypeFault}
 use Rattle.query_types.specs.declared.table.TableColumns.{TableColumns}
 use Rattle.query_types.specs.Planned.{Planned, plan_of}
+use Rattle.row_output.specs.Asked.{Asked}
+use Rattle.row_output.specs.Rows.{IsRefused}
+use Rattle.row_output.specs.declared.fault.Refused.{Refused}
+use Rattle.tpl_output.specs.Sections.{Sections}
 use Rattle.logparser_cli.specs.Logs.{AreLogs}
-
--- what is known of the outside at one moment: the logs' files, what the two outputs have, and how often each has failed
-pub record World : Type 0 where
-  pub folder : Option Folder
-  pub logs_faults : ℕ
-  pub out : Option (List ℕ)
-  pub out_faults : ℕ
-  pub err : Option (List ℕ)
-  pub err_faults : ℕ
+use Rattle.logparser_cli.specs.Outputs.{Held, World, IsUnwritten, HasWritten, HasFront}
 
 -- a fact on the table of a run over whole logs; one that the logs tell is known where these tell their bytes
 abbrev pub OnWhole : LogFormat → List Piece → Option Folder → List NameLength → (TableColumns → Type 0) → Type 0
@@ -44,53 +41,57 @@ abbrev pub told_statistics : Bool → Counts → List ℕ
 told_statistics true counts = statistics counts.processed counts.output counts.bad
 told_statistics false counts = []
 
--- the output gains the text of the rows of the query's plan over a table
-pub record WritesAll (told : Option Folder) (before now : Option (List ℕ)) (text : RowsText) (spec : Spec) (moment : ℤ) (q : model.Query) (logs : List NameLength) (counts : Counts) (table : TableColumns) : Type 0 where
+-- the rows of the query's plan over a table are written
+pub record WritesAll (told : Option Folder) (old new : Held) (template : Sections) (spec : Spec) (moment : ℤ) (q : model.Query) (logs : List NameLength) (counts : Counts) (table : TableColumns) : Type 0 where
   pub plan : Planned
   pub is_planned : plan_of table moment q ≡ Ok plan
-  pub written : Told told (Writes (λ (t : List ℕ). Gains before now t) text spec q (log_format spec q) plan (whole_spans logs) counts)
+  pub written : Told told (Writes (HasWritten old new) (asked_in spec template moment q (whole_spans logs)) spec (log_format spec q) plan (whole_spans logs) counts)
 
--- a whole run: the output gains the text of what the query leaves of its rows over the whole logs, and the other output the
--- statistics; of bad lines there were no more than there may be
-pub record IsWhole (old new : World) (text : RowsText) (spec : Spec) (moment : ℤ) (q : model.Query) : Type 0 where
+-- a whole run: what the query leaves of its rows over the whole logs is written, and `err` has gained the statistics; of bad
+-- lines there were no more than there may be
+pub record IsWhole (old new : World) (template : Sections) (spec : Spec) (moment : ℤ) (q : model.Query) : Type 0 where
   pub logs : List NameLength
   pub are_logs : AreLogs old.folder new.folder q logs
   pub counts : Counts
-  pub written : OnWhole (log_format spec q) spec.ts_format new.folder logs (WritesAll new.folder old.out new.out text spec moment q logs counts)
+  pub written : OnWhole (log_format spec q) spec.ts_format new.folder logs (WritesAll new.folder old.held new.held template spec moment q logs counts)
   pub within : IsWithin spec.errors counts.bad
   pub told : Tells old.err new.err (told_statistics spec.stats counts) (Rose old.err_faults new.err_faults)
 
--- the output holds the front of that text
-pub record HoldsFront (told : Option Folder) (before now : Option (List ℕ)) (text : RowsText) (spec : Spec) (moment : ℤ) (q : model.Query) (logs : List NameLength) (table : TableColumns) : Type 0 where
+-- a fact on the rows of the query's plan over a table, and on what is asked of them
+pub record OnRows (told : Option Folder) (P : Asked → List Row → Type 0) (template : Sections) (spec : Spec) (moment : ℤ) (q : model.Query) (logs : List NameLength) (table : TableColumns) : Type 0 where
   pub plan : Planned
   pub is_planned : plan_of table moment q ≡ Ok plan
-  pub front : Told told (λ folder. GainsSome before now (text_in text spec q (log_format spec q) plan folder (whole_spans logs)))
+  pub holds : Told told (λ folder. P (asked_in spec template moment q (whole_spans logs) plan) (rows_in (log_format spec q) spec.ts_format plan folder (whole_spans logs)))
 
--- nothing was written, or the front of the text
-abbrev pub IsFront : Option Folder → Option (List ℕ) → Option (List ℕ) → RowsText → Spec → ℤ → model.Query → List NameLength → Type 0
-IsFront told before now text spec moment q logs = OnWhole (log_format spec q) spec.ts_format told logs (λ table. (now ≡ before) ⊎ HoldsFront told before now text spec moment q logs table)
+-- nothing was written, or some of it
+abbrev pub IsFront : Option Folder → Held → Held → Sections → Spec → ℤ → model.Query → List NameLength → Type 0
+IsFront now old new template spec moment q logs =
+    OnWhole (log_format spec q) spec.ts_format now logs (λ table. IsUnwritten old new ⊎ OnRows now (HasFront old new) template spec moment q logs table)
 
 -- a run over logs stopped
-pub record IsHalted (before now : Option Folder) (out_before out_now : Option (List ℕ)) (text : RowsText) (spec : Spec) (moment : ℤ) (q : model.Query) : Type 0 where
+pub record IsHalted (before now : Option Folder) (old new : Held) (template : Sections) (spec : Spec) (moment : ℤ) (q : model.Query) : Type 0 where
   pub logs : List NameLength
   pub are_logs : AreLogs before now q logs
-  pub front : IsFront now out_before out_now text spec moment q logs
+  pub front : IsFront now old new template spec moment q logs
 
 -- of the bad lines of the whole logs, in order, this is the first that is one too many
-pub record IsParseError (before now : Option Folder) (out_before out_now : Option (List ℕ)) (text : RowsText) (spec : Spec) (moment : ℤ) (q : model.Query) (line : BadLine) : Type 0 where
+pub record IsParseError (before now : Option Folder) (old new : Held) (template : Sections) (spec : Spec) (moment : ℤ) (q : model.Query) (line : BadLine) : Type 0 where
   pub logs : List NameLength
   pub are_logs : AreLogs before now q logs
   pub typed : IsTyped (log_format spec q) moment q
   pub exceeds : Told now (λ folder. IsTooMany spec.errors 0 (spans_bad_lines (lines_in (log_format spec q)) false folder (whole_spans logs)) line)
-  pub front : IsFront now out_before out_now text spec moment q logs
+  pub front : IsFront now old new template spec moment q logs
+
+-- an output of the rows is refused by this fault
+pub record IsUnplaced (before now : Option Folder) (old new : Held) (template : Sections) (spec : Spec) (moment : ℤ) (q : model.Query) (why : Refused) : Type 0 where
+  pub logs : List NameLength
+  pub are_logs : AreLogs before now q logs
+  pub refused : OnWhole (log_format spec q) spec.ts_format now logs (OnRows now (λ asked rows. IsRefused asked rows why) template spec moment q logs)
+  pub front : IsFront now old new template spec moment q logs
 
 -- the query has no plan, by this fault, and nothing was written
-pub record IsUnplanned (before now : Option Folder) (out_before out_now : Option (List ℕ)) (spec : Spec) (moment : ℤ) (q : model.Query) (fault : TypeFault) : Type 0 where
+pub record IsUnplanned (before now : Option Folder) (old new : Held) (spec : Spec) (moment : ℤ) (q : model.Query) (fault : TypeFault) : Type 0 where
   pub logs : List NameLength
   pub are_logs : AreLogs before now q logs
   pub unplanned : OnWhole (log_format spec q) spec.ts_format now logs (λ table. plan_of table moment q ≡ Err fault)
-  pub unwritten : OnWhole (log_format spec q) spec.ts_format now logs (λ table. out_now ≡ out_before)
-
--- nothing was written
-abbrev pub IsUnwritten : World → World → Type 0
-IsUnwritten old new = new.out ≡ old.out
+  pub unwritten : OnWhole (log_format spec q) spec.ts_format now logs (λ table. IsUnwritten old new)

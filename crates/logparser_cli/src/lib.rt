@@ -7,6 +7,7 @@
 mod listing;
 mod running;
 mod template;
+mod writing;
 
 pub use reports::Status;
 pub use running::run;

@@ -6,18 +6,21 @@ ghost use Rattle.command_words.specs.declared.formats.OutputFormat.TheVariants a
 ghost use Rattle.query_tree.specs.Views.{query_of};
 ghost use Rattle.execution.specs.Built.{all_built};
 ghost use Rattle.execution.specs.Executed.{IsMoment};
-ghost use Rattle.execution.specs.Texts.{output_of, run_text, sections_in};
+ghost use Rattle.execution.specs.Texts.{output_of, sections_in};
+ghost use Rattle.file_stage.specs.FileTexts.{AlwaysTells};
 ghost use Rattle.reports.specs.Messages.{message};
 ghost use Rattle.reports.specs.Status.{OnRefused};
-ghost use Rattle.logparser_cli.specs.Answers.{Answers, AnswersBuilt, AnswersQuery, AnswersRun, stopped, unasked};
+ghost use Rattle.logparser_cli.specs.Answers.{Answers, AnswersBuilt, AnswersQuery, AnswersRun, stopped, unasked, unplaced};
 ghost use Rattle.logparser_cli.specs.Given.{ReadsLogs, ReadsQuery, ReadsWords};
-ghost use Rattle.logparser_cli.specs.Whole.{World, Tells, told_statistics};
+ghost use Rattle.logparser_cli.specs.Outputs.{held, world};
+ghost use Rattle.logparser_cli.specs.Whole.{Tells, told_statistics};
 
 use crate::Status;
 use crate::listing::find_spans;
 use crate::template::find_template;
+use crate::writing::write_rows;
 use command_words::Spec;
-use execution::{RunFault, all_built, execute};
+use execution::{RunFault, all_built, is_standard};
 use lp_outside::{Disk, Logs, Sink, Source};
 use lp_values::TextList;
 use query_run::Counts;
@@ -25,6 +28,7 @@ use query_text::QueryFault;
 use query_tree::Query;
 use reports::{write_message, write_statistics};
 use requests::{RequestFault, read_request};
+use row_output::Refused;
 use std::alloc::Global;
 use std::rc::Rc;
 use tpl_output::Template;
@@ -45,14 +49,32 @@ fn unasked(fault: RequestFault) -> Status
     }
 }
 
-// What a run of a query is that stopped.
-fn stopped(fault: RunFault) -> Status
-    ensures { result ≡ stopped fault }
+// Why an output is refused.
+fn unplaced(why: Refused) -> Status
+    ensures { result ≡ unplaced why }
+{
+    match why {
+        Refused::TooManyOutputs => Status::TooManyOutputs,
+        Refused::BadName(fault) => Status::BadName(fault),
+        Refused::NameClash(name) => Status::NameClash(name),
+    }
+}
+
+// What a run of a query is that stopped, whose rows go to standard output or not.
+fn stopped(standard: bool, fault: RunFault) -> Status
+    ensures { result ≡ stopped standard fault }
 {
     match fault {
         RunFault::Plan(fault) => Status::Query(QueryFault::Plan(fault)),
+        RunFault::Refused(why) => unplaced(why),
         RunFault::LogsFault => Status::LogsFault,
-        RunFault::StageFault => Status::SinkFault,
+        RunFault::StageFault => {
+            if standard {
+                Status::SinkFault
+            } else {
+                Status::DiskFault
+            }
+        }
         RunFault::ParseErrors { log, row } => Status::ParseErrors { log, row },
         RunFault::Memory => Status::Memory,
     }
@@ -83,13 +105,14 @@ fn tell_refusal<E: Sink>(err: &mut E, status: &Status)
 }
 
 // Runs a query over the logs of its FROM names, before a refusal is told.
-fn run_logs<L: Logs, I: Source, S: Sink, E: Sink>(
+fn run_logs<L: Logs, D: Disk, I: Source, S: Sink, E: Sink>(
     alloc: Global,
     spec: &Spec,
     query: &Query,
     template: Option<Rc<Template>>,
     moment: i64,
     logs: &mut L,
+    disk: &mut D,
     input: &mut I,
     out: &mut S,
     err: &mut E,
@@ -100,12 +123,14 @@ fn run_logs<L: Logs, I: Source, S: Sink, E: Sink>(
     requires built { all_built spec.now (query_of query.now) ≡ true }
     ensures grows { OnlyGrow (L.folder logs.old) (L.folder logs.new) }
     ensures later { L.faults logs.old ≤ L.faults logs.new }
+    ensures honest { (D.state disk.old).honest → (D.state disk.new).honest }
+    ensures later_disk { D.faults disk.old ≤ D.faults disk.new }
     ensures later_out { S.faults out.old ≤ S.faults out.new }
     ensures later_err { E.faults err.old ≤ E.faults err.new }
     ensures answers { AnswersRun
-        (record { folder = L.folder logs.old; logs_faults = L.faults logs.old; out = S.written out.old; out_faults = S.faults out.old; err = E.written err.old; err_faults = E.faults err.old })
-        (record { folder = L.folder logs.new; logs_faults = L.faults logs.new; out = S.written out.new; out_faults = S.faults out.new; err = E.written err.new; err_faults = E.faults err.new })
-        (run_text spec.now (sections_in (λ t. t.value) template) moment (query_of query.now)) spec.now moment (query_of query.now) result }
+        (world (L.folder logs.old) (L.faults logs.old) (held (AlwaysTells D.state) (D.state disk.old).seen (S.written out.old)) (D.faults disk.old) (S.faults out.old) (E.written err.old) (E.faults err.old))
+        (world (L.folder logs.new) (L.faults logs.new) (held (AlwaysTells D.state) (D.state disk.new).seen (S.written out.new)) (D.faults disk.new) (S.faults out.new) (E.written err.new) (E.faults err.new))
+        (sections_in (λ t. t.value) template) spec.now moment (query_of query.now) result }
     ensures given { ReadsLogs (L.folder logs.new) (query_of query.now) (L.given logs.old) (L.given logs.new) }
     ensures input { input.new ≡ input.old }
     ensures silent { OnRefused result (err.new ≡ err.old) }
@@ -114,24 +139,25 @@ fn run_logs<L: Logs, I: Source, S: Sink, E: Sink>(
         Ok(spans) => spans,
         Err(status) => return status,
     };
-    match execute(
-        alloc, spec, query, template, moment, logs, input, &spans, out,
+    match write_rows(
+        alloc, spec, query, template, moment, logs, disk, input, &spans, out,
     ) {
         Ok(ran) => {
             tell_statistics(err, spec.stats, &ran.counts);
             Status::Done
         }
-        Err(fault) => stopped(fault),
+        Err(fault) => stopped(is_standard(query), fault),
     }
 }
 
 // Runs a query that is built, before a refusal is told.
-fn run_built<L: Logs, I: Source, S: Sink, E: Sink>(
+fn run_built<L: Logs, D: Disk, I: Source, S: Sink, E: Sink>(
     alloc: Global,
     spec: &Spec,
     query: &Query,
     moment: i64,
     logs: &mut L,
+    disk: &mut D,
     input: &mut I,
     out: &mut S,
     err: &mut E,
@@ -141,11 +167,13 @@ fn run_built<L: Logs, I: Source, S: Sink, E: Sink>(
     requires built { all_built spec.now (query_of query.now) ≡ true }
     ensures grows { OnlyGrow (L.folder logs.old) (L.folder logs.new) }
     ensures later { L.faults logs.old ≤ L.faults logs.new }
+    ensures honest { (D.state disk.old).honest → (D.state disk.new).honest }
+    ensures later_disk { D.faults disk.old ≤ D.faults disk.new }
     ensures later_out { S.faults out.old ≤ S.faults out.new }
     ensures later_err { E.faults err.old ≤ E.faults err.new }
     ensures answers { AnswersBuilt
-        (record { folder = L.folder logs.old; logs_faults = L.faults logs.old; out = S.written out.old; out_faults = S.faults out.old; err = E.written err.old; err_faults = E.faults err.old })
-        (record { folder = L.folder logs.new; logs_faults = L.faults logs.new; out = S.written out.new; out_faults = S.faults out.new; err = E.written err.new; err_faults = E.faults err.new })
+        (world (L.folder logs.old) (L.faults logs.old) (held (AlwaysTells D.state) (D.state disk.old).seen (S.written out.old)) (D.faults disk.old) (S.faults out.old) (E.written err.old) (E.faults err.old))
+        (world (L.folder logs.new) (L.faults logs.new) (held (AlwaysTells D.state) (D.state disk.new).seen (S.written out.new)) (D.faults disk.new) (S.faults out.new) (E.written err.new) (E.faults err.new))
         spec.now moment (query_of query.now) result }
     ensures given { ReadsQuery (L.folder logs.new) spec.now (query_of query.now) (L.given logs.old) (L.given logs.new) }
     ensures input { input.new ≡ input.old }
@@ -155,16 +183,19 @@ fn run_built<L: Logs, I: Source, S: Sink, E: Sink>(
         Ok(template) => template,
         Err(status) => return status,
     };
-    run_logs(alloc, spec, query, template, moment, logs, input, out, err)
+    run_logs(
+        alloc, spec, query, template, moment, logs, disk, input, out, err,
+    )
 }
 
 // Runs a query, before a refusal is told.
-fn run_query<L: Logs, I: Source, S: Sink, E: Sink>(
+fn run_query<L: Logs, D: Disk, I: Source, S: Sink, E: Sink>(
     alloc: Global,
     spec: &Spec,
     query: &Query,
     moment: i64,
     logs: &mut L,
+    disk: &mut D,
     input: &mut I,
     out: &mut S,
     err: &mut E,
@@ -173,39 +204,44 @@ fn run_query<L: Logs, I: Source, S: Sink, E: Sink>(
     requires range { IsInRange spec.now }
     ensures grows { OnlyGrow (L.folder logs.old) (L.folder logs.new) }
     ensures later { L.faults logs.old ≤ L.faults logs.new }
+    ensures honest { (D.state disk.old).honest → (D.state disk.new).honest }
+    ensures later_disk { D.faults disk.old ≤ D.faults disk.new }
     ensures later_out { S.faults out.old ≤ S.faults out.new }
     ensures later_err { E.faults err.old ≤ E.faults err.new }
     ensures answers { AnswersQuery
-        (record { folder = L.folder logs.old; logs_faults = L.faults logs.old; out = S.written out.old; out_faults = S.faults out.old; err = E.written err.old; err_faults = E.faults err.old })
-        (record { folder = L.folder logs.new; logs_faults = L.faults logs.new; out = S.written out.new; out_faults = S.faults out.new; err = E.written err.new; err_faults = E.faults err.new })
+        (world (L.folder logs.old) (L.faults logs.old) (held (AlwaysTells D.state) (D.state disk.old).seen (S.written out.old)) (D.faults disk.old) (S.faults out.old) (E.written err.old) (E.faults err.old))
+        (world (L.folder logs.new) (L.faults logs.new) (held (AlwaysTells D.state) (D.state disk.new).seen (S.written out.new)) (D.faults disk.new) (S.faults out.new) (E.written err.new) (E.faults err.new))
         spec.now moment (query_of query.now) result }
     ensures given { ReadsQuery (L.folder logs.new) spec.now (query_of query.now) (L.given logs.old) (L.given logs.new) }
     ensures input { input.new ≡ input.old }
     ensures silent { OnRefused result (err.new ≡ err.old) }
 {
     if all_built(spec, query) {
-        run_built(alloc, spec, query, moment, logs, input, out, err)
+        run_built(alloc, spec, query, moment, logs, disk, input, out, err)
     } else {
         Status::NotBuilt
     }
 }
 
 // Does what the words ask for, before a refusal is told.
-fn run_words<L: Logs, I: Source, S: Sink, E: Sink>(
+fn run_words<L: Logs, D: Disk, I: Source, S: Sink, E: Sink>(
     alloc: Global,
     words: &TextList,
     moment: i64,
     logs: &mut L,
+    disk: &mut D,
     input: &mut I,
     out: &mut S,
     err: &mut E,
 ) -> Status
     ensures answers { Answers moment words.now
-        (record { folder = L.folder logs.old; logs_faults = L.faults logs.old; out = S.written out.old; out_faults = S.faults out.old; err = E.written err.old; err_faults = E.faults err.old })
-        (record { folder = L.folder logs.new; logs_faults = L.faults logs.new; out = S.written out.new; out_faults = S.faults out.new; err = E.written err.new; err_faults = E.faults err.new })
+        (world (L.folder logs.old) (L.faults logs.old) (held (AlwaysTells D.state) (D.state disk.old).seen (S.written out.old)) (D.faults disk.old) (S.faults out.old) (E.written err.old) (E.faults err.old))
+        (world (L.folder logs.new) (L.faults logs.new) (held (AlwaysTells D.state) (D.state disk.new).seen (S.written out.new)) (D.faults disk.new) (S.faults out.new) (E.written err.new) (E.faults err.new))
         result }
     ensures grows { OnlyGrow (L.folder logs.old) (L.folder logs.new) }
     ensures later { L.faults logs.old ≤ L.faults logs.new }
+    ensures honest { (D.state disk.old).honest → (D.state disk.new).honest }
+    ensures later_disk { D.faults disk.old ≤ D.faults disk.new }
     ensures later_out { S.faults out.old ≤ S.faults out.new }
     ensures later_err { E.faults err.old ≤ E.faults err.new }
     ensures given { ReadsWords (L.folder logs.old) (L.folder logs.new) words.now (L.given logs.old) (L.given logs.new) }
@@ -223,6 +259,7 @@ fn run_words<L: Logs, I: Source, S: Sink, E: Sink>(
                 &request.query,
                 moment,
                 logs,
+                disk,
                 input,
                 out,
                 err,
@@ -236,11 +273,13 @@ fn run_words<L: Logs, I: Source, S: Sink, E: Sink>(
 
 /// Does all that the words ask for, as the clock's whole seconds since 1970 are `moment`.
 ///
-/// At `Done` the output has gained the text of the query over the records of the logs that FROM names, each up to its length
-/// at some moment of the call, and `err` the statistics; at every refusal `err` has gained its message. Of either `err` holds
-/// the front where it failed. An output by a template is by the sections of the file that `-tpl` names, which is read before
-/// the logs are listed. `disk` and `input` are left as they are. Of the query's file, the template and each log no more bytes
-/// are read than it has at the end.
+/// At `Done` the rows of the query over the records of the logs that FROM names, each up to its length at some moment of the
+/// call, are written: as text in the output's format on `out`, or, where INTO names files, in these, each as the file mode
+/// wants it, and no other file changed. `err` has gained the statistics; at every refusal it has gained its message. Of either
+/// `err` holds the front where it failed. A refusal behind the first row leaves the front of the text on `out`, or any part of
+/// theirs in the files of INTO. An output by a template is by the sections of the file that `-tpl` names, which is read before
+/// the logs are listed. `input` is left as it is. Of the query's file, the template and each log no more bytes are read than it
+/// has at the end.
 pub fn run<L: Logs, D: Disk, I: Source, S: Sink, E: Sink>(
     alloc: Global,
     words: &TextList,
@@ -252,19 +291,20 @@ pub fn run<L: Logs, D: Disk, I: Source, S: Sink, E: Sink>(
     err: &mut E,
 ) -> Status
     ensures answers { Answers moment words.now
-        (record { folder = L.folder logs.old; logs_faults = L.faults logs.old; out = S.written out.old; out_faults = S.faults out.old; err = E.written err.old; err_faults = E.faults err.old })
-        (record { folder = L.folder logs.new; logs_faults = L.faults logs.new; out = S.written out.new; out_faults = S.faults out.new; err = E.written err.new; err_faults = E.faults err.new })
+        (world (L.folder logs.old) (L.faults logs.old) (held (AlwaysTells D.state) (D.state disk.old).seen (S.written out.old)) (D.faults disk.old) (S.faults out.old) (E.written err.old) (E.faults err.old))
+        (world (L.folder logs.new) (L.faults logs.new) (held (AlwaysTells D.state) (D.state disk.new).seen (S.written out.new)) (D.faults disk.new) (S.faults out.new) (E.written err.new) (E.faults err.new))
         result }
     ensures told { OnRefused result (Tells (E.written err.old) (E.written err.new) (message result) (Rose (E.faults err.old) (E.faults err.new))) }
-    ensures disk { disk.new ≡ disk.old }
     ensures grows { OnlyGrow (L.folder logs.old) (L.folder logs.new) }
     ensures later { L.faults logs.old ≤ L.faults logs.new }
+    ensures honest { (D.state disk.old).honest → (D.state disk.new).honest }
+    ensures later_disk { D.faults disk.old ≤ D.faults disk.new }
     ensures later_out { S.faults out.old ≤ S.faults out.new }
     ensures later_err { E.faults err.old ≤ E.faults err.new }
     ensures given { ReadsWords (L.folder logs.old) (L.folder logs.new) words.now (L.given logs.old) (L.given logs.new) }
     ensures input { input.new ≡ input.old }
 {
-    match run_words(alloc, words, moment, logs, input, out, err) {
+    match run_words(alloc, words, moment, logs, disk, input, out, err) {
         Status::Done => Status::Done,
         refusal => {
             tell_refusal(err, &refusal);

@@ -11,7 +11,7 @@ use Rattle.multiplex.specs.Placing.{Numbering, index_among, StandFor}
 use Rattle.multiplex.proofs.Names.{among, among_firsts}
 use Rattle.multiplex.proofs.Distinct.{Differ, firsts_differ, same_place, kept_alike}
 
-names_kept : (pattern : List ℕ) (rows : List (List Value)) (names : List (List ℕ)) → map (λ (o : OutputRows). o.name) (map (λ name. record { name = name; rows = rows_named pattern rows name }) names) ≡ names
+pub names_kept : (pattern : List ℕ) (rows : List (List Value)) (names : List (List ℕ)) → map (λ (o : OutputRows). o.name) (map (λ name. record { name = name; rows = rows_named pattern rows name }) names) ≡ names
 names_kept pattern rows [] = refl
 names_kept pattern rows (x ∷ xs) = ap (λ (l : List (List ℕ)). x ∷ l) (names_kept pattern rows xs)
 
@@ -19,7 +19,7 @@ names_by_row : (pattern : List ℕ) (rows : List (List Value)) → map (filled p
 names_by_row pattern [] = refl
 names_by_row pattern (row ∷ rows) = ap (λ (l : List (List ℕ)). row_name pattern row ∷ l) (names_by_row pattern rows)
 
-not_zero : (n : ℕ) → 0 < n → (n == 0) ≡ false
+pub not_zero : (n : ℕ) → 0 < n → (n == 0) ≡ false
 not_zero n less = by (n == 0) refl
   where
     by : (b : Bool) → (n == 0) ≡ b → (n == 0) ≡ false
@@ -27,11 +27,11 @@ not_zero n less = by (n == 0) refl
     by false e = e
 
 -- a pattern without values is a name itself
-no_values : (pattern : List ℕ) → filled pattern [] ≡ pattern
+pub no_values : (pattern : List ℕ) → filled pattern [] ≡ pattern
 no_values [] = refl
 no_values (byte ∷ more) = ap (λ (l : List ℕ). byte ∷ l) (no_values more)
 
-plain_name : (pattern : List ℕ) (row : List Value) → stars pattern ≡ 0 → row_name pattern row ≡ pattern
+pub plain_name : (pattern : List ℕ) (row : List Value) → stars pattern ≡ 0 → row_name pattern row ≡ pattern
 plain_name pattern row none = ap (λ (n : ℕ). filled pattern (take n row)) none ∙ no_values pattern
 
 -- where all names are one, no other is left
@@ -63,7 +63,7 @@ split_plain outputs rows none stand =
     ∙ ap (λ (l : List (List ℕ)). own ∷ l) (sym rest) ∙ sym stand
 
 -- the names of outputs differ
-names_differ : (pattern : List ℕ) (rows : List (List Value)) → Differ (output_names pattern rows)
+pub names_differ : (pattern : List ℕ) (rows : List (List Value)) → Differ (output_names pattern rows)
 names_differ pattern rows = by (stars pattern == 0) refl
   where
     by : (b : Bool) → (stars pattern == 0) ≡ b → Differ (output_names pattern rows)

@@ -53,6 +53,13 @@ fn is_forbidden(alloc: Global, forbidden: &IndexSet<Text>, name: &str) -> Result
     Ok(forbidden.contains(&name))
 }
 
+// How many values a pattern takes.
+fn count_stars(pattern: &[u8]) -> usize
+    ensures { result ≡ stars pattern.now }
+{
+    pattern.iter().filter(|byte| **byte == b'*').count()
+}
+
 // Reads bytes as a name. A name that values make of a text is UTF-8, as they are, but no clause of a value says so: bytes that
 // aren't are answered as want of memory.
 fn read_name(bytes: &[u8]) -> Result<Name, PlaceFault>
@@ -181,10 +188,16 @@ impl Outputs {
         self.names.len() as u32
     }
 
+    /// How many values the name of an output takes.
+    pub fn stars(&self) -> usize
+        ensures { result ≡ stars self.now.pattern }
+    {
+        count_stars(self.pattern.as_str().as_bytes())
+    }
+
     /// The index of the output of a row, of which these are the values for the stars. A new name gets the next index, if it may
     /// be one. A name that is known takes no memory, once the buffers have room.
     pub fn place(&mut self, row: &ValueList) -> Result<u32, PlaceFault>
-        requires { length row.now ≡ stars self.old.pattern }
         ensures index { IfOk result (λ index. index ≡ index_among self.old.names (filled self.old.pattern row.now)) }
         ensures named { IfOk result (λ index. slice_get self.new.names index ≡ Some (filled self.old.pattern row.now)) }
         ensures ok { OnOk result (self.new ≡ after_row self.old (filled self.old.pattern row.now)) }
@@ -200,7 +213,6 @@ impl Outputs {
 
     /// The same, where the values stand in front of others, so that a row needs no copy.
     pub fn place_values(&mut self, values: &[Value]) -> Result<u32, PlaceFault>
-        requires { length values.now ≡ stars self.old.pattern }
         ensures index { IfOk result (λ index. index ≡ index_among self.old.names (filled self.old.pattern values.now)) }
         ensures named { IfOk result (λ index. slice_get self.new.names index ≡ Some (filled self.old.pattern values.now)) }
         ensures ok { OnOk result (self.new ≡ after_row self.old (filled self.old.pattern values.now)) }

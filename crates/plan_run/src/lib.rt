@@ -1,7 +1,7 @@
 //! A plan over the records of logs.
 //!
-//! To the crate above: [`run_plan`] writes exactly the text of the rows that a plan makes of the records of spans, read in a
-//! format, joined in order; after a refusal the front of it.
+//! To the crate above: [`run_plan`] puts exactly the rows that a plan makes of the records of spans, read in a format, joined in
+//! order; `Stops` of row_output says what a refusal leaves.
 #![tactic(auto)]
 
 mod formats;

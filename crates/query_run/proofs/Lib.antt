@@ -1,2 +1,3 @@
+pub mod Puts
+pub mod Reasons
 pub mod WholeRun
-pub mod Moving

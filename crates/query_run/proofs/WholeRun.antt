@@ -1,49 +1,131 @@
--- A whole run, from the line of names to the last row.
-use Rattle.std.proofs.Common.{◌≡◌, ◌+◌, ℕ, Bool, List, [], length, Option, Some, None, ap, ◌∙◌, refl, subst, arith}
+-- A whole run, from before its first row to the end of its outputs.
+use Rattle.std.proofs.Common.{◌≡◌, ℕ, Bool, List, [], ◌++◌, length, Option, Some, None, IfSome, ap, sym, ◌∙◌, subst, arith}
 use Rattle.std.proofs.lemmas.List.{append-nil}
 use Rattle.lp_model.specs.Outside.{Folder, Told}
+use Rattle.lp_model.specs.Reading.{Format}
 use Rattle.lp_values.specs.declared.value.Value.{Value}
-use Rattle.log_reading.specs.Found.{Found}
-use Rattle.query_run.specs.Output.{StageKind, OutputAt, GainsFront, IsUnderWay}
-use Rattle.query_run.specs.Gaining.{gains_nothing}
+use Rattle.log_reading.specs.Found.{rows_met}
+use Rattle.log_reading.specs.Spans.{AreKept, TakesSpans, spans_bad, spans_found, spans_met}
+use Rattle.log_reading.specs.Page.{Takes}
+use Rattle.log_reading.specs.declared.page.Page.{Page}
+use Rattle.log_reading.specs.declared.span.Span.{Span}
+use Rattle.log_reading.proofs.RowsMet.{rows_met_spans}
+use Rattle.text_output.specs.Output.{StageKind}
+use Rattle.row_output.specs.Asked.{Asked}
+use Rattle.row_output.specs.Kept.{HasRows, IsNew, asked_of}
+use Rattle.row_output.specs.Rows.{IsRefused, Stops}
+use Rattle.row_output.proofs.Stopping.{new_has, rows_stop}
+use Rattle.row_output.specs.declared.fault.Refused.{Refused}
+use Rattle.row_output.specs.declared.kept.RowOutput.{RowOutput}
 use Rattle.query_run.specs.Rows.{picked}
-use Rattle.query_run.specs.Writer.{Writes, Halts}
-use Rattle.query_run.specs.Writing.{TextOf, HasTextOf, ShownOf, PicksOf}
+use Rattle.query_run.specs.Writer.{PutsRows, StopsWithin, Starts, Writes, Halts}
+use Rattle.query_run.specs.Writing.{PicksOf}
 use Rattle.query_run.specs.declared.writer.Writer.{Writer}
+use Rattle.query_run.proofs.Reasons.{told_why}
 
-pub told_all : (told : Option Folder) (P : Folder → Type 0) → ((f : Folder) → P f) → Told told P
-told_all None P h = tt
-told_all (Some f) P h = h f
+abbrev Rows : Type 0
+Rows = List (List Value)
 
-pub told_map : (told : Option Folder) (P Q : Folder → Type 0) → ((f : Folder) → P f → Q f) → Told told P → Told told Q
-told_map None P Q h t = tt
-told_map (Some f) P Q h t = h f t
+pub told_all : (told : Option Folder) (P : Folder → Type 0) → ((folder : Folder) → P folder) → Told told P
+told_all None P so = tt
+told_all (Some folder) P so = so folder
 
-text_same : {F P : Type 0} (text : TextOf F) (picks : PicksOf P) (writer : Writer F P) (shape : F) (picker : P) (fresh : Bool) (names : List (List ℕ)) (founds : List Found) → text writer.shape ≡ text shape → writer.picker ≡ picker
-    → text writer.shape fresh names (picked (picks writer.picker) founds) ≡ text shape fresh names (picked (picks picker) founds)
-text_same text picks writer shape picker fresh names founds format same = ap (λ t. t fresh names (picked (picks writer.picker) founds)) format ∙ ap (λ p. text shape fresh names (picked (picks p) founds)) same
+pub told_map : (told : Option Folder) (P Q : Folder → Type 0) → ((folder : Folder) → P folder → Q folder) → Told told P → Told told Q
+told_map None P Q so p = tt
+told_map (Some folder) P Q so p = so folder p
 
--- it stopped within the rows
-pub front_stopped : {F P : Type 0} {S : Type 0} {kind : StageKind S} (text : TextOf F) (has_text : HasTextOf F) (picks : PicksOf P) (writer : Writer F P) (shape : F) (picker : P) (fresh : Bool) (names : List (List ℕ)) (founds : List Found) (u : OutputAt kind) (w : S) → text writer.shape ≡ text shape → writer.picker ≡ picker
-    → has_text writer.shape fresh names [] writer.buffers.held → Halts text has_text picks writer u founds w → GainsFront u w (text shape fresh names (picked (picks picker) founds))
-front_stopped text has_text picks writer shape picker fresh names founds u w format same under_way halts =
-    let Of : List ℕ → Type 0 = λ t. GainsFront u w t in
-    subst Of (ap (text writer.shape fresh names) (append-nil (picked (picks writer.picker) founds)) ∙ text_same text picks writer shape picker fresh names founds format same) (halts.front fresh names [] [] u ([], gains_nothing u, under_way))
+-- how many rows were taken, and bad lines met
+module _ {T O : Type 0} (takes : Takes T O) (format : Format) (waits : Bool) (told : Option Folder) (spans : List Span) (old new : Page T) (u v : O) where
+  abbrev Took : Folder → Type 0
+  Took folder = AreKept format waits spans folder → TakesSpans takes format waits folder spans old new u v
 
--- all rows were written, and what the end makes of it
-pub at_end : {F P : Type 0} {S : Type 0} {kind : StageKind S} (text : TextOf F) (has_text : HasTextOf F) (shown : ShownOf F) (picks : PicksOf P) (Out : List ℕ → Type 0) (writer last : Writer F P) (shape : F) (picker : P) (fresh : Bool) (names : List (List ℕ)) (founds : List Found) (u v : OutputAt kind) → text writer.shape ≡ text shape → writer.picker ≡ picker
-    → has_text writer.shape fresh names [] writer.buffers.held → Writes text has_text shown picks writer u founds last v
-    → ((rows : List (List Value)) → IsUnderWay (has_text last.shape fresh names rows) u v last.buffers.held → Out (text last.shape fresh names rows)) → Out (text shape fresh names (picked (picks picker) founds))
-at_end text has_text shown picks Out writer last shape picker fresh names founds u v format same under_way writes step =
-    let here = step (picked (picks writer.picker) founds) (writes.written fresh names [] u ([], gains_nothing u, under_way)) in
-    subst Out (ap (λ t. t fresh names (picked (picks writer.picker) founds)) writes.format ∙ text_same text picks writer shape picker fresh names founds format same) here
+  pub rows_taken : (many : ℕ) → many ≡ new.rows → old.rows ≡ 0 → Told told Took → Told told (λ folder. AreKept format waits spans folder → many ≡ length (spans_found format waits folder spans))
+  rows_taken many same none = told_map told Took (λ folder. AreKept format waits spans folder → many ≡ length (spans_found format waits folder spans)) (λ folder took kept.
+      let rows = (took kept).rows in
+      Prim.omega arith)
 
--- all rows were written, and how many of them the text has
-pub count_at_end : {F P : Type 0} {S : Type 0} {kind : StageKind S} (text : TextOf F) (has_text : HasTextOf F) (shown : ShownOf F) (picks : PicksOf P) (writer last : Writer F P) (shape : F) (picker : P) (fresh : Bool) (names : List (List ℕ)) (founds : List Found) (u v : OutputAt kind) (many : ℕ) → shown writer.shape ≡ shown shape → writer.picker ≡ picker → writer.output ≡ 0
-    → has_text writer.shape fresh names [] writer.buffers.held → Writes text has_text shown picks writer u founds last v
-    → ((rows : List (List Value)) → IsUnderWay (has_text last.shape fresh names rows) u v last.buffers.held → last.output ≡ length rows → many ≡ length (shown last.shape rows)) → many ≡ length (shown shape (picked (picks picker) founds))
-count_at_end text has_text shown picks writer last shape picker fresh names founds u v many shows same none under_way writes step =
-    let rows = picked (picks writer.picker) founds in
-    let written = writes.output in
-    step rows (writes.written fresh names [] u ([], gains_nothing u, under_way)) (Prim.omega arith)
-    ∙ ap length (ap (λ s. s rows) (writes.shows ∙ shows) ∙ ap (λ p. shown shape (picked (picks p) founds)) same)
+  pub bad_taken : (many : ℕ) → many ≡ new.bad → old.bad ≡ 0 → Told told Took → Told told (λ folder. AreKept format waits spans folder → many ≡ length (spans_bad format waits folder spans))
+  bad_taken many same none = told_map told Took (λ folder. AreKept format waits spans folder → many ≡ length (spans_bad format waits folder spans)) (λ folder took kept.
+      let bad = (took kept).bad in
+      Prim.omega arith)
+
+each_some : (refused : Option Refused) (P : Rows → Refused → Type 0) → ((rows : Rows) → IfSome refused (P rows)) → IfSome refused (λ why. (rows : Rows) → P rows why)
+each_some None P all = tt
+each_some (Some why) P all = all
+
+module _ {P : Type 0} {S : Type 0} (kind : StageKind S) (output : RowOutput) (by : P) (start : S) where
+  pub starts_new : (w : Writer P) → IsNew output → w.output ≡ output → w.picker ≡ by → w.refused ≡ None → Starts kind output by start w start
+  starts_new w new same picker none = record {
+    has = subst (λ (o : RowOutput). HasRows kind o start [] start) (sym same) (new_has kind output start new);
+    asked = ap asked_of same;
+    picker = picker;
+    unrefused = none;
+  }
+
+  pub starts_open : (a b : Writer P) (u v : S) → Starts kind output by start a u → PutsRows kind [] a u b v → Starts kind output by start b v
+  starts_open a b u v s f = record {
+    has = f.has start [] s.has;
+    asked = f.asked ∙ s.asked;
+    picker = f.picker ∙ s.picker;
+    unrefused = f.refused ∙ s.unrefused;
+  }
+
+  pub starts_as : (a b : Writer P) (v : S) → b ≡ a → Starts kind output by start a v → Starts kind output by start b v
+  starts_as a b v same s = subst (λ (w : Writer P). Starts kind output by start w v) (sym same) s
+
+  -- it stopped before any row
+  pub stop_at_once : (w last : Writer P) (u v : S) (rows : Rows) → Starts kind output by start w u → StopsWithin kind [] w u last v → Stops kind (asked_of output) start rows v
+  stop_at_once w last u v rows s halts = subst (λ (asked : Asked). Stops kind asked start rows v) s.asked (halts.stop start [] rows s.has)
+
+  pub refused_at_once : (w last : Writer P) (u v : S) (refused : Option Refused) → refused ≡ last.refused → Starts kind output by start w u → StopsWithin kind [] w u last v → IfSome refused (λ why. (rows : Rows) → IsRefused (asked_of output) rows why)
+  refused_at_once w last u v refused same s halts =
+      let all : (rows : Rows) → IfSome refused (IsRefused (asked_of output) rows) = λ rows.
+      subst (λ (o : Option Refused). IfSome o (IsRefused (asked_of output) rows)) (sym same)
+      (subst (λ (asked : Asked). IfSome last.refused (IsRefused asked rows)) s.asked (halts.refused s.unrefused start [] rows s.has)) in
+      each_some refused (IsRefused (asked_of output)) all
+
+  -- it stopped where it had started
+  pub stop_there : (w : Writer P) (u : S) (rows : Rows) → Starts kind output by start w u → Stops kind (asked_of output) start rows u
+  stop_there w u rows s = subst (λ (asked : Asked). Stops kind asked start rows u) s.asked (rows_stop kind w.output start [] rows u s.has)
+
+  -- over spans of logs
+  module _ (picks : PicksOf P) (format : Format) (waits : Bool) (told : Option Folder) (spans : List Span) (old new : Page (Writer P)) (u v : S) where
+    abbrev met : P → Folder → Rows
+    met p folder = picked (picks p) (rows_met (spans_met format waits folder spans))
+
+    abbrev rows_in : Folder → Rows
+    rows_in folder = picked (picks by) (spans_found format waits folder spans)
+
+    abbrev Kept : Folder → Type 0
+    Kept folder = AreKept format waits spans folder
+
+    abbrev Wrote : Folder → Type 0
+    Wrote folder = TakesSpans (λ a s xs b t. Writes kind picks a s (rows_met xs) b t) format waits folder spans old new u v
+
+    abbrev Halted : Folder → Type 0
+    Halted folder = Halts kind picks old.taker u (rows_met (spans_met format waits folder spans)) new.taker v
+
+    same_rows : (folder : Folder) → old.taker.picker ≡ by → met old.taker.picker folder ≡ rows_in folder
+    same_rows folder same = ap (λ p. met p folder) same ∙ ap (picked (picks by)) (rows_met_spans format waits folder spans)
+
+    -- it stopped within the rows of spans
+    pub stops_in : Starts kind output by start old.taker u → Told told (λ folder. Kept folder → Halted folder) → Told told (λ folder. Kept folder → Stops kind (asked_of output) start (rows_in folder) v)
+    stops_in s = told_map told (λ folder. Kept folder → Halted folder) (λ folder. Kept folder → Stops kind (asked_of output) start (rows_in folder) v) (λ folder halts kept.
+        let Of : Asked → Rows → Type 0 = λ asked t. Stops kind asked start t v in
+        subst (Of (asked_of output)) (append-nil (met old.taker.picker folder) ∙ same_rows folder s.picker)
+        (subst (λ (asked : Asked). Of asked (met old.taker.picker folder ++ [])) s.asked ((halts kept).stop start [] [] s.has)))
+
+    pub refused_in_spans : Starts kind output by start old.taker u → Told told (λ folder. Kept folder → Halted folder) → IfSome new.taker.refused (λ why. Told told (λ folder. Kept folder → IsRefused (asked_of output) (rows_in folder) why))
+    refused_in_spans s all = told_why told Kept new.taker.refused (λ folder. IsRefused (asked_of output) (rows_in folder))
+        (told_map told (λ folder. Kept folder → Halted folder) (λ folder. Kept folder → IfSome new.taker.refused (IsRefused (asked_of output) (rows_in folder))) (λ folder halts kept.
+        let Of : Asked → Rows → Type 0 = λ asked t. IfSome new.taker.refused (IsRefused asked t) in
+        subst (Of (asked_of output)) (append-nil (met old.taker.picker folder) ∙ same_rows folder s.picker)
+        (subst (λ (asked : Asked). Of asked (met old.taker.picker folder ++ [])) s.asked ((halts kept).refused s.unrefused start [] [] s.has))) all)
+
+    -- all rows of spans were put, and what the end makes of them
+    pub ends_with : (Out : Asked → Rows → Type 0) → Starts kind output by start old.taker u → Told told (λ folder. Kept folder → Wrote folder) → ((rows : Rows) → HasRows kind new.taker.output start rows v → Out (asked_of new.taker.output) rows)
+        → Told told (λ folder. Kept folder → Out (asked_of output) (rows_in folder))
+    ends_with Out s all end = told_map told (λ folder. Kept folder → Wrote folder) (λ folder. Kept folder → Out (asked_of output) (rows_in folder)) (λ folder took kept.
+        let f = (took kept).done in
+        subst (Out (asked_of output)) (same_rows folder s.picker)
+        (subst (λ (asked : Asked). Out asked (met old.taker.picker folder)) (f.asked ∙ s.asked) (end (met old.taker.picker folder) (f.has start [] s.has)))) all

@@ -1,6 +1,4 @@
-pub mod Output
-pub mod Gaining
 pub mod Rows
+pub mod Faults
 pub mod Writer
 pub mod Writing
-pub mod Meeting

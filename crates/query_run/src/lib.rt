@@ -1,18 +1,18 @@
 //! The run of a query over logs, in any format of input and output.
 //!
-//! To the crates above: [`write_spans`] gives a stage exactly the text of the rows that a [`Picker`] makes of the records of
-//! spans, in order, and counts them; after a refusal the stage has the front of that text. [`Writer`] is the taker that does
-//! so, for a loop of another crate, and [`Target`] an output of a stage, which gets whole pieces of 4,096 bytes until its end.
+//! To the crates above: [`write_spans`] puts exactly the rows that a [`Picker`] makes of the records of spans, in order, and
+//! counts them; `Holds` of row_output says what stands in the outputs then, and `Stops` what a refusal leaves. [`Writer`] is the
+//! taker that does so, for a loop of another crate.
 #![tactic(auto)]
 
 mod executing;
-mod output;
+mod fault;
 mod picker;
-mod target;
+mod putting;
 mod writer;
 mod writing;
 
-pub use executing::{Counts, Written, finish, first_writer, write_spans};
+pub use executing::{Counts, Written, ended_by, first_page, new_chunk, stopped_in, write_spans};
+pub use fault::WriteFault;
 pub use picker::Picker;
-pub use target::{Output, Target};
-pub use writer::{Buffers, Writer};
+pub use writer::Writer;

@@ -1,28 +1,23 @@
-// A taker that writes the rows that are kept.
+// A taker that puts the rows that are kept.
 ghost use Rattle.std.specs.Prelude.{◌≤◌};
 
-use crate::Target;
-use lp_values::{Bytes, ValueList};
+use lp_values::ValueList;
+use row_output::{Refused, RowOutput};
 
-/// The end of a text, which isn't put yet, and room for it.
+/// Puts the rows that a picker makes.
 #[derive(Drop)]
-pub struct Buffers {
-    pub held: Bytes,
-    pub spare: Bytes,
-}
-
-/// Writes the text of the rows that a picker makes.
-#[derive(Drop)]
-pub struct Writer<F, P> {
-    pub shape: F,
+pub struct Writer<P> {
+    pub output: RowOutput,
     pub picker: P,
     /// Room for the values of the record at hand.
     pub values: ValueList,
     /// The output row at hand.
     pub row: ValueList,
-    pub target: Target,
-    pub buffers: Buffers,
+    /// How many records were taken.
     pub taken: u64,
-    pub output: u64,
-    ghost within: { output ≤ taken },
+    /// Whether an output of a name without stars was opened.
+    pub opened: bool,
+    /// Why an output was refused.
+    pub refused: Option<Refused>,
+    ghost within: { output.put ≤ taken },
 }

@@ -1,25 +1,22 @@
 // How a writer takes rows.
-ghost use Rattle.std.specs.Prelude.{◌≡◌, ◌≤◌, ◌<◌, ◌+◌, ◌^◌, ◌++◌, ◌∷◌, [], ℕ, List, Bool, length, Option, OnOk, OnErr, IfOk, IsErrOf};
-ghost use Rattle.query_run.specs.Output.{kind_of, reached};
-ghost use Rattle.query_run.specs.Writer.{Writes, Halts};
+ghost use Rattle.std.specs.Prelude.{◌≡◌, ◌≤◌, ◌<◌, ◌+◌, ◌^◌, ◌++◌, ◌∷◌, [], OnOk, OnErr, IsErrOf, IsSome};
+ghost use Rattle.text_output.specs.Output.{kind_of};
 ghost use Rattle.log_reading.specs.Found.{rows_met};
-ghost use Rattle.query_run.specs.Writing.{writes_none};
-ghost use Rattle.query_run.specs.Meeting.{writes_more_met, halts_here_met, halts_later_met, halts_more_met};
+ghost use Rattle.query_run.specs.Writer.{Writes, Halts};
+ghost use Rattle.query_run.specs.Writing.{puts_none, writes_more, halts_here, halts_later, halts_more};
 
-use crate::output::put_row;
 use crate::{Picker, Writer};
 use line_input::{Columns, Fields};
 use log_reading::{TakeFault, Taker};
 use lp_outside::{Name, Stage};
-use output_formats::Shape;
 use std::alloc::Global;
 
-impl<F: Shape + Drop, P: Picker + Drop, G: Stage> Taker<G> for Writer<F, P> {
-    ghost takes = { λ a u xs b v. Writes F.text F.has_text F.shown P.picks a (reached (kind_of G.state G.ended) a.target u) (rows_met xs) b (reached (kind_of G.state G.ended) b.target v) };
+impl<P: Picker + Drop, G: Stage> Taker<G> for Writer<P> {
+    ghost takes = { λ a u xs b v. Writes (kind_of G.state G.ended) P.picks a u (rows_met xs) b v };
 
-    ghost stops = { λ a u xs b v. Halts F.text F.has_text P.picks a (reached (kind_of G.state G.ended) a.target u) (rows_met xs) v };
+    ghost stops = { λ a u xs b v. Halts (kind_of G.state G.ended) P.picks a u (rows_met xs) b v };
 
-    ghost stopped = { λ w. ⊥ };
+    ghost stopped = { λ w. IsSome w.refused };
 
     ghost count = { λ w. w.taken };
 
@@ -41,6 +38,7 @@ impl<F: Shape + Drop, P: Picker + Drop, G: Stage> Taker<G> for Writer<F, P> {
         fields: &Fields,
         stage: &mut G,
     ) -> Result<(), TakeFault> {
+        self.open(stage)?;
         let picked = self.picker.pick(
             alloc,
             identity,
@@ -57,18 +55,7 @@ impl<F: Shape + Drop, P: Picker + Drop, G: Stage> Taker<G> for Writer<F, P> {
                 self.taken += 1;
                 Ok(())
             }
-            Ok(true) => {
-                put_row(
-                    &mut self.shape,
-                    &self.row,
-                    &mut self.target,
-                    &mut self.buffers,
-                    stage,
-                )?;
-                self.taken += 1;
-                self.output += 1;
-                Ok(())
-            }
+            Ok(true) => self.put(stage),
         }
     }
 
@@ -82,13 +69,13 @@ impl<F: Shape + Drop, P: Picker + Drop, G: Stage> Taker<G> for Writer<F, P> {
         Ok(())
     }
 
-    ghost takes_none = { λ s w. writes_none F.text F.has_text F.shown P.picks s (reached (kind_of G.state G.ended) s.target w) };
+    ghost takes_none = { λ s w. puts_none (kind_of G.state G.ended) s w };
 
-    ghost takes_more = { λ a b c u v w. writes_more_met F.text F.has_text F.shown P.picks a b c (reached (kind_of G.state G.ended) a.target u) (reached (kind_of G.state G.ended) b.target v) (reached (kind_of G.state G.ended) c.target w) };
+    ghost takes_more = { λ a b c u v w. writes_more (kind_of G.state G.ended) P.picks a b c u v w };
 
-    ghost stops_here = { λ a b u v. halts_here_met F.text F.has_text F.shown P.picks F.begins a b (reached (kind_of G.state G.ended) a.target u) (reached (kind_of G.state G.ended) b.target v) };
+    ghost stops_here = { λ a b u v. halts_here (kind_of G.state G.ended) P.picks a b u v };
 
-    ghost stops_later = { λ a b c u v w. halts_later_met F.text F.has_text F.shown P.picks a b (reached (kind_of G.state G.ended) a.target u) (reached (kind_of G.state G.ended) b.target v) w };
+    ghost stops_later = { λ a b c u v w. halts_later (kind_of G.state G.ended) P.picks a b c u v w };
 
-    ghost stops_more = { λ a c u w. halts_more_met F.text F.has_text P.picks a (reached (kind_of G.state G.ended) a.target u) w };
+    ghost stops_more = { λ a c u w. halts_more (kind_of G.state G.ended) P.picks a c u w };
 }

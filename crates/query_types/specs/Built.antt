@@ -1,9 +1,8 @@
--- Which queries can be run so far: those without aggregates, GROUPING, subqueries, groups, and an INTO file.
-use Rattle.std.specs.Prelude.{ℕ, Bool, true, false, not, ◌&&◌, List, [], ◌∷◌, codes, Option, Some, None}
+-- Which queries can be run so far: those without aggregates, GROUPING, subqueries and groups.
+use Rattle.std.specs.Prelude.{ℕ, Bool, true, false, not, ◌&&◌, List, [], ◌∷◌, Option, Some, None}
 use Rattle.std.specs.List.{list_all}
 use Rattle.std.specs.Option.{is_none}
-use Rattle.std.specs.Str.{str_eq_ignore_ascii_case}
-use Rattle.grammar.specs.Trees.{Tree, Trees, no_trees, more_trees, Whens, no_whens, more_whens, Otherwise, no_else, an_else, Test, Item, Placed, Parts, Query}
+use Rattle.grammar.specs.Trees.{Tree, Trees, no_trees, more_trees, Whens, no_whens, more_whens, Otherwise, no_else, an_else, Test, Item, Parts, Query}
 use Rattle.grammar.specs.Trees.{Tree as tree}
 use Rattle.grammar.specs.Trees.{Test as test}
 use Rattle.grammar.specs.Trees.{Query as query}
@@ -60,18 +59,13 @@ is_plain_where (Some condition) = is_plain_test condition
 abbrev pub are_plain_items : List Item → Bool
 are_plain_items items = list_all (λ item. is_plain item.value) items
 
--- no INTO, or INTO STDOUT
-abbrev pub is_standard : Option Placed → Bool
-is_standard None = true
-is_standard (Some name) = str_eq_ignore_ascii_case name.text (codes "STDOUT")
-
 abbrev pub has_none : {A : Type 0} → List A → Bool
 has_none [] = true
 has_none (x ∷ xs) = false
 
 -- the parts of a query that can be run
 abbrev pub are_built : Parts → Bool
-are_built parts = are_plain_items parts.items && are_plain_items parts.aliases && is_standard parts.into
+are_built parts = are_plain_items parts.items && are_plain_items parts.aliases
     && is_plain_where parts.condition && has_none parts.keys && is_none parts.having && are_plain (listed parts.order)
 
 abbrev pub is_built : Query → Bool

@@ -3,13 +3,13 @@ ghost use Rattle.std.specs.Prelude.{◌≡◌, ◌&&◌, is_none, option_map};
 ghost use Rattle.std.specs.List.{list_all};
 ghost use Rattle.grammar.specs.Trees.{trees_of as listed};
 ghost use Rattle.grammar.specs.Trees.{whens_of as branched};
-ghost use Rattle.query_tree.specs.Views.{tree_of, trees_of, whens_of, test_of, items_of, placed_of, query_of};
-ghost use Rattle.query_types.specs.Built.{is_grouping, is_plain, are_plain, are_plain_branches, is_plain_test, is_plain_where, are_plain_items, is_standard, has_none, is_built};
+ghost use Rattle.query_tree.specs.Views.{tree_of, trees_of, whens_of, test_of, items_of, query_of};
+ghost use Rattle.query_types.specs.Built.{is_grouping, is_plain, are_plain, are_plain_branches, is_plain_test, is_plain_where, are_plain_items, has_none, is_built};
 ghost use Rattle.query_tree.specs.declared.query.Query.{out-Query};
 
 use crate::callee::is_aggregate;
 use lp_values::Text;
-use query_tree::{Cond, Expr, ExprList, Item, ItemList, Placed, Query, WhenList};
+use query_tree::{Cond, Expr, ExprList, Item, ItemList, Query, WhenList};
 
 // Whether a call is one of an aggregate or of GROUPING.
 fn is_grouping(name: &Text, arguments: &ExprList) -> bool
@@ -135,16 +135,6 @@ fn are_plain_items(items: &ItemList) -> bool
     all_plain_items(&items.items)
 }
 
-// Whether the output is standard output.
-fn is_standard(into: &Option<Placed>) -> bool
-    ensures { result ≡ is_standard (option_map placed_of into.now) }
-{
-    match into {
-        None => true,
-        Some(name) => name.text.as_str().eq_ignore_ascii_case("STDOUT"),
-    }
-}
-
 // Whether a query has no keys, no HAVING, and an order that has neither an aggregate nor GROUPING.
 fn has_no_groups(query: &Query) -> bool
     ensures { result ≡ (has_none (trees_of (out-Query query.now).keys) && is_none (option_map test_of (out-Query query.now).having) && are_plain (listed (trees_of (out-Query query.now).order))) }
@@ -152,14 +142,14 @@ fn has_no_groups(query: &Query) -> bool
     query.keys.len() == 0 && query.having.is_none() && are_plain(&query.order)
 }
 
-/// Whether a query can be run: it has no aggregate, GROUPING, subquery, groups, HAVING, or INTO other than STDOUT.
+/// Whether a query can be run: it has no aggregate, GROUPING, subquery, groups, or HAVING.
 pub fn is_built(query: &Query) -> bool
     ensures { result ≡ is_built (query_of query.now) }
 {
     if !are_plain_items(&query.items) || !are_plain_items(&query.aliases) {
         return false;
     }
-    if !is_standard(&query.into) || !is_plain_where(&query.condition) {
+    if !is_plain_where(&query.condition) {
         return false;
     }
     has_no_groups(query)

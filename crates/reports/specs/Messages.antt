@@ -12,7 +12,7 @@ use Rattle.query_text.specs.declared.fault.QueryFault.TheVariants as query
 use Rattle.tpl_output.specs.declared.fault.TemplateFault.{TemplateFault}
 use Rattle.tpl_output.specs.declared.fault.TemplateFault.TheVariants as template
 use Rattle.reports.specs.declared.status.Status.{Status}
-use Rattle.reports.specs.declared.status.Status.TheVariants.{Done, Memory, Clock, Usage, Query, NotBuilt, NoSuchLog, BadName, TooManyLogs, Template, LogsFault, SinkFault, ParseErrors}
+use Rattle.reports.specs.declared.status.Status.TheVariants.{Done, Memory, Clock, Usage, Query, NotBuilt, NoSuchLog, BadName, NameClash, TooManyOutputs, TooManyLogs, Template, LogsFault, DiskFault, SinkFault, ParseErrors}
 
 -- a number, where there is one, with what parts it from the text behind
 abbrev pub counted : Option ℕ → List ℕ
@@ -79,9 +79,12 @@ named (Query fault) = query_reason fault
 named NotBuilt = codes "not built"
 named (NoSuchLog name) = codes "input: no such log " ++ name
 named (BadName fault) = codes "input: bad name"
+named (NameClash name) = codes "input: name clash " ++ name
+named TooManyOutputs = codes "input: more than 10000 outputs"
 named TooManyLogs = codes "input: more than 100000 logs"
 named (Template fault) = template_reason fault
 named LogsFault = codes "read fault: logs"
+named DiskFault = codes "disk fault"
 named SinkFault = codes "write fault"
 named (ParseErrors log row) = codes "parse errors: " ++ log
 

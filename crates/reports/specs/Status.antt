@@ -1,7 +1,7 @@
 -- Which answers are refusals, and the exit status of each.
 use Rattle.std.specs.Prelude.{ℕ, ⊤}
 use Rattle.reports.specs.declared.status.Status.{Status}
-use Rattle.reports.specs.declared.status.Status.TheVariants.{Done, Memory, Clock, Usage, Query, NotBuilt, NoSuchLog, BadName, TooManyLogs, Template, LogsFault, SinkFault, ParseErrors}
+use Rattle.reports.specs.declared.status.Status.TheVariants.{Done, Memory, Clock, Usage, Query, NotBuilt, NoSuchLog, BadName, NameClash, TooManyOutputs, TooManyLogs, Template, LogsFault, DiskFault, SinkFault, ParseErrors}
 
 -- a refusal: every answer but Done
 abbrev pub OnRefused : Status → Type 0 → Type 0
@@ -18,8 +18,11 @@ code (Query fault) = 3
 code NotBuilt = 2
 code (NoSuchLog name) = 4
 code (BadName fault) = 4
+code (NameClash name) = 4
+code TooManyOutputs = 4
 code TooManyLogs = 4
 code (Template fault) = 4
 code LogsFault = 5
+code DiskFault = 6
 code SinkFault = 7
 code (ParseErrors log row) = 8

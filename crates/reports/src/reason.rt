@@ -83,9 +83,12 @@ pub(crate) fn named(status: &Status) -> (&str, Option<u32>, &str)
         Status::NotBuilt => ("not built", None, ""),
         Status::NoSuchLog(name) => ("input: no such log ", None, name.as_str()),
         Status::BadName(_) => ("input: bad name", None, ""),
+        Status::NameClash(name) => ("input: name clash ", None, name.as_str()),
+        Status::TooManyOutputs => ("input: more than 10000 outputs", None, ""),
         Status::TooManyLogs => ("input: more than 100000 logs", None, ""),
         Status::Template(fault) => template_reason(*fault),
         Status::LogsFault => ("read fault: logs", None, ""),
+        Status::DiskFault => ("disk fault", None, ""),
         Status::SinkFault => ("write fault", None, ""),
         Status::ParseErrors { log, .. } => ("parse errors: ", None, log.as_str()),
     }

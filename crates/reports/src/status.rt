@@ -25,13 +25,19 @@ pub enum Status {
     NoSuchLog(Name),
     /// A name is no name of a file.
     BadName(NameFault),
+    /// An output has the name of a log that is read.
+    NameClash(Name),
+    /// The rows name more than 10,000 outputs.
+    TooManyOutputs,
     /// More than 100,000 logs are named.
     TooManyLogs,
     /// The bytes of the template's file are no template.
     Template(TemplateFault),
     /// A log couldn't be read.
     LogsFault,
-    /// The output couldn't be written.
+    /// The file of an output couldn't be written.
+    DiskFault,
+    /// Standard output couldn't be written.
     SinkFault,
     /// A bad line is one too many: the log's identity, and the line's number.
     ParseErrors { log: Name, row: u64 },
@@ -49,9 +55,14 @@ impl Status {
             Status::Memory => 1,
             Status::Clock(_) | Status::Usage(_) | Status::NotBuilt => 2,
             Status::Query(_) => 3,
-            Status::NoSuchLog(_) | Status::BadName(_) | Status::TooManyLogs | Status::Template(_) =>
-                4,
+            Status::NoSuchLog(_)
+            | Status::BadName(_)
+            | Status::NameClash(_)
+            | Status::TooManyOutputs
+            | Status::TooManyLogs
+            | Status::Template(_) => 4,
             Status::LogsFault => 5,
+            Status::DiskFault => 6,
             Status::SinkFault => 7,
             Status::ParseErrors { .. } => 8,
         }

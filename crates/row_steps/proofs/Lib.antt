@@ -1,5 +1,5 @@
 mod Moves
 mod Handed
-mod Written
+mod Puts
 mod Taken
 mod Ends

@@ -1,20 +1,19 @@
-// Groups to a writer, one after the other.
-ghost use Rattle.std.specs.Prelude.{◌≡◌, ◌≤◌, ◌<◌, ◌+◌, ◌^◌, ◌∷◌, [], if◌then◌else◌, OnOk, OnErr, IfOk, IsErrOf};
+// Groups to outputs, one after the other.
+ghost use Rattle.std.specs.Prelude.{◌≡◌, ◌≤◌, ◌<◌, ◌+◌, ◌^◌, ◌∷◌, [], if◌then◌else◌, OnOk, IfOk, IfErr, IsErrOf};
 ghost use Rattle.lp_model.specs.Outside.{Rose};
-ghost use Rattle.query_run.specs.Output.{kind_of, reached};
+ghost use Rattle.text_output.specs.Output.{kind_of};
 ghost use Rattle.row_steps.specs.Grouped.{group_output};
-ghost use Rattle.row_steps.specs.Rows.{WritesRows, HaltsRows};
+ghost use Rattle.row_steps.specs.Rows.{PutsRows, StopsBy};
 
 use crate::group_row::group_row;
-use crate::no_records::NoRecords;
-use crate::output::put_row;
-use log_reading::TakeFault;
 use lp_outside::Stage;
 use lp_values::{GroupRow, GroupRows as GroupRowList, ValueList};
-use output_formats::Shape;
 use plan_rows::ReadyPlan;
-use query_run::Writer;
+use row_output::{OutputFault, RowOutput};
 use std::alloc::{AllocError, Global};
+
+// Outputs take no more rows than this. A list is shorter.
+const MOST_ROWS: usize = 1 << 63;
 
 /// Makes in `row` the output row that SELECT takes of a group, and tells whether HAVING keeps it.
 fn output_row(
@@ -34,42 +33,27 @@ fn output_row(
     Ok(true)
 }
 
-/// Writes the output row of a group, where HAVING keeps it.
-fn write_group<F: Shape + Drop, G: Stage>(
+/// Puts the output row of a group, where HAVING keeps it. `row` is room for it.
+fn put_group<G: Stage>(
     alloc: Global,
     plan: &ReadyPlan,
     group: GroupRow,
-    writer: &mut Writer<F, NoRecords>,
+    row: &mut ValueList,
+    output: &mut RowOutput,
     stage: &mut G,
-) -> Result<(), TakeFault>
-    requires { writer.old.taken + 1 < 2 ^ 64 }
+) -> Result<(), OutputFault>
+    requires room { output.old.put < 2 ^ 63 }
+    ensures puts { OnOk result (PutsRows (kind_of G.state G.ended) (group_output plan.now.plan (group ∷ [])) output.old stage.old output.new stage.new) }
+    ensures stops { IfErr result (λ fault. StopsBy (kind_of G.state G.ended) (group_output plan.now.plan (group ∷ [])) output.old stage.old fault stage.new) }
+    ensures count { OnOk result (output.new.put ≤ output.old.put + 1) }
     ensures goes { G.goes stage.old stage.new }
-    ensures writes { OnOk result (WritesRows F.text F.has_text writer.old (reached (kind_of G.state G.ended) writer.old.target stage.old) (group_output plan.now.plan (group ∷ [])) writer.new (reached (kind_of G.state G.ended) writer.new.target stage.new)) }
-    ensures halts { OnErr result (HaltsRows F.text F.has_text writer.old (reached (kind_of G.state G.ended) writer.old.target stage.old) (group_output plan.now.plan (group ∷ [])) stage.new) }
-    ensures taken { OnOk result (writer.new.taken ≡ writer.old.taken + 1) }
     ensures later { G.faults stage.old ≤ G.faults stage.new }
-    ensures failed { IsErrOf result TakeFault.Failed → Rose (G.faults stage.old) (G.faults stage.new) }
-    ensures stopped { IsErrOf result TakeFault.Stopped → ⊥ }
+    ensures failed { IsErrOf result OutputFault.Failed → Rose (G.faults stage.old) (G.faults stage.new) }
 {
-    let kept = output_row(alloc, plan, group, &mut writer.row);
-    match kept {
-        Err(_) => Err(TakeFault::Memory),
-        Ok(false) => {
-            writer.taken += 1;
-            Ok(())
-        }
-        Ok(true) => {
-            put_row(
-                &mut writer.shape,
-                &writer.row,
-                &mut writer.target,
-                &mut writer.buffers,
-                stage,
-            )?;
-            writer.taken += 1;
-            writer.output += 1;
-            Ok(())
-        }
+    match output_row(alloc, plan, group, row) {
+        Err(_) => Err(OutputFault::Memory),
+        Ok(false) => Ok(()),
+        Ok(true) => output.put(row, stage),
     }
 }
 
@@ -82,25 +66,28 @@ fn no_group(alloc: Global) -> GroupRow {
     }
 }
 
-/// Writes the output rows of groups.
-pub(crate) fn write_groups<F: Shape + Drop, G: Stage>(
+/// Puts the output rows of groups.
+pub(crate) fn put_groups<G: Stage>(
     alloc: Global,
     plan: &ReadyPlan,
     groups: &mut GroupRowList,
-    writer: &mut Writer<F, NoRecords>,
+    output: &mut RowOutput,
     stage: &mut G,
-) -> Result<(), TakeFault>
-    requires { writer.old.taken ≡ 0 }
+) -> Result<(), OutputFault>
+    requires { output.old.put ≡ 0 }
+    ensures puts { OnOk result (PutsRows (kind_of G.state G.ended) (group_output plan.now.plan groups.old) output.old stage.old output.new stage.new) }
+    ensures stops { IfErr result (λ fault. StopsBy (kind_of G.state G.ended) (group_output plan.now.plan groups.old) output.old stage.old fault stage.new) }
     ensures goes { G.goes stage.old stage.new }
-    ensures writes { OnOk result (WritesRows F.text F.has_text writer.old (reached (kind_of G.state G.ended) writer.old.target stage.old) (group_output plan.now.plan groups.old) writer.new (reached (kind_of G.state G.ended) writer.new.target stage.new)) }
-    ensures halts { OnErr result (HaltsRows F.text F.has_text writer.old (reached (kind_of G.state G.ended) writer.old.target stage.old) (group_output plan.now.plan groups.old) stage.new) }
     ensures later { G.faults stage.old ≤ G.faults stage.new }
-    ensures failed { IsErrOf result TakeFault.Failed → Rose (G.faults stage.old) (G.faults stage.new) }
-    ensures stopped { IsErrOf result TakeFault.Stopped → ⊥ }
+    ensures failed { IsErrOf result OutputFault.Failed → Rose (G.faults stage.old) (G.faults stage.new) }
 {
+    if groups.len() > MOST_ROWS {
+        return Err(OutputFault::Memory);
+    }
+    let mut row = ValueList::new(alloc);
     for index in 0..groups.len() {
         let group = groups.replace(index, no_group(alloc));
-        write_group(alloc, plan, group, writer, stage)?;
+        put_group(alloc, plan, group, &mut row, output, stage)?;
     }
     Ok(())
 }

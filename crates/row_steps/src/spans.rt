@@ -1,120 +1,155 @@
 // A grouped query over logs to a stage.
-ghost use Rattle.std.specs.Prelude.{◌≡◌, ◌≤◌, ◌<◌, ◌^◌, ◌+◌, ◌++◌, ℕ, true, length, map, OnOk, OnErr, IfOk, IfErr, IsErrOf};
+ghost use Rattle.std.specs.Prelude.{◌≡◌, ◌≤◌, ◌<◌, ◌^◌, ◌+◌, ◌++◌, [], true, length, map, OnOk, OnErr, IfOk, IfErr, IsErrOf};
 ghost use Rattle.lp_model.specs.Outside.{Rose, OnlyGrow, Told, bytes_in};
-ghost use Rattle.query_run.specs.Output.{kind_of, placed_at, reached, GainsText, GainsFront};
 ghost use Rattle.log_reading.specs.Page.{IsTooMany, IsWithin};
-ghost use Rattle.log_reading.specs.Spans.{AllSpans, IsSpan, AreKept, OnBadLine, spans_found, spans_bad, spans_bad_lines, spans_size, took_of};
+ghost use Rattle.log_reading.specs.Spans.{AllSpans, IsSpan, AreKept, spans_found, spans_bad, spans_bad_lines, spans_size, took_of};
+ghost use Rattle.group_rollup.specs.Tables.{Holds as AreOf};
+ghost use Rattle.text_output.specs.Output.{kind_of};
+ghost use Rattle.row_output.specs.Asked.{left_of};
+ghost use Rattle.row_output.specs.Kept.{HasRows, IsNew, asked_of};
+ghost use Rattle.row_output.specs.Rows.{Holds, IsRefused, Stops};
+ghost use Rattle.query_run.specs.Faults.{OnBad, OnRefusedOutput};
 ghost use Rattle.row_steps.specs.Grouped.{HasWidth, grouped_output};
+ghost use Rattle.row_steps.specs.Rows.{OnGroups, Rows};
 
 use crate::{GroupRows, GroupShape, finish_groups};
-use line_input::{Fields, LineReader, Splitter, Standing};
-use log_reading::{Page, RunFault, Span, TakeFault, TookList, take_spans};
+use line_input::LineReader;
+use log_reading::{Page, Span, TookList, take_spans};
 use lp_outside::{Logs, Stage};
-use lp_values::TextList;
-use output_formats::Shape;
 use plan_rows::ReadyPlan;
-use query_run::{Counts, Picker, Target, Written};
-use std::alloc::{AllocError, Global};
+use query_run::{Counts, Picker, WriteFault, Written, ended_by, first_page, new_chunk, stopped_in};
+use row_output::RowOutput;
+use std::alloc::Global;
 
-const CHUNK: usize = 65536;
-
-// So many zero bytes.
-fn zeros(alloc: Global, size: usize) -> Result<Vec<u8>, AllocError>
-    ensures { IfOk result (λ bytes. length bytes.items ≡ size) }
-{
-    vec![in alloc; 0u8; size]
-}
-
-// The page before the first log.
-fn first_page<P: Picker + Drop>(
+// The page before the first log, with the output of a name without stars opened.
+fn open_page<P: Picker + Drop, G: Stage>(
     alloc: Global,
-    rows: GroupRows<P>,
-    most_bad: Option<u64>,
-) -> Page<GroupRows<P>>
-    ensures taker { result.taker ≡ rows }
-    ensures rows { result.rows ≡ 0 }
-    ensures bad { result.bad ≡ 0 }
-    ensures most { result.most_bad ≡ most_bad }
-{
-    Page {
-        taker: rows,
-        splitter: Splitter::new(alloc, 0),
-        standing: Standing::new(),
-        row: Fields::new(alloc),
-        rows: 0,
-        bad: 0,
-        most_bad,
-    }
-}
-
-/// Writes the output rows of the groups of the records of spans, joined in order.
-pub fn group_spans<R: LineReader, L: Logs, F: Shape + Drop, P: Picker + Drop, G: Stage>(
-    alloc: Global,
-    reader: &R,
-    waits: bool,
-    logs: &mut L,
-    spans: &[Span],
-    names: &TextList,
-    fresh: bool,
-    shape: F,
+    output: &mut RowOutput,
     picker: P,
     asks: &GroupShape,
     plan: ReadyPlan,
-    target: Target,
     most_bad: Option<u64>,
-    took: &mut TookList,
     stage: &mut G,
-) -> Result<Written, RunFault>
-    requires there { Told (L.folder logs.old) (λ folder. AllSpans spans.now (λ span. span.listed ≤ length (bytes_in folder span.name))) }
-    requires spans { AllSpans spans.now IsSpan }
-    requires room { spans_size spans.now + length spans.now < 2 ^ 63 }
+) -> Result<Page<GroupRows<P>>, WriteFault>
+    requires new { IsNew output.old }
     requires wide { HasWidth (P.picks picker) (asks.now.keys + length asks.now.aggregates) }
-    ensures grows { OnlyGrow (L.folder logs.old) (L.folder logs.new) }
+    ensures has { OnOk result (HasRows (kind_of G.state G.ended) output.new stage.old [] stage.new) }
+    ensures asked { asked_of output.new ≡ asked_of output.old }
+    ensures none { output.new.put ≡ 0 }
+    ensures groups { IfOk result (λ page. AreOf asks.now.keys asks.now.aggregates asks.now.rollup page.taker.groups []) }
+    ensures picker { IfOk result (λ page. page.taker.picker ≡ picker) }
+    ensures plan { IfOk result (λ page. page.taker.plan ≡ plan) }
+    ensures taken { IfOk result (λ page. page.taker.taken ≡ 0) }
+    ensures rows { IfOk result (λ page. page.rows ≡ 0) }
+    ensures bad { IfOk result (λ page. page.bad ≡ 0) }
+    ensures most { IfOk result (λ page. page.most_bad ≡ most_bad) }
+    ensures stops { OnErr result ((rows : Rows) → Stops (kind_of G.state G.ended) (asked_of output.old) stage.old rows stage.new) }
+    ensures refused { IfErr result (OnRefusedOutput (λ why. (rows : Rows) → IsRefused (asked_of output.old) rows why)) }
+    ensures good { IfErr result (OnBad (λ line. ⊥)) }
+    ensures logs { IsErrOf result WriteFault.Logs → ⊥ }
     ensures goes { G.goes stage.old stage.new }
-    ensures text { IfOk result (λ written. Told (L.folder logs.new) (λ folder. AreKept (R.format reader.now) waits spans.now folder
-        → GainsText (reached (kind_of G.state G.ended) target stage.old) (placed_at (kind_of G.state G.ended) target.output written.output stage.new) (F.text shape fresh names.now (grouped_output asks.now.keys asks.now.aggregates asks.now.rollup (P.picks picker) plan.plan (spans_found (R.format reader.now) waits folder spans.now))))) }
-    ensures ended { IfOk result (λ written. G.ended stage.new written.output.name written.output.base written.output.mark) }
-    ensures processed { IfOk result (λ written. Told (L.folder logs.new) (λ folder. AreKept (R.format reader.now) waits spans.now folder
-        → written.counts.processed ≡ length (spans_found (R.format reader.now) waits folder spans.now))) }
-    ensures output { IfOk result (λ written. Told (L.folder logs.new) (λ folder. AreKept (R.format reader.now) waits spans.now folder
-        → written.counts.output ≡ length (grouped_output asks.now.keys asks.now.aggregates asks.now.rollup (P.picks picker) plan.plan (spans_found (R.format reader.now) waits folder spans.now)))) }
-    ensures bad { IfOk result (λ written. Told (L.folder logs.new) (λ folder. AreKept (R.format reader.now) waits spans.now folder
-        → written.counts.bad ≡ length (spans_bad (R.format reader.now) waits folder spans.now))) }
-    ensures front { OnErr result (Told (L.folder logs.new) (λ folder. AreKept (R.format reader.now) waits spans.now folder
-        → GainsFront (reached (kind_of G.state G.ended) target stage.old) stage.new (F.text shape fresh names.now (grouped_output asks.now.keys asks.now.aggregates asks.now.rollup (P.picks picker) plan.plan (spans_found (R.format reader.now) waits folder spans.now))))) }
-    ensures took { OnOk result (waits ≡ true → Told (L.folder logs.new) (λ folder. AreKept (R.format reader.now) true spans.now folder
-        → took.new ≡ took.old ++ map (took_of (R.format reader.now) folder) spans.now)) }
-    ensures given { L.given logs.new ≤ L.given logs.old + spans_size spans.now }
-    ensures later_logs { L.faults logs.old ≤ L.faults logs.new }
-    ensures logs { IsErrOf result RunFault.Logs → Rose (L.faults logs.old) (L.faults logs.new) }
     ensures later { G.faults stage.old ≤ G.faults stage.new }
-    ensures within { IfOk result (λ written. IsWithin most_bad written.counts.bad) }
-    ensures too_many { IfErr result (λ fault. OnBadLine fault (λ line. Told (L.folder logs.new) (λ folder. AreKept (R.format reader.now) waits spans.now folder
-        → IsTooMany most_bad 0 (spans_bad_lines (R.format reader.now) waits folder spans.now) line))) }
-    ensures stopped { IsErrOf result RunFault.Stopped → ⊥ }
-    ensures sink { IsErrOf result RunFault.Output → Rose (G.faults stage.old) (G.faults stage.new) }
+    ensures sink { IsErrOf result WriteFault.Output → Rose (G.faults stage.old) (G.faults stage.new) }
 {
     let Ok(rows) = GroupRows::new(alloc, picker, asks, plan) else {
-        return Err(RunFault::Memory);
+        return Err(WriteFault::Memory);
     };
-    let Ok(mut chunk) = zeros(alloc, CHUNK) else {
-        return Err(RunFault::Memory);
-    };
-    let mut page = first_page(alloc, rows, most_bad);
-    take_spans(
-        alloc, reader, waits, logs, spans, &mut chunk, &mut page, took, stage,
-    )?;
-    match finish_groups(alloc, &page.taker, names, fresh, shape, target, stage) {
+    match output.open(stage) {
+        Ok(()) => Ok(first_page(alloc, rows, most_bad)),
+        Err(fault) => Err(ended_by(fault)),
+    }
+}
+
+// Puts the rows of the groups that were gathered, and ends the outputs.
+fn end_page<P: Picker + Drop, G: Stage>(
+    alloc: Global,
+    page: &Page<GroupRows<P>>,
+    output: &mut RowOutput,
+    stage: &mut G,
+) -> Result<Written, WriteFault>
+    requires { output.old.put ≡ 0 }
+    ensures holds { IfOk result (λ written. (start : G) → HasRows (kind_of G.state G.ended) output.old start [] stage.old
+        → OnGroups page.now.taker.plan.plan page.now.taker.groups (λ out. Holds (kind_of G.state G.ended) (asked_of output.old) start out written.outputs stage.new)) }
+    ensures output { IfOk result (λ written. (start : G) → HasRows (kind_of G.state G.ended) output.old start [] stage.old
+        → OnGroups page.now.taker.plan.plan page.now.taker.groups (λ out. written.counts.output ≡ length (left_of (asked_of output.old) out))) }
+    ensures processed { IfOk result (λ written. written.counts.processed ≡ page.now.rows) }
+    ensures bad { IfOk result (λ written. written.counts.bad ≡ page.now.bad) }
+    ensures stops { OnErr result ((start : G) → HasRows (kind_of G.state G.ended) output.old start [] stage.old
+        → OnGroups page.now.taker.plan.plan page.now.taker.groups (λ out. Stops (kind_of G.state G.ended) (asked_of output.old) start out stage.new)) }
+    ensures refused { IfErr result (OnRefusedOutput (λ why. (start : G) → HasRows (kind_of G.state G.ended) output.old start [] stage.old
+        → OnGroups page.now.taker.plan.plan page.now.taker.groups (λ out. IsRefused (asked_of output.old) out why))) }
+    ensures good { IfErr result (OnBad (λ line. ⊥)) }
+    ensures logs { IsErrOf result WriteFault.Logs → ⊥ }
+    ensures goes { G.goes stage.old stage.new }
+    ensures later { G.faults stage.old ≤ G.faults stage.new }
+    ensures sink { IsErrOf result WriteFault.Output → Rose (G.faults stage.old) (G.faults stage.new) }
+{
+    match finish_groups(alloc, &page.taker, output, stage) {
         Ok(finished) => Ok(Written {
             counts: Counts {
                 processed: page.rows,
                 output: finished.rows,
                 bad: page.bad,
             },
-            output: finished.output,
+            outputs: finished.outputs,
         }),
-        Err(TakeFault::Memory) => Err(RunFault::Memory),
-        Err(TakeFault::Stopped) => unreachable!(),
-        Err(TakeFault::Failed) => Err(RunFault::Output),
+        Err(fault) => Err(ended_by(fault)),
+    }
+}
+
+/// Puts the output rows of the groups of the records of spans, joined in order.
+pub fn group_spans<R: LineReader, L: Logs, P: Picker + Drop, G: Stage>(
+    alloc: Global,
+    reader: &R,
+    waits: bool,
+    logs: &mut L,
+    spans: &[Span],
+    mut output: RowOutput,
+    picker: P,
+    asks: &GroupShape,
+    plan: ReadyPlan,
+    most_bad: Option<u64>,
+    took: &mut TookList,
+    stage: &mut G,
+) -> Result<Written, WriteFault>
+    requires there { Told (L.folder logs.old) (λ folder. AllSpans spans.now (λ span. span.listed ≤ length (bytes_in folder span.name))) }
+    requires spans { AllSpans spans.now IsSpan }
+    requires room { spans_size spans.now + length spans.now < 2 ^ 63 }
+    requires new { IsNew output }
+    requires wide { HasWidth (P.picks picker) (asks.now.keys + length asks.now.aggregates) }
+    ensures grows { OnlyGrow (L.folder logs.old) (L.folder logs.new) }
+    ensures goes { G.goes stage.old stage.new }
+    ensures holds { IfOk result (λ written. Told (L.folder logs.new) (λ folder. AreKept (R.format reader.now) waits spans.now folder
+        → Holds (kind_of G.state G.ended) (asked_of output) stage.old (grouped_output asks.now.keys asks.now.aggregates asks.now.rollup (P.picks picker) plan.plan (spans_found (R.format reader.now) waits folder spans.now)) written.outputs stage.new)) }
+    ensures processed { IfOk result (λ written. Told (L.folder logs.new) (λ folder. AreKept (R.format reader.now) waits spans.now folder
+        → written.counts.processed ≡ length (spans_found (R.format reader.now) waits folder spans.now))) }
+    ensures output { IfOk result (λ written. Told (L.folder logs.new) (λ folder. AreKept (R.format reader.now) waits spans.now folder
+        → written.counts.output ≡ length (left_of (asked_of output) (grouped_output asks.now.keys asks.now.aggregates asks.now.rollup (P.picks picker) plan.plan (spans_found (R.format reader.now) waits folder spans.now))))) }
+    ensures bad { IfOk result (λ written. Told (L.folder logs.new) (λ folder. AreKept (R.format reader.now) waits spans.now folder
+        → written.counts.bad ≡ length (spans_bad (R.format reader.now) waits folder spans.now))) }
+    ensures stops { OnErr result (Told (L.folder logs.new) (λ folder. AreKept (R.format reader.now) waits spans.now folder
+        → Stops (kind_of G.state G.ended) (asked_of output) stage.old (grouped_output asks.now.keys asks.now.aggregates asks.now.rollup (P.picks picker) plan.plan (spans_found (R.format reader.now) waits folder spans.now)) stage.new)) }
+    ensures took { OnOk result (waits ≡ true → Told (L.folder logs.new) (λ folder. AreKept (R.format reader.now) true spans.now folder
+        → took.new ≡ took.old ++ map (took_of (R.format reader.now) folder) spans.now)) }
+    ensures given { L.given logs.new ≤ L.given logs.old + spans_size spans.now }
+    ensures later_logs { L.faults logs.old ≤ L.faults logs.new }
+    ensures logs { IsErrOf result WriteFault.Logs → Rose (L.faults logs.old) (L.faults logs.new) }
+    ensures later { G.faults stage.old ≤ G.faults stage.new }
+    ensures within { IfOk result (λ written. IsWithin most_bad written.counts.bad) }
+    ensures too_many { IfErr result (OnBad (λ line. Told (L.folder logs.new) (λ folder. AreKept (R.format reader.now) waits spans.now folder
+        → IsTooMany most_bad 0 (spans_bad_lines (R.format reader.now) waits folder spans.now) line))) }
+    ensures refused { IfErr result (OnRefusedOutput (λ why. Told (L.folder logs.new) (λ folder. AreKept (R.format reader.now) waits spans.now folder
+        → IsRefused (asked_of output) (grouped_output asks.now.keys asks.now.aggregates asks.now.rollup (P.picks picker) plan.plan (spans_found (R.format reader.now) waits folder spans.now)) why))) }
+    ensures sink { IsErrOf result WriteFault.Output → Rose (G.faults stage.old) (G.faults stage.new) }
+{
+    let mut page = open_page(alloc, &mut output, picker, asks, plan, most_bad, stage)?;
+    let Ok(mut chunk) = new_chunk(alloc) else {
+        return Err(WriteFault::Memory);
+    };
+    match take_spans(
+        alloc, reader, waits, logs, spans, &mut chunk, &mut page, took, stage,
+    ) {
+        Ok(()) => end_page(alloc, &page, &mut output, stage),
+        Err(fault) => Err(stopped_in(fault, None)),
     }
 }

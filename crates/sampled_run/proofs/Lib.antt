@@ -1,4 +1,3 @@
-mod Texts
-mod Finishes
+mod Puts
 mod Fresh
 mod Ran

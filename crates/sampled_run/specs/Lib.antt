@@ -2,6 +2,7 @@ pub mod Rules
 pub mod Plans
 pub mod Made
 pub mod Finishes
+pub mod Unplaced
 pub mod Kinds
 pub mod Fresh
 pub mod Read

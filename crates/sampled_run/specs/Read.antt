@@ -4,27 +4,26 @@ use Rattle.grammar.specs.Trees.{Query}
 use Rattle.lp_model.specs.Outside.{Folder, Told}
 use Rattle.lp_model.specs.Reading as reading
 use Rattle.lp_time.specs.declared.piece.Piece.{Piece}
-use Rattle.any_format.specs.declared.format.Format.{Format}
-use Rattle.finished_text.specs.declared.rows_text.RowsText.{RowsText}
+use Rattle.any_format.specs.declared.wanted.Wanted.{Wanted}
+use Rattle.row_output.specs.declared.into.Into.{Into}
 use Rattle.log_reading.specs.declared.page.Page.{Page}
 use Rattle.log_reading.specs.declared.span.Span.{Span}
 use Rattle.log_reading.specs.Spans.{AreKept}
-use Rattle.query_run.specs.declared.target.Target.{Target}
 use Rattle.query_run.specs.declared.writer.Writer.{Writer}
 use Rattle.column_kinds.specs.Sampling.{SampleKind}
 use Rattle.column_kinds.specs.SpansTold.{SamplesSpans}
 use Rattle.column_kinds.specs.declared.phase.Sampled.{Sampled}
 use Rattle.sampled_table.specs.declared.picking.SampledPicker.{SampledPicker}
-use Rattle.sampled_run.specs.declared.text_maker.TextMaker.{TextMaker}
+use Rattle.sampled_run.specs.declared.row_maker.RowMaker.{RowMaker}
 use Rattle.sampled_run.specs.Fresh.{IsFresh}
 
 abbrev pub SampledPage : Type 0 → Type 0
-SampledPage S = Page (Sampled (TextMaker S) (Writer RowsText SampledPicker))
+SampledPage S = Page (Sampled (RowMaker S) (Writer SampledPicker))
 
 -- from a page before the first record, that is asked this, all lines of some spans are read
-pub record HasRead {S : Type 0} (kind : SampleKind (TextMaker S) (Writer RowsText SampledPicker) S) (lines : reading.Format) (waits : Bool) (told : Option Folder) (spans : List Span) (limit : ℕ) (pattern : List Piece) (moment : ℤ) (query : Query) (fresh : Bool) (format : Format) (target : Target) (u v : S) (page : SampledPage S) : Type 0 where
+pub record HasRead {S : Type 0} (kind : SampleKind (RowMaker S) (Writer SampledPicker) S) (lines : reading.Format) (waits : Bool) (told : Option Folder) (spans : List Span) (limit : ℕ) (pattern : List Piece) (moment : ℤ) (query : Query) (wanted : Wanted) (into : Into) (u v : S) (page : SampledPage S) : Type 0 where
   pub first : SampledPage S
-  pub is_fresh : IsFresh limit pattern moment query fresh format target first.taker
+  pub is_fresh : IsFresh limit pattern moment query wanted into first.taker
   pub rows : first.rows ≡ 0
   pub bad : first.bad ≡ 0
   pub reads : Told told (λ folder. AreKept lines waits spans folder → SamplesSpans kind lines waits folder spans first page u v)

@@ -1,5 +1,5 @@
 -- What a run over sampled columns is asked, and what it makes of its records.
-use Rattle.std.specs.Prelude.{ℕ, ℤ, Bool, List, Result}
+use Rattle.std.specs.Prelude.{ℕ, ℤ, List, Result}
 use Rattle.grammar.specs.Trees.{Query}
 use Rattle.lp_time.specs.declared.piece.Piece.{Piece}
 use Rattle.lp_values.specs.declared.value.Value.{Value}
@@ -11,20 +11,19 @@ use Rattle.column_kinds.specs.declared.judging.Judged.{Judged}
 use Rattle.column_kinds.specs.Judged.{table_of}
 use Rattle.column_kinds.specs.Past.{Past}
 use Rattle.column_kinds.specs.Past.{told_at as told_from}
+use Rattle.row_output.specs.Asked.{Asked}
 use Rattle.sampled_table.specs.Picks.{sampled_picks}
 
--- what a run is asked: from how many records kinds are judged, how times are read, the moment, the query, whether its output begins empty, and, by a plan, the text of named rows and which of them it has
+-- what a run is asked: from how many records kinds are judged, how times are read, the moment, the query, and, by a plan, what becomes of its rows
 pub record Rules : Type 0 where
   pub limit : ℕ
   pub pattern : List Piece
   pub moment : ℤ
   pub query : Query
-  pub fresh : Bool
-  pub text : Planned → Bool → List (List ℕ) → List (List Value) → List ℕ
-  pub shown : Planned → List (List Value) → List (List Value)
+  pub asked : Planned → Asked
 
-abbrev pub rules_of : ℕ → List Piece → ℤ → Query → Bool → (Planned → Bool → List (List ℕ) → List (List Value) → List ℕ) → (Planned → List (List Value) → List (List Value)) → Rules
-rules_of limit pattern moment q fresh text shown = record { limit = limit; pattern = pattern; moment = moment; query = q; fresh = fresh; text = text; shown = shown }
+abbrev pub rules_of : ℕ → List Piece → ℤ → Query → (Planned → Asked) → Rules
+rules_of limit pattern moment q asked = record { limit = limit; pattern = pattern; moment = moment; query = q; asked = asked }
 
 -- the columns that the records tell
 abbrev pub told_at : Rules → Past → Judged
@@ -40,6 +39,3 @@ rows_with pattern told plan founds = picked (sampled_picks pattern told plan.ite
 
 abbrev pub rows_at : Rules → Past → Planned → List (List Value)
 rows_at rules past plan = rows_with rules.pattern (told_at rules past) plan past.founds
-
-abbrev pub text_at : Rules → Past → Planned → List ℕ
-text_at rules past plan = rules.text plan rules.fresh plan.names (rows_at rules past plan)

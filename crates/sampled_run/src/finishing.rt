@@ -1,15 +1,18 @@
-// The text of the rows that a query leaves of its plan's.
-ghost use Rattle.std.specs.Prelude.{◌≡◌, List, IfOk};
-ghost use Rattle.lp_values.specs.declared.value.Value.{Value};
-ghost use Rattle.finished_text.specs.RowsTexts.{rows_text_of, shown_of};
+// What a query asks of the rows of its plan.
+ghost use Rattle.std.specs.Prelude.{◌≡◌, ◌≤◌, [], IfOk};
+ghost use Rattle.any_format.specs.Wanted.{IsMoment, wanted_text};
 ghost use Rattle.query_tree.specs.Views.{query_of};
 ghost use Rattle.query_types.specs.Planned.{planned_in};
-ghost use Rattle.sampled_run.specs.Finishes.{finish_of, shown_by, text_by};
+ghost use Rattle.row_output.specs.Kept.{IsNew, asked_of};
+ghost use Rattle.row_output.specs.Sinks.{IsUnplaced, files_for};
+ghost use Rattle.sampled_run.specs.Finishes.{asked_by, finish_of};
 
-use any_format::Format;
-use finished_text::{Order, RowsText};
+use crate::Moment;
+use any_format::Wanted;
+use lp_values::copy_texts;
 use query_tree::Query;
 use query_types::Plan;
+use row_output::{Into, Order, RowOutput};
 use std::alloc::{AllocError, Global};
 
 // What a query asks of the rows of its plan.
@@ -27,16 +30,34 @@ fn order_of(alloc: Global, query: &Query, plan: &Plan) -> Result<Order, AllocErr
     })
 }
 
-/// The text, in a format, of the rows that a query leaves of its plan's.
-pub fn text_of_rows(
+/// The way of a plan's rows to the outputs of its query, before the first row.
+pub fn output_of_rows(
     alloc: Global,
-    format: Format,
+    wanted: Wanted,
+    moment: Moment,
+    into: Into,
     query: &Query,
     plan: &Plan,
-) -> Result<RowsText, AllocError>
-    ensures text { IfOk result (λ text. rows_text_of text ≡ text_by format (query_of query.now) (planned_in plan.now)) }
-    ensures shown { IfOk result (λ text. (rows : List (List Value)) → shown_of text rows ≡ shown_by (query_of query.now) (planned_in plan.now) rows) }
+) -> Result<RowOutput, AllocError>
+    requires moment { IsMoment moment.seconds }
+    requires none { IsUnplaced into }
+    ensures asked { IfOk result (λ output. asked_of output ≡ asked_by (files_for into) (wanted_text wanted moment.seconds) (query_of query.now) (planned_in plan.now)) }
+    ensures new { IfOk result IsNew }
 {
-    let order = order_of(alloc, query, plan)?;
-    Ok(RowsText::new(alloc, format, order))
+    let order = match order_of(alloc, query, plan) {
+        Ok(order) => order,
+        Err(refused) => {
+            drop(wanted);
+            drop(into);
+            return Err(refused);
+        }
+    };
+    match copy_texts(alloc, &plan.names) {
+        Ok(names) => RowOutput::new(alloc, wanted, moment.seconds, into, order, names),
+        Err(refused) => {
+            drop(wanted);
+            drop(into);
+            Err(refused)
+        }
+    }
 }

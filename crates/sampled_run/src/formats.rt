@@ -5,54 +5,57 @@ ghost use Rattle.log_reading.specs.Page.{IsTooMany, IsWithin};
 ghost use Rattle.log_reading.specs.Spans.{AllSpans, AreKept, IsSpan, spans_bad_lines, spans_size, took_of};
 ghost use Rattle.delimited_input.specs.Lines.{delimited_lines};
 ghost use Rattle.delimited_input.specs.Separators.{IsRefused};
-ghost use Rattle.query_run.specs.Output.{kind_of, reached};
+ghost use Rattle.any_format.specs.Wanted.{IsMoment, wanted_text};
+ghost use Rattle.text_output.specs.Output.{kind_of};
+ghost use Rattle.row_output.specs.Sinks.{IsUnplaced, files_for};
 ghost use Rattle.query_tree.specs.Views.{query_of};
 ghost use Rattle.query_types.specs.Built.{is_built};
 ghost use Rattle.column_kinds.specs.Spans.{past_of};
-ghost use Rattle.sampled_run.specs.Finishes.{shown_by, text_by};
+ghost use Rattle.sampled_run.specs.Finishes.{asked_by};
 ghost use Rattle.sampled_run.specs.Rules.{rules_of};
 ghost use Rattle.sampled_run.specs.Ran.{IsSampled, IsStoppedBy, OnBadOne};
 
 use crate::running::sample_reader;
 use crate::{Moment, SampleFault};
-use any_format::Format;
+use any_format::Wanted;
 use delimited_input::{Delimited, DelimitedOptions};
 use log_reading::{Span, TookList};
 use lp_outside::{Logs, Stage};
 use lp_time::Pattern;
-use query_run::{Target, Written};
+use query_run::Written;
 use query_tree::Query;
+use row_output::Into;
 use std::alloc::Global;
 
-/// Writes the text, in a format, of a query's rows over the records of CSV or TSV spans, joined in order, whose columns the spans tell.
+/// Writes a query's rows over the records of CSV or TSV spans, joined in order, whose columns the spans tell.
 pub fn run_sampled<'a, L: Logs, G: Stage>(
     alloc: Global,
     options: DelimitedOptions,
     limit: u32,
     pattern: &'a Pattern,
     moment: Moment,
-    format: Format,
+    wanted: Wanted,
+    into: Into,
     query: &'a Query,
-    fresh: bool,
     most_bad: Option<u64>,
     waits: bool,
     logs: &mut L,
     spans: &[Span],
-    target: Target,
     took: &mut TookList,
     stage: &mut G,
 ) -> Result<Written, SampleFault>
     requires separator { ¬ IsRefused options.separator }
     requires built { is_built (query_of query.now) ≡ true }
+    requires moment { IsMoment moment.seconds }
+    requires none { IsUnplaced into }
     requires few { length spans.now ≤ 100000 }
     requires spans { AllSpans spans.now IsSpan }
     requires there { Told (L.folder logs.old) (λ folder. AllSpans spans.now (λ span. span.listed ≤ length (bytes_in folder span.name))) }
     ensures grows { OnlyGrow (L.folder logs.old) (L.folder logs.new) }
     ensures ran { IfOk result (λ run. Told (L.folder logs.new) (λ folder. AreKept (delimited_lines options) waits spans.now folder
-        → IsSampled (rules_of limit pattern.now moment.seconds (query_of query.now) fresh (text_by format (query_of query.now)) (shown_by (query_of query.now))) (reached (kind_of G.state G.ended) target stage.old) (past_of (delimited_lines options) waits folder spans.now) (delimited_lines options) waits folder spans.now run stage.new)) }
-    ensures ended { IfOk result (λ run. G.ended stage.new run.output.name run.output.base run.output.mark) }
+        → IsSampled (kind_of G.state G.ended) (rules_of limit pattern.now moment.seconds (query_of query.now) (asked_by (files_for into) (wanted_text wanted moment.seconds) (query_of query.now))) stage.old (past_of (delimited_lines options) waits folder spans.now) (delimited_lines options) waits folder spans.now run stage.new)) }
     ensures stopped { IfErr result (λ fault. Told (L.folder logs.new) (λ folder. AreKept (delimited_lines options) waits spans.now folder
-        → IsStoppedBy (rules_of limit pattern.now moment.seconds (query_of query.now) fresh (text_by format (query_of query.now)) (shown_by (query_of query.now))) (reached (kind_of G.state G.ended) target stage.old) (past_of (delimited_lines options) waits folder spans.now) fault stage.new)) }
+        → IsStoppedBy (kind_of G.state G.ended) (rules_of limit pattern.now moment.seconds (query_of query.now) (asked_by (files_for into) (wanted_text wanted moment.seconds) (query_of query.now))) stage.old (past_of (delimited_lines options) waits folder spans.now) fault stage.new)) }
     ensures within { IfOk result (λ run. IsWithin most_bad run.counts.bad) }
     ensures too_many { IfErr result (λ fault. OnBadOne fault (λ line. Told (L.folder logs.new) (λ folder. AreKept (delimited_lines options) waits spans.now folder
         → IsTooMany most_bad 0 (spans_bad_lines (delimited_lines options) waits folder spans.now) line))) }
@@ -69,7 +72,7 @@ pub fn run_sampled<'a, L: Logs, G: Stage>(
         unreachable!();
     };
     sample_reader(
-        alloc, &reader, limit, pattern, moment, query, fresh, most_bad, waits, logs, spans, format,
-        target, took, stage,
+        alloc, &reader, limit, pattern, moment, query, most_bad, waits, logs, spans, wanted, into,
+        took, stage,
     )
 }

@@ -1,3 +1,4 @@
 pub mod StampLemmas
 pub mod Texts
 pub mod NameLemmas
+pub mod Numbers

@@ -1,9 +1,10 @@
 // The value that a field is.
-ghost use Rattle.std.specs.Prelude.{◌≡◌, IfOk, MatchOption, option_map, option_and_then};
+ghost use Rattle.std.specs.Prelude.{◌≡◌, ◌<◌, ◌^◌, pos, IfOk, IfSome, MatchOption, option_map, option_and_then};
 ghost use Rattle.std.specs.Str.{is_utf8};
 ghost use Rattle.slot_reading.specs.Slots.{text_in, value_in, value_of, or_null};
 ghost use Rattle.slot_reading.specs.Stamps.{stamp_value};
 ghost use Rattle.lp_values.specs.Readings.{integer_in, real_in};
+ghost use Rattle.lp_values.specs.declared.value.Value.TheVariants.{Int};
 ghost use Rattle.lp_time.specs.Readings.{seconds_in, part_of};
 ghost use Rattle.lp_time.specs.CommonLog.{clf_seconds};
 
@@ -21,10 +22,45 @@ fn text_in(bytes: &[u8]) -> Option<&str>
     }
 }
 
+// The greatest whole number.
+const MOST: u64 = 9_223_372_036_854_775_807;
+
+fn as_integer(number: u64) -> i64
+    requires { number < 2 ^ 63 }
+    ensures { result ≡ pos number }
+{
+    number as i64
+}
+
+// The number that bytes are which are digits alone, as most are: these need no look at the text as a whole.
+fn digits_number(bytes: &[u8]) -> Option<i64>
+    ensures { IfSome result (λ number. Int number ≡ value_in Reading.Integer bytes.now) }
+{
+    let mut number = 0u64;
+    for byte in bytes {
+        if !byte.is_ascii_digit() {
+            return None;
+        }
+        number = number
+            .saturating_mul(10)
+            .saturating_add(u64::from(*byte - b'0'));
+    }
+    if number > MOST {
+        return None;
+    }
+    if bytes.len() == 0 {
+        return None;
+    }
+    Some(as_integer(number))
+}
+
 /// The whole number that a field's bytes are, or NULL.
 pub fn integer_value(bytes: &[u8]) -> Value
     ensures { result ≡ value_in Reading.Integer bytes.now }
 {
+    if let Some(number) = digits_number(bytes) {
+        return Value::Int(number);
+    }
     match text_in(bytes) {
         Some(text) => match read_integer(text) {
             Some(number) => Value::Int(number),

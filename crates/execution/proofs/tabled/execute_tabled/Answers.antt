@@ -1,12 +1,24 @@
-use Rattle.std.proofs.Common.{ℕ, Option, inr, subst}
+use Rattle.std.proofs.Common.{ℕ, ℤ, List, Option, inr, subst}
+use Rattle.grammar.specs.Trees as model
 use Rattle.lp_model.proofs.Growing.{OnlyGrow-refl}
+use Rattle.any_format.specs.Wanted.{wanted_text}
+use Rattle.any_format.specs.declared.wanted.Wanted.{Wanted}
 use Rattle.log_reading.specs.Page.{IsWithin}
-use Rattle.query_run.specs.Output.{kind_of, placed_at, reached, GainsText, GainsFront}
-use Rattle.finished_text.specs.RowsTexts.{rows_text_of, shown_of}
+use Rattle.lp_values.specs.declared.value.Value.{Value}
+use Rattle.text_output.specs.Output.{kind_of}
 use Rattle.query_tree.specs.Views.{query_of}
-use Rattle.query_types.specs.Planned.{planned_in}
+use Rattle.query_types.specs.Planned.{Planned, planned_in}
+use Rattle.row_output.specs.Asked.{Asked}
+use Rattle.row_output.specs.Kept.{asked_of}
+use Rattle.row_output.specs.Rows.{Holds, IsRefused, Stops}
+use Rattle.row_output.specs.Sinks.{files_for}
+use Rattle.row_output.specs.declared.into.Into.{Into}
+use Rattle.sampled_run.specs.Finishes.{asked_by}
 use Rattle.execution.proofs.TabledRuns.{executed, front, parse_error}
 use Rattle.execution.proofs.tabled.execute_tabled.Goals as goal
+
+abbrev asked_with : Into → Wanted → ℤ → model.Query → Planned → Asked
+asked_with into wanted moment q = asked_by (files_for into) (wanted_text wanted moment) q
 
 pub returns-in-Err-clause-grows : goal.returns-in-Err-clause-grows
 returns-in-Err-clause-grows g c = OnlyGrow-refl _
@@ -17,32 +29,43 @@ returns-in_default-clause-grows g c = OnlyGrow-refl _
 pub returns-in-Ok-run_plan-clause-ran : goal.returns-in-Ok-run_plan-clause-ran
 returns-in-Ok-run_plan-clause-ran g c =
     let run = c.in-Ok-run_plan.ensures in
-    executed (g.L.Logs.folder c.run_plan.new.logs) (λ text. GainsText (reached (kind_of g.G.Stage.state g.G.Stage.ended) c.args.target c.args.stage.now) (placed_at (kind_of g.G.Stage.state g.G.Stage.ended) c.args.target.output c.in-Ok-run_plan.run'.output c.run_plan.new.stage) text) c.args.output c.args.spec.now c.args.moment.seconds (query_of c.args.query.now)
-    c.args.format (planned_in c.in-Ok.plan) c.as_slice.result.now c.args.spans.now c.in-Ok-run_plan.run'.counts (rows_text_of c.in-Ok-text_of_rows.text) (shown_of c.in-Ok-text_of_rows.text) c.as_slice.ensures c.in-Ok.ensures.plan c.in-Ok-text_of_rows.ensures.text c.in-Ok-text_of_rows.ensures.shown
-    run.text run.processed run.output run.bad
+    let Has : Asked → List (List Value) → Type 0 = λ asked rows. Holds (kind_of g.G.Stage.state g.G.Stage.ended) asked c.args.stage.now rows c.in-Ok-run_plan.run'.outputs c.run_plan.new.stage in
+    executed (g.L.Logs.folder c.run_plan.new.logs) Has (asked_with c.args.into c.args.wanted c.args.moment.seconds (query_of c.args.query.now)) c.args.spec.now c.args.moment.seconds (query_of c.args.query.now)
+    c.args.format (planned_in c.in-Ok.plan) c.as_slice.result.now c.args.spans.now c.in-Ok-run_plan.run'.counts (asked_of c.in-Ok-output_of_rows.output) c.as_slice.ensures c.in-Ok.ensures.plan c.in-Ok-output_of_rows.ensures.asked
+    run.holds run.processed run.output run.bad
 
 pub returns-in-Ok-run_plan-clause-within : goal.returns-in-Ok-run_plan-clause-within
 returns-in-Ok-run_plan-clause-within g c = subst (λ (most : Option ℕ). IsWithin most c.in-Ok-run_plan.run'.counts.bad) c.most_bad.ensures c.in-Ok-run_plan.ensures.within
 
 pub returns-in-Err-Memory-clause-stopped : goal.returns-in-Err-Memory-clause-stopped
 returns-in-Err-Memory-clause-stopped g c = inr
-    (front (g.L.Logs.folder c.run_plan.new.logs) (λ text. GainsFront (reached (kind_of g.G.Stage.state g.G.Stage.ended) c.args.target c.args.stage.now) c.run_plan.new.stage text) c.args.output c.args.spec.now c.args.moment.seconds (query_of c.args.query.now)
-    c.args.format (planned_in c.in-Ok.plan) c.as_slice.result.now c.args.spans.now (rows_text_of c.in-Ok-text_of_rows.text) c.as_slice.ensures c.in-Ok.ensures.plan c.in-Ok-text_of_rows.ensures.text c.in-Err-Memory.ensures.front)
+    (front (g.L.Logs.folder c.run_plan.new.logs) (λ asked rows. Stops (kind_of g.G.Stage.state g.G.Stage.ended) asked c.args.stage.now rows c.run_plan.new.stage) (asked_with c.args.into c.args.wanted c.args.moment.seconds (query_of c.args.query.now)) c.args.spec.now c.args.moment.seconds (query_of c.args.query.now)
+    c.args.format (planned_in c.in-Ok.plan) c.as_slice.result.now c.args.spans.now (asked_of c.in-Ok-output_of_rows.output) c.as_slice.ensures c.in-Ok.ensures.plan c.in-Ok-output_of_rows.ensures.asked c.in-Err-Memory.ensures.stops)
 
 pub returns-in-Err-Logs-clause-stopped : goal.returns-in-Err-Logs-clause-stopped
 returns-in-Err-Logs-clause-stopped g c = inr
-    (front (g.L.Logs.folder c.run_plan.new.logs) (λ text. GainsFront (reached (kind_of g.G.Stage.state g.G.Stage.ended) c.args.target c.args.stage.now) c.run_plan.new.stage text) c.args.output c.args.spec.now c.args.moment.seconds (query_of c.args.query.now)
-    c.args.format (planned_in c.in-Ok.plan) c.as_slice.result.now c.args.spans.now (rows_text_of c.in-Ok-text_of_rows.text) c.as_slice.ensures c.in-Ok.ensures.plan c.in-Ok-text_of_rows.ensures.text c.in-Err-Logs.ensures.front)
+    (front (g.L.Logs.folder c.run_plan.new.logs) (λ asked rows. Stops (kind_of g.G.Stage.state g.G.Stage.ended) asked c.args.stage.now rows c.run_plan.new.stage) (asked_with c.args.into c.args.wanted c.args.moment.seconds (query_of c.args.query.now)) c.args.spec.now c.args.moment.seconds (query_of c.args.query.now)
+    c.args.format (planned_in c.in-Ok.plan) c.as_slice.result.now c.args.spans.now (asked_of c.in-Ok-output_of_rows.output) c.as_slice.ensures c.in-Ok.ensures.plan c.in-Ok-output_of_rows.ensures.asked c.in-Err-Logs.ensures.stops)
 
 pub returns-in-Err-Output-clause-stopped : goal.returns-in-Err-Output-clause-stopped
 returns-in-Err-Output-clause-stopped g c = inr
-    (front (g.L.Logs.folder c.run_plan.new.logs) (λ text. GainsFront (reached (kind_of g.G.Stage.state g.G.Stage.ended) c.args.target c.args.stage.now) c.run_plan.new.stage text) c.args.output c.args.spec.now c.args.moment.seconds (query_of c.args.query.now)
-    c.args.format (planned_in c.in-Ok.plan) c.as_slice.result.now c.args.spans.now (rows_text_of c.in-Ok-text_of_rows.text) c.as_slice.ensures c.in-Ok.ensures.plan c.in-Ok-text_of_rows.ensures.text c.in-Err-Output.ensures.front)
+    (front (g.L.Logs.folder c.run_plan.new.logs) (λ asked rows. Stops (kind_of g.G.Stage.state g.G.Stage.ended) asked c.args.stage.now rows c.run_plan.new.stage) (asked_with c.args.into c.args.wanted c.args.moment.seconds (query_of c.args.query.now)) c.args.spec.now c.args.moment.seconds (query_of c.args.query.now)
+    c.args.format (planned_in c.in-Ok.plan) c.as_slice.result.now c.args.spans.now (asked_of c.in-Ok-output_of_rows.output) c.as_slice.ensures c.in-Ok.ensures.plan c.in-Ok-output_of_rows.ensures.asked c.in-Err-Output.ensures.stops)
+
+pub returns-in-Err-Refused-clause-stopped : goal.returns-in-Err-Refused-clause-stopped
+returns-in-Err-Refused-clause-stopped g c = inr
+    (front (g.L.Logs.folder c.run_plan.new.logs) (λ asked rows. Stops (kind_of g.G.Stage.state g.G.Stage.ended) asked c.args.stage.now rows c.run_plan.new.stage) (asked_with c.args.into c.args.wanted c.args.moment.seconds (query_of c.args.query.now)) c.args.spec.now c.args.moment.seconds (query_of c.args.query.now)
+    c.args.format (planned_in c.in-Ok.plan) c.as_slice.result.now c.args.spans.now (asked_of c.in-Ok-output_of_rows.output) c.as_slice.ensures c.in-Ok.ensures.plan c.in-Ok-output_of_rows.ensures.asked c.in-Err-Refused.ensures.stops)
 
 pub returns-clause-stopped : goal.returns-clause-stopped
 returns-clause-stopped g c = inr
-    (front (g.L.Logs.folder c.run_plan.new.logs) (λ text. GainsFront (reached (kind_of g.G.Stage.state g.G.Stage.ended) c.args.target c.args.stage.now) c.run_plan.new.stage text) c.args.output c.args.spec.now c.args.moment.seconds (query_of c.args.query.now)
-    c.args.format (planned_in c.in-Ok.plan) c.as_slice.result.now c.args.spans.now (rows_text_of c.in-Ok-text_of_rows.text) c.as_slice.ensures c.in-Ok.ensures.plan c.in-Ok-text_of_rows.ensures.text c.in-Err-Bad.ensures.front)
+    (front (g.L.Logs.folder c.run_plan.new.logs) (λ asked rows. Stops (kind_of g.G.Stage.state g.G.Stage.ended) asked c.args.stage.now rows c.run_plan.new.stage) (asked_with c.args.into c.args.wanted c.args.moment.seconds (query_of c.args.query.now)) c.args.spec.now c.args.moment.seconds (query_of c.args.query.now)
+    c.args.format (planned_in c.in-Ok.plan) c.as_slice.result.now c.args.spans.now (asked_of c.in-Ok-output_of_rows.output) c.as_slice.ensures c.in-Ok.ensures.plan c.in-Ok-output_of_rows.ensures.asked c.in-Err-Bad.ensures.stops)
+
+pub returns-in-Err-Refused-clause-refused : goal.returns-in-Err-Refused-clause-refused
+returns-in-Err-Refused-clause-refused g c =
+    front (g.L.Logs.folder c.run_plan.new.logs) (λ asked rows. IsRefused asked rows c.in-Err-Refused.why) (asked_with c.args.into c.args.wanted c.args.moment.seconds (query_of c.args.query.now)) c.args.spec.now c.args.moment.seconds (query_of c.args.query.now)
+    c.args.format (planned_in c.in-Ok.plan) c.as_slice.result.now c.args.spans.now (asked_of c.in-Ok-output_of_rows.output) c.as_slice.ensures c.in-Ok.ensures.plan c.in-Ok-output_of_rows.ensures.asked (rw c.in-Err-Refused.field-0-is at c.in-Err-Refused.ensures.refused)
 
 pub returns-clause-parse : goal.returns-clause-parse
 returns-clause-parse g c =

@@ -1,16 +1,18 @@
-use Rattle.std.proofs.Common.{◌≡◌, ℤ, refl, subst, arith}
+use Rattle.std.proofs.Common.{◌≡◌, ℤ, subst, arith}
 use Rattle.std.proofs.lemmas.Int.{to_z-of_z}
 use Rattle.lp_model.specs.Outside.{Rose}
 use Rattle.reports.specs.Messages.{message}
 use Rattle.logparser_cli.specs.Answers.{Answers}
-use Rattle.logparser_cli.specs.Whole.{World, Tells}
+use Rattle.file_stage.specs.FileTexts.{AlwaysTells}
+use Rattle.logparser_cli.specs.Outputs.{World, held, world}
+use Rattle.logparser_cli.specs.Whole.{Tells}
 use Rattle.logparser_cli.proofs.Answering.{on_refused, refused_is, told_answers}
 use Rattle.logparser_cli.proofs.running.run.Goals as goal
 
 pub returns-in_default : goal.returns-in_default
 returns-in_default g c =
-    let old : World = record { folder = g.L.Logs.folder c.args.logs.now; logs_faults = g.L.Logs.faults c.args.logs.now; out = g.S.Sink.written c.args.out.now; out_faults = g.S.Sink.faults c.args.out.now; err = g.E.Sink.written c.args.err.now; err_faults = g.E.Sink.faults c.args.err.now } in
-    let new : World = record { folder = g.L.Logs.folder c.run_words.new.logs; logs_faults = g.L.Logs.faults c.run_words.new.logs; out = g.S.Sink.written c.run_words.new.out; out_faults = g.S.Sink.faults c.run_words.new.out; err = g.E.Sink.written c.run_words.new.err; err_faults = g.E.Sink.faults c.run_words.new.err } in
+    let old : World = world (g.L.Logs.folder c.args.logs.now) (g.L.Logs.faults c.args.logs.now) (held (AlwaysTells g.D.Disk.state) (g.D.Disk.state c.args.disk.now).seen (g.S.Sink.written c.args.out.now)) (g.D.Disk.faults c.args.disk.now) (g.S.Sink.faults c.args.out.now) (g.E.Sink.written c.args.err.now) (g.E.Sink.faults c.args.err.now) in
+    let new : World = world (g.L.Logs.folder c.run_words.new.logs) (g.L.Logs.faults c.run_words.new.logs) (held (AlwaysTells g.D.Disk.state) (g.D.Disk.state c.run_words.new.disk).seen (g.S.Sink.written c.run_words.new.out)) (g.D.Disk.faults c.run_words.new.disk) (g.S.Sink.faults c.run_words.new.out) (g.E.Sink.written c.run_words.new.err) (g.E.Sink.faults c.run_words.new.err) in
     let status = c.run_words.result in
     let same : c.run_words.new.err ≡ c.args.err.now = refused_is status (c.run_words.new.err ≡ c.args.err.now) c.in_default.not-Done c.run_words.ensures.silent in
     record {
@@ -18,9 +20,10 @@ returns-in_default g c =
           (subst (λ (moment : ℤ). Answers moment c.args.words.now old new status) (to_z-of_z _ c.args.moment c.ranges.moment) c.run_words.ensures.answers);
       told = on_refused status (Tells (g.E.Sink.written c.args.err.now) (g.E.Sink.written c.tell_refusal.new.err) (message status) (Rose (g.E.Sink.faults c.args.err.now) (g.E.Sink.faults c.tell_refusal.new.err)))
           (subst (λ (err : g.row.E.Denot). Tells (g.E.Sink.written err) (g.E.Sink.written c.tell_refusal.new.err) (message status) (Rose (g.E.Sink.faults err) (g.E.Sink.faults c.tell_refusal.new.err))) same c.tell_refusal.ensures.told);
-      disk = refl;
       grows = c.run_words.ensures.grows;
       later = c.run_words.ensures.later;
+      honest = c.run_words.ensures.honest;
+      later_disk = c.run_words.ensures.later_disk;
       later_out = c.run_words.ensures.later_out;
       later_err = let first = c.run_words.ensures.later_err in let second = c.tell_refusal.ensures.later in omega arith;
       given = c.run_words.ensures.given;

@@ -1,4 +1,4 @@
-use Rattle.std.proofs.Common.{sym, arith}
+use Rattle.std.proofs.Common.{sym}
 use Rattle.ncsa_input.proofs.Taking.{closing_start, closing_found, closing_behind, closing_at_mark, closing_unmarked, other_mark}
 use Rattle.ncsa_input.proofs.pieces.closing.Goals as goal
 

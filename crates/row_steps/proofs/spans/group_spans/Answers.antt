@@ -1,159 +1,171 @@
-use Rattle.std.proofs.Common.{◌≡◌, [], List, ℕ, length, Option, ap, sym, ◌∙◌, subst}
+use Rattle.std.proofs.Common.{◌≡◌, ℕ, List, [], length, Err, Option, None, ap, sym, ◌∙◌, subst, refl}
+use Rattle.std.proofs.lemmas.Result.{IfOk-weaker, IfErr-weaker, IfErr-at_err, on_err_weaker}
 use Rattle.lp_model.specs.Outside.{Folder, Told}
 use Rattle.lp_model.proofs.Growing.{OnlyGrow-refl}
 use Rattle.lp_model.proofs.Results.{on_err}
 use Rattle.lp_values.specs.declared.value.Value.{Value}
-use Rattle.group_rollup.specs.Tables.{Table, Holds}
-use Rattle.log_reading.specs.Found.{Found, rows_met}
 use Rattle.log_reading.specs.Page.{IsTooMany, IsWithin}
-use Rattle.log_reading.specs.Spans.{AreKept, BadLine, OnBadLine, spans_found, spans_bad_lines, TakesSpans}
+use Rattle.log_reading.specs.Spans.{AreKept, BadLine, spans_found, spans_bad_lines}
 use Rattle.log_reading.proofs.Faults.{handed_on, bad_line_so}
-use Rattle.log_reading.proofs.RowsMet.{rows_met_spans}
-use Rattle.query_run.specs.Output.{kind_of, placed_at, reached, GainsText, GainsFront}
-use Rattle.query_run.specs.Gaining.{front_none}
-use Rattle.query_run.proofs.WholeRun.{told_all, told_map}
+use Rattle.text_output.specs.Output.{kind_of}
+use Rattle.row_output.specs.Asked.{left_of}
+use Rattle.row_output.specs.Kept.{HasRows, asked_of}
+use Rattle.row_output.specs.Rows.{Holds, IsRefused, Stops}
+use Rattle.row_output.specs.declared.fault.Refused.{Refused}
+use Rattle.query_run.specs.Faults.{OnBad, OnRefusedOutput}
+use Rattle.query_run.specs.declared.fault.WriteFault.{WriteFault}
+use Rattle.query_run.specs.declared.fault.WriteFault.TheVariants as W
+use Rattle.query_run.proofs.Reasons.{bad_in, bad_so, logs_in, refused_in, refused_so}
+use Rattle.query_run.proofs.WholeRun.{told_all, told_map, rows_taken, bad_taken}
+use Rattle.row_output.proofs.Stopping.{rows_stop}
+use Rattle.row_steps.specs.Gathered.{gathered_at}
 use Rattle.row_steps.specs.Grouped.{grouped_output}
-use Rattle.row_steps.specs.Gathered.{Gathers, gathered_at}
-use Rattle.row_steps.proofs.Ends.{of_gathered}
+use Rattle.row_steps.proofs.Ends.{spans_end}
 use Rattle.row_steps.proofs.spans.group_spans.Goals as goal
+
+pub stopped_in-requires : goal.stopped_in-requires
+stopped_in-requires g c = λ e. absurd (c.in-Err.ensures.stopped (ap (λ f. Err f) e))
+
+pub returns-in_err-page-clause-grows : goal.returns-in_err-page-clause-grows
+returns-in_err-page-clause-grows g c = OnlyGrow-refl _
 
 pub returns-in_default-clause-grows : goal.returns-in_default-clause-grows
 returns-in_default-clause-grows g c = OnlyGrow-refl _
 
-pub returns-in_default-zeros-clause-grows : goal.returns-in_default-zeros-clause-grows
-returns-in_default-zeros-clause-grows g c = OnlyGrow-refl _
-
-pub returns-in_default-clause-front : goal.returns-in_default-clause-front
-returns-in_default-clause-front g c =
-    let u = reached (kind_of g.G.Stage.state g.G.Stage.ended) c.args.target c.args.stage.now in
-    let format = g.R.LineReader.format c.args.reader.now in
+pub returns-in_err-page-clause-stops : goal.returns-in_err-page-clause-stops
+returns-in_err-page-clause-stops g c =
+    let kind = kind_of g.G.Stage.state g.G.Stage.ended in
     let asks = c.args.asks.now in
-    let text : Folder → List ℕ = λ folder. g.F.Shape.text c.args.shape c.args.fresh c.args.names.now (grouped_output asks.keys asks.aggregates asks.rollup (g.P.Picker.picks c.args.picker) c.args.plan.plan (spans_found format c.args.waits folder c.args.spans.now)) in
-    told_all _ (λ folder. AreKept format c.args.waits c.args.spans.now folder → GainsFront u c.args.stage.now (text folder)) (λ folder kept. front_none u (text folder))
-
-pub returns-in_default-zeros-clause-front : goal.returns-in_default-zeros-clause-front
-returns-in_default-zeros-clause-front g c =
-    let u = reached (kind_of g.G.Stage.state g.G.Stage.ended) c.args.target c.args.stage.now in
     let format = g.R.LineReader.format c.args.reader.now in
-    let asks = c.args.asks.now in
-    let text : Folder → List ℕ = λ folder. g.F.Shape.text c.args.shape c.args.fresh c.args.names.now (grouped_output asks.keys asks.aggregates asks.rollup (g.P.Picker.picks c.args.picker) c.args.plan.plan (spans_found format c.args.waits folder c.args.spans.now)) in
-    told_all _ (λ folder. AreKept format c.args.waits c.args.spans.now folder → GainsFront u c.args.stage.now (text folder)) (λ folder kept. front_none u (text folder))
-
-pub returns-in_err-take_spans-clause-front : goal.returns-in_err-take_spans-clause-front
-returns-in_err-take_spans-clause-front g c =
-    let u = reached (kind_of g.G.Stage.state g.G.Stage.ended) c.args.target c.args.stage.now in
-    let v = c.take_spans.new.out in
-    let format = g.R.LineReader.format c.args.reader.now in
-    let asks = c.args.asks.now in
-    let Kept : Folder → Type 0 = λ folder. AreKept format c.args.waits c.args.spans.now folder in
-    let text : Folder → List ℕ = λ folder. g.F.Shape.text c.args.shape c.args.fresh c.args.names.now (grouped_output asks.keys asks.aggregates asks.rollup (g.P.Picker.picks c.args.picker) c.args.plan.plan (spans_found format c.args.waits folder c.args.spans.now)) in
+    let rows : Folder → List (List Value) = λ folder. grouped_output asks.keys asks.aggregates asks.rollup (g.P.Picker.picks c.args.picker) c.args.plan.plan (spans_found format c.args.waits folder c.args.spans.now) in
     on_err _ c.from_residual.result
-    (told_map _ (λ folder. Kept folder → v ≡ c.args.stage.now) (λ folder. Kept folder → GainsFront u v (text folder)) (λ folder stopped kept.
-    subst (λ w. GainsFront u w (text folder)) (sym (stopped kept)) (front_none u (text folder)))
-    c.in_err-take_spans.ensures.stops)
+    (told_all _ (λ folder. AreKept format c.args.waits c.args.spans.now folder → Stops kind (asked_of c.args.output) c.args.stage.now (rows folder) c.open_page.new.stage) (λ folder kept. c.in_err-page.ensures.stops (rows folder)))
 
-pub returns-in-Ok-finish_groups-clause-text : goal.returns-in-Ok-finish_groups-clause-text
-returns-in-Ok-finish_groups-clause-text g c =
+pub returns-in_err-page-clause-refused : goal.returns-in_err-page-clause-refused
+returns-in_err-page-clause-refused g c =
+    let told = g.L.Logs.folder c.args.logs.now in
+    let asks = c.args.asks.now in
+    let format = g.R.LineReader.format c.args.reader.now in
+    let rows : Folder → List (List Value) = λ folder. grouped_output asks.keys asks.aggregates asks.rollup (g.P.Picker.picks c.args.picker) c.args.plan.plan (spans_found format c.args.waits folder c.args.spans.now) in
+    let Q : Refused → Type 0 = λ why. Told told (λ folder. AreKept format c.args.waits c.args.spans.now folder → IsRefused (asked_of c.args.output) (rows folder) why) in
+    handed_on c.from_residual.result _ (OnRefusedOutput Q) c.from_residual.ensures.1
+    (refused_so _ _ Q (λ why is. told_all told (λ folder. AreKept format c.args.waits c.args.spans.now folder → IsRefused (asked_of c.args.output) (rows folder) why) (λ folder kept. is (rows folder))) c.in_err-page.ensures.refused)
+
+pub returns-in_err-page-clause-too_many : goal.returns-in_err-page-clause-too_many
+returns-in_err-page-clause-too_many g c =
+    let format = g.R.LineReader.format c.args.reader.now in
+    let told = g.L.Logs.folder c.args.logs.now in
+    let Of : BadLine → Type 0 = λ line. Told told (λ folder. AreKept format c.args.waits c.args.spans.now folder → IsTooMany c.args.most_bad 0 (spans_bad_lines format c.args.waits folder c.args.spans.now) line) in
+    handed_on c.from_residual.result _ (OnBad Of) c.from_residual.ensures.1 (bad_so _ (λ line. ⊥) Of (λ line none. absurd none) c.in_err-page.ensures.good)
+
+pub returns-in_default-clause-stops : goal.returns-in_default-clause-stops
+returns-in_default-clause-stops g c =
     let kind = kind_of g.G.Stage.state g.G.Stage.ended in
-    let picks = g.P.Picker.picks in
-    let format = g.R.LineReader.format c.args.reader.now in
     let asks = c.args.asks.now in
-    let page = c.first_page-page.result in
-    let last = c.take_spans.new.page in
-    let same = c.first_page-page.ensures.taker in
-    let made = c.in-Ok.ensures in
-    let founds : Folder → List Found = λ folder. spans_found format c.args.waits folder c.args.spans.now in
-    let Kept : Folder → Type 0 = λ folder. AreKept format c.args.waits c.args.spans.now folder in
-    let old = gathered_at page.taker.picker page.taker.plan page.taker.groups c.args.stage.now in
-    let new = gathered_at last.taker.picker last.taker.plan last.taker.groups c.take_spans.new.out in
-    let out = placed_at kind c.args.target.output c.in-Ok-finish_groups.finished.output c.finish_groups.new.stage in
-    let text : List (List Value) → List ℕ = g.F.Shape.text c.args.shape c.args.fresh c.args.names.now in
-    let none = subst (λ (t : Table). Holds asks.keys asks.aggregates asks.rollup t []) (sym (ap (λ w. w.groups) same)) made.holds in
-    told_map _ (λ folder. Kept folder → TakesSpans (λ a u xs b v. Gathers picks (gathered_at a.picker a.plan a.groups u) (rows_met xs) (gathered_at b.picker b.plan b.groups v)) format c.args.waits folder c.args.spans.now page last c.args.stage.now c.take_spans.new.out)
-    (λ folder. Kept folder → GainsText (reached kind c.args.target c.args.stage.now) out (text (grouped_output asks.keys asks.aggregates asks.rollup (picks c.args.picker) c.args.plan.plan (founds folder)))) (λ folder took kept.
-    of_gathered picks (λ o rows. GainsText (reached kind c.args.target o) out (text rows)) old new asks.keys asks.aggregates asks.rollup c.args.picker c.args.plan (founds folder)
-    (subst (λ (t : List Found). Gathers picks old t new) (rows_met_spans format c.args.waits folder c.args.spans.now) ((took kept).done)) none (ap (λ w. w.picker) same ∙ made.picker) (ap (λ w. w.plan) same ∙ made.plan)
-    (λ records holds. c.in-Ok-finish_groups.ensures.text asks.keys asks.aggregates asks.rollup records holds))
-    c.in_ok-take_spans.ensures.takes
-
-pub returns-in-Ok-finish_groups-clause-output : goal.returns-in-Ok-finish_groups-clause-output
-returns-in-Ok-finish_groups-clause-output g c =
-    let picks = g.P.Picker.picks in
     let format = g.R.LineReader.format c.args.reader.now in
-    let asks = c.args.asks.now in
-    let page = c.first_page-page.result in
-    let last = c.take_spans.new.page in
-    let same = c.first_page-page.ensures.taker in
-    let made = c.in-Ok.ensures in
-    let founds : Folder → List Found = λ folder. spans_found format c.args.waits folder c.args.spans.now in
-    let Kept : Folder → Type 0 = λ folder. AreKept format c.args.waits c.args.spans.now folder in
-    let old = gathered_at page.taker.picker page.taker.plan page.taker.groups c.args.stage.now in
-    let new = gathered_at last.taker.picker last.taker.plan last.taker.groups c.take_spans.new.out in
-    let none = subst (λ (t : Table). Holds asks.keys asks.aggregates asks.rollup t []) (sym (ap (λ w. w.groups) same)) made.holds in
-    told_map _ (λ folder. Kept folder → TakesSpans (λ a u xs b v. Gathers picks (gathered_at a.picker a.plan a.groups u) (rows_met xs) (gathered_at b.picker b.plan b.groups v)) format c.args.waits folder c.args.spans.now page last c.args.stage.now c.take_spans.new.out)
-    (λ folder. Kept folder → c.in-Ok-finish_groups.finished.rows ≡ length (grouped_output asks.keys asks.aggregates asks.rollup (picks c.args.picker) c.args.plan.plan (founds folder))) (λ folder took kept.
-    of_gathered picks (λ o rows. c.in-Ok-finish_groups.finished.rows ≡ length rows) old new asks.keys asks.aggregates asks.rollup c.args.picker c.args.plan (founds folder)
-    (subst (λ (t : List Found). Gathers picks old t new) (rows_met_spans format c.args.waits folder c.args.spans.now) ((took kept).done)) none (ap (λ w. w.picker) same ∙ made.picker) (ap (λ w. w.plan) same ∙ made.plan)
-    (λ records holds. c.in-Ok-finish_groups.ensures.rows asks.keys asks.aggregates asks.rollup records holds))
-    c.in_ok-take_spans.ensures.takes
+    let rows : Folder → List (List Value) = λ folder. grouped_output asks.keys asks.aggregates asks.rollup (g.P.Picker.picks c.args.picker) c.args.plan.plan (spans_found format c.args.waits folder c.args.spans.now) in
+    told_all _ (λ folder. AreKept format c.args.waits c.args.spans.now folder → Stops kind (asked_of c.args.output) c.args.stage.now (rows folder) c.open_page.new.stage)
+    (λ folder kept. subst (λ asked. Stops kind asked c.args.stage.now (rows folder) c.open_page.new.stage) c.open_page.ensures.asked (rows_stop kind c.open_page.new.output c.args.stage.now [] (rows folder) c.open_page.new.stage c.in_ok-page.ensures.has))
 
-pub returns-in-Err-Memory-clause-front : goal.returns-in-Err-Memory-clause-front
-returns-in-Err-Memory-clause-front g c =
+pub returns-clause-stops : goal.returns-clause-stops
+returns-clause-stops g c =
     let kind = kind_of g.G.Stage.state g.G.Stage.ended in
-    let picks = g.P.Picker.picks in
-    let format = g.R.LineReader.format c.args.reader.now in
+    let told = g.L.Logs.folder c.take_spans.new.logs in
     let asks = c.args.asks.now in
-    let page = c.first_page-page.result in
-    let last = c.take_spans.new.page in
-    let same = c.first_page-page.ensures.taker in
-    let made = c.in-Ok.ensures in
-    let founds : Folder → List Found = λ folder. spans_found format c.args.waits folder c.args.spans.now in
-    let Kept : Folder → Type 0 = λ folder. AreKept format c.args.waits c.args.spans.now folder in
-    let old = gathered_at page.taker.picker page.taker.plan page.taker.groups c.args.stage.now in
-    let new = gathered_at last.taker.picker last.taker.plan last.taker.groups c.take_spans.new.out in
-    let text : List (List Value) → List ℕ = g.F.Shape.text c.args.shape c.args.fresh c.args.names.now in
-    let none = subst (λ (t : Table). Holds asks.keys asks.aggregates asks.rollup t []) (sym (ap (λ w. w.groups) same)) made.holds in
-    told_map _ (λ folder. Kept folder → TakesSpans (λ a u xs b v. Gathers picks (gathered_at a.picker a.plan a.groups u) (rows_met xs) (gathered_at b.picker b.plan b.groups v)) format c.args.waits folder c.args.spans.now page last c.args.stage.now c.take_spans.new.out)
-    (λ folder. Kept folder → GainsFront (reached kind c.args.target c.args.stage.now) c.finish_groups.new.stage (text (grouped_output asks.keys asks.aggregates asks.rollup (picks c.args.picker) c.args.plan.plan (founds folder)))) (λ folder took kept.
-    of_gathered picks (λ o rows. GainsFront (reached kind c.args.target o) c.finish_groups.new.stage (text rows)) old new asks.keys asks.aggregates asks.rollup c.args.picker c.args.plan (founds folder)
-    (subst (λ (t : List Found). Gathers picks old t new) (rows_met_spans format c.args.waits folder c.args.spans.now) ((took kept).done)) none (ap (λ w. w.picker) same ∙ made.picker) (ap (λ w. w.plan) same ∙ made.plan)
-    (λ records holds. c.in-Err-Memory.ensures.front asks.keys asks.aggregates asks.rollup records holds))
-    c.in_ok-take_spans.ensures.takes
-
-pub returns-clause-front : goal.returns-clause-front
-returns-clause-front g c =
-    let kind = kind_of g.G.Stage.state g.G.Stage.ended in
-    let picks = g.P.Picker.picks in
     let format = g.R.LineReader.format c.args.reader.now in
+    let rows : Folder → List (List Value) = λ folder. grouped_output asks.keys asks.aggregates asks.rollup (g.P.Picker.picks c.args.picker) c.args.plan.plan (spans_found format c.args.waits folder c.args.spans.now) in
+    told_map told (λ folder. AreKept format c.args.waits c.args.spans.now folder → c.take_spans.new.out ≡ c.open_page.new.stage) (λ folder. AreKept format c.args.waits c.args.spans.now folder → Stops kind (asked_of c.args.output) c.args.stage.now (rows folder) c.take_spans.new.out) (λ folder same kept.
+    subst (λ stage. Stops kind (asked_of c.args.output) c.args.stage.now (rows folder) stage) (sym (same kept))
+    (subst (λ asked. Stops kind asked c.args.stage.now (rows folder) c.open_page.new.stage) c.open_page.ensures.asked (rows_stop kind c.open_page.new.output c.args.stage.now [] (rows folder) c.open_page.new.stage c.in_ok-page.ensures.has)))
+    c.in-Err.ensures.stops
+
+pub returns-clause-refused : goal.returns-clause-refused
+returns-clause-refused g c =
+    let told = g.L.Logs.folder c.take_spans.new.logs in
     let asks = c.args.asks.now in
-    let page = c.first_page-page.result in
-    let last = c.take_spans.new.page in
-    let same = c.first_page-page.ensures.taker in
-    let made = c.in-Ok.ensures in
-    let founds : Folder → List Found = λ folder. spans_found format c.args.waits folder c.args.spans.now in
-    let Kept : Folder → Type 0 = λ folder. AreKept format c.args.waits c.args.spans.now folder in
-    let old = gathered_at page.taker.picker page.taker.plan page.taker.groups c.args.stage.now in
-    let new = gathered_at last.taker.picker last.taker.plan last.taker.groups c.take_spans.new.out in
-    let text : List (List Value) → List ℕ = g.F.Shape.text c.args.shape c.args.fresh c.args.names.now in
-    let none = subst (λ (t : Table). Holds asks.keys asks.aggregates asks.rollup t []) (sym (ap (λ w. w.groups) same)) made.holds in
-    told_map _ (λ folder. Kept folder → TakesSpans (λ a u xs b v. Gathers picks (gathered_at a.picker a.plan a.groups u) (rows_met xs) (gathered_at b.picker b.plan b.groups v)) format c.args.waits folder c.args.spans.now page last c.args.stage.now c.take_spans.new.out)
-    (λ folder. Kept folder → GainsFront (reached kind c.args.target c.args.stage.now) c.finish_groups.new.stage (text (grouped_output asks.keys asks.aggregates asks.rollup (picks c.args.picker) c.args.plan.plan (founds folder)))) (λ folder took kept.
-    of_gathered picks (λ o rows. GainsFront (reached kind c.args.target o) c.finish_groups.new.stage (text rows)) old new asks.keys asks.aggregates asks.rollup c.args.picker c.args.plan (founds folder)
-    (subst (λ (t : List Found). Gathers picks old t new) (rows_met_spans format c.args.waits folder c.args.spans.now) ((took kept).done)) none (ap (λ w. w.picker) same ∙ made.picker) (ap (λ w. w.plan) same ∙ made.plan)
-    (λ records holds. c.in-Err-Failed.ensures.front asks.keys asks.aggregates asks.rollup records holds))
-    c.in_ok-take_spans.ensures.takes
+    let format = g.R.LineReader.format c.args.reader.now in
+    let rows : Folder → List (List Value) = λ folder. grouped_output asks.keys asks.aggregates asks.rollup (g.P.Picker.picks c.args.picker) c.args.plan.plan (spans_found format c.args.waits folder c.args.spans.now) in
+    let Q : Refused → Type 0 = λ why. Told told (λ folder. AreKept format c.args.waits c.args.spans.now folder → IsRefused (asked_of c.args.output) (rows folder) why) in
+    subst (OnRefusedOutput Q) (sym c.stopped_in.ensures) (refused_in c.in-Err.fault None Q tt)
 
-pub returns-in-Ok-finish_groups-clause-within : goal.returns-in-Ok-finish_groups-clause-within
-returns-in-Ok-finish_groups-clause-within g c =
-    subst (λ (most : Option ℕ). IsWithin most c.take_spans.new.page.bad) (c.in_ok-take_spans.ensures.most ∙ c.first_page-page.ensures.most) c.in_ok-take_spans.ensures.within
-
-pub returns-in_err-take_spans-clause-too_many : goal.returns-in_err-take_spans-clause-too_many
-returns-in_err-take_spans-clause-too_many g c =
-    let page = c.first_page-page.result in
+pub returns-clause-too_many : goal.returns-clause-too_many
+returns-clause-too_many g c =
+    let page = c.in_ok-page.page in
     let format = g.R.LineReader.format c.args.reader.now in
     let told = g.L.Logs.folder c.take_spans.new.logs in
     let Of : Option ℕ → ℕ → BadLine → Type 0 = λ most bad line. Told told (λ folder. AreKept format c.args.waits c.args.spans.now folder → IsTooMany most bad (spans_bad_lines format c.args.waits folder c.args.spans.now) line) in
-    handed_on c.from_residual.result _ (λ fault. OnBadLine fault (Of c.args.most_bad 0)) c.from_residual.ensures.1
+    subst (OnBad (Of c.args.most_bad 0)) (sym c.stopped_in.ensures) (bad_in c.in-Err.fault None (Of c.args.most_bad 0)
     (bad_line_so _ _ (Of c.args.most_bad 0)
-    (λ line s. subst (λ (most : Option ℕ). Of most 0 line) c.first_page-page.ensures.most (subst (λ (bad : ℕ). Of page.most_bad bad line) c.first_page-page.ensures.bad s))
-    c.in_err-take_spans.ensures.too_many)
+    (λ line s. subst (λ (most : Option ℕ). Of most 0 line) c.in_ok-page.ensures.most (subst (λ (bad : ℕ). Of page.most_bad bad line) c.in_ok-page.ensures.bad s))
+    c.in-Err.ensures.too_many))
+
+pub returns-clause-logs : goal.returns-clause-logs
+returns-clause-logs g c = λ e.
+    let is : c.stopped_in.result ≡ W.Logs = IfErr-at_err (λ (f : WriteFault). c.stopped_in.result ≡ f) e refl in
+    c.in-Err.ensures.logs (ap (λ f. Err f) (logs_in c.in-Err.fault None (sym c.stopped_in.ensures ∙ is)))
+
+pub returns-clause-goes : goal.returns-clause-goes
+returns-clause-goes g c = g.met.G.Stage.goes_on c.args.stage.now c.open_page.new.stage c.take_spans.new.out c.open_page.ensures.goes c.take_spans.ensures.goes
+
+pub returns-in-Ok-take_spans-clause-holds : goal.returns-in-Ok-take_spans-clause-holds
+returns-in-Ok-take_spans-clause-holds g c =
+    let kind = kind_of g.G.Stage.state g.G.Stage.ended in
+    let opened = c.in_ok-page.ensures in
+    IfOk-weaker c.end_page.result _ _ (λ written holds.
+    spans_end g.P.Picker.picks (λ w s. gathered_at w.picker w.plan w.groups s) c.args.asks.now c.args.picker c.args.plan (g.R.LineReader.format c.args.reader.now) c.args.waits (g.L.Logs.folder c.take_spans.new.logs) c.args.spans.now
+    c.in_ok-page.page c.take_spans.new.page c.open_page.new.stage c.take_spans.new.out (λ s. HasRows kind c.open_page.new.output c.args.stage.now [] s) (λ asked out. Holds kind asked c.args.stage.now out written.outputs c.end_page.new.stage) (asked_of c.open_page.new.output) (asked_of c.args.output) c.open_page.ensures.asked
+    opened.groups opened.picker opened.plan c.in-Ok-take_spans.ensures.takes opened.has (holds c.args.stage.now)) c.end_page.ensures.holds
+
+pub returns-in-Ok-take_spans-clause-output : goal.returns-in-Ok-take_spans-clause-output
+returns-in-Ok-take_spans-clause-output g c =
+    let kind = kind_of g.G.Stage.state g.G.Stage.ended in
+    let opened = c.in_ok-page.ensures in
+    IfOk-weaker c.end_page.result _ _ (λ written output.
+    spans_end g.P.Picker.picks (λ w s. gathered_at w.picker w.plan w.groups s) c.args.asks.now c.args.picker c.args.plan (g.R.LineReader.format c.args.reader.now) c.args.waits (g.L.Logs.folder c.take_spans.new.logs) c.args.spans.now
+    c.in_ok-page.page c.take_spans.new.page c.open_page.new.stage c.take_spans.new.out (λ s. HasRows kind c.open_page.new.output c.args.stage.now [] s) (λ asked out. written.counts.output ≡ length (left_of asked out)) (asked_of c.open_page.new.output) (asked_of c.args.output) c.open_page.ensures.asked
+    opened.groups opened.picker opened.plan c.in-Ok-take_spans.ensures.takes opened.has (output c.args.stage.now)) c.end_page.ensures.output
+
+pub returns-in-Ok-take_spans-clause-stops : goal.returns-in-Ok-take_spans-clause-stops
+returns-in-Ok-take_spans-clause-stops g c =
+    let kind = kind_of g.G.Stage.state g.G.Stage.ended in
+    let opened = c.in_ok-page.ensures in
+    on_err_weaker c.end_page.result (λ stops.
+    spans_end g.P.Picker.picks (λ w s. gathered_at w.picker w.plan w.groups s) c.args.asks.now c.args.picker c.args.plan (g.R.LineReader.format c.args.reader.now) c.args.waits (g.L.Logs.folder c.take_spans.new.logs) c.args.spans.now
+    c.in_ok-page.page c.take_spans.new.page c.open_page.new.stage c.take_spans.new.out (λ s. HasRows kind c.open_page.new.output c.args.stage.now [] s) (λ asked out. Stops kind asked c.args.stage.now out c.end_page.new.stage) (asked_of c.open_page.new.output) (asked_of c.args.output) c.open_page.ensures.asked
+    opened.groups opened.picker opened.plan c.in-Ok-take_spans.ensures.takes opened.has (stops c.args.stage.now)) c.end_page.ensures.stops
+
+pub returns-in-Ok-take_spans-clause-took : goal.returns-in-Ok-take_spans-clause-took
+returns-in-Ok-take_spans-clause-took g c = IfOk-weaker c.end_page.result _ _ (λ written same. c.in-Ok-take_spans.ensures.took) c.end_page.ensures.processed
+
+pub returns-in-Ok-take_spans-clause-refused : goal.returns-in-Ok-take_spans-clause-refused
+returns-in-Ok-take_spans-clause-refused g c =
+    let kind = kind_of g.G.Stage.state g.G.Stage.ended in
+    let opened = c.in_ok-page.ensures in
+    IfErr-weaker c.end_page.result _ _ (λ fault refused. refused_so fault _ _ (λ why is.
+    spans_end g.P.Picker.picks (λ w s. gathered_at w.picker w.plan w.groups s) c.args.asks.now c.args.picker c.args.plan (g.R.LineReader.format c.args.reader.now) c.args.waits (g.L.Logs.folder c.take_spans.new.logs) c.args.spans.now
+    c.in_ok-page.page c.take_spans.new.page c.open_page.new.stage c.take_spans.new.out (λ s. HasRows kind c.open_page.new.output c.args.stage.now [] s) (λ asked out. IsRefused asked out why) (asked_of c.open_page.new.output) (asked_of c.args.output) c.open_page.ensures.asked
+    opened.groups opened.picker opened.plan c.in-Ok-take_spans.ensures.takes opened.has (is c.args.stage.now)) refused) c.end_page.ensures.refused
+
+pub returns-in-Ok-take_spans-clause-too_many : goal.returns-in-Ok-take_spans-clause-too_many
+returns-in-Ok-take_spans-clause-too_many g c =
+    let format = g.R.LineReader.format c.args.reader.now in
+    let told = g.L.Logs.folder c.take_spans.new.logs in
+    let Of : BadLine → Type 0 = λ line. Told told (λ folder. AreKept format c.args.waits c.args.spans.now folder → IsTooMany c.args.most_bad 0 (spans_bad_lines format c.args.waits folder c.args.spans.now) line) in
+    IfErr-weaker c.end_page.result _ _ (λ fault good. bad_so fault (λ line. ⊥) Of (λ line none. absurd none) good) c.end_page.ensures.good
+
+pub returns-in-Ok-take_spans-clause-processed : goal.returns-in-Ok-take_spans-clause-processed
+returns-in-Ok-take_spans-clause-processed g c =
+    IfOk-weaker c.end_page.result _ _ (λ written same.
+    rows_taken _ (g.R.LineReader.format c.args.reader.now) c.args.waits (g.L.Logs.folder c.take_spans.new.logs) c.args.spans.now c.in_ok-page.page c.take_spans.new.page c.open_page.new.stage c.take_spans.new.out
+    written.counts.processed same c.in_ok-page.ensures.rows c.in-Ok-take_spans.ensures.takes) c.end_page.ensures.processed
+
+pub returns-in-Ok-take_spans-clause-bad : goal.returns-in-Ok-take_spans-clause-bad
+returns-in-Ok-take_spans-clause-bad g c =
+    IfOk-weaker c.end_page.result _ _ (λ written same.
+    bad_taken _ (g.R.LineReader.format c.args.reader.now) c.args.waits (g.L.Logs.folder c.take_spans.new.logs) c.args.spans.now c.in_ok-page.page c.take_spans.new.page c.open_page.new.stage c.take_spans.new.out
+    written.counts.bad same c.in_ok-page.ensures.bad c.in-Ok-take_spans.ensures.takes) c.end_page.ensures.bad
+
+pub returns-in-Ok-take_spans-clause-within : goal.returns-in-Ok-take_spans-clause-within
+returns-in-Ok-take_spans-clause-within g c =
+    IfOk-weaker c.end_page.result _ _ (λ written same.
+    subst (λ (bad : ℕ). IsWithin c.args.most_bad bad) (sym same) (subst (λ (most : Option ℕ). IsWithin most c.take_spans.new.page.bad) (c.take_spans.ensures.most ∙ c.in_ok-page.ensures.most) c.in-Ok-take_spans.ensures.within)) c.end_page.ensures.bad

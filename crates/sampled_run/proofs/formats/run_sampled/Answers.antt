@@ -1,12 +1,14 @@
 use Rattle.std.proofs.Common.{subst, IfOk, IfErr, OnOk, ◌≡◌, ◌++◌, true, map}
-use Rattle.sampled_run.specs.Finishes.{shown_by, text_by}
+use Rattle.any_format.specs.Wanted.{wanted_text}
+use Rattle.row_output.specs.Sinks.{files_for}
+use Rattle.sampled_run.specs.Finishes.{asked_by}
 use Rattle.lp_model.specs.Outside.{Told}
 use Rattle.query_tree.specs.Views.{query_of}
 use Rattle.log_reading.specs.Page.{IsTooMany}
 use Rattle.log_reading.specs.Spans.{AreKept, spans_bad_lines, took_of}
 use Rattle.delimited_input.specs.declared.options.DelimitedOptions.{DelimitedOptions}
 use Rattle.delimited_input.specs.Lines.{delimited_lines}
-use Rattle.query_run.specs.Output.{kind_of, reached}
+use Rattle.text_output.specs.Output.{kind_of}
 use Rattle.query_run.specs.declared.executing.Written.{Written}
 use Rattle.sampled_run.specs.declared.fault.SampleFault.{SampleFault}
 use Rattle.sampled_run.specs.Rules.{Rules, rules_of}
@@ -21,35 +23,35 @@ use Rattle.sampled_run.proofs.formats.run_sampled.Goals as goal
 pub returns-clause-ran : goal.returns-clause-ran
 returns-clause-ran g c =
     let told = g.L.Logs.folder c.sample_reader.new.logs in
-    let u = reached (kind_of g.G.Stage.state g.G.Stage.ended) c.args.target c.args.stage.now in
+    let u = c.args.stage.now in
     let v = c.sample_reader.new.stage in
     let spans = c.args.spans.now in
-    let rules : Rules = rules_of c.args.limit c.args.pattern.now c.args.moment.seconds (query_of c.args.query.now) c.args.fresh (text_by c.args.format (query_of c.args.query.now)) (shown_by (query_of c.args.query.now)) in
+    let rules : Rules = rules_of c.args.limit c.args.pattern.now c.args.moment.seconds (query_of c.args.query.now) (asked_by (files_for c.args.into) (wanted_text c.args.wanted c.args.moment.seconds) (query_of c.args.query.now)) in
     let Behind : DelimitedOptions → Written → Type 0 = λ options run. Told told (λ folder. AreKept (delimited_lines options) c.args.waits spans folder
-    → IsSampled rules u (past_behind (delimited_lines options) c.args.waits folder nothing spans) (delimited_lines options) c.args.waits folder spans run v) in
+    → IsSampled (kind_of g.G.Stage.state g.G.Stage.ended) rules u (past_behind (delimited_lines options) c.args.waits folder nothing spans) (delimited_lines options) c.args.waits folder spans run v) in
     let given = subst (λ (options : DelimitedOptions). IfOk c.sample_reader.result (Behind options)) c.in-Ok.ensures.ok c.sample_reader.ensures.ran in
     if_ok (Behind c.args.options)
     (λ (run : Written). Told told (λ folder. AreKept (delimited_lines c.args.options) c.args.waits spans folder
-    → IsSampled rules u (past_of (delimited_lines c.args.options) c.args.waits folder spans) (delimited_lines c.args.options) c.args.waits folder spans run v))
+    → IsSampled (kind_of g.G.Stage.state g.G.Stage.ended) rules u (past_of (delimited_lines c.args.options) c.args.waits folder spans) (delimited_lines c.args.options) c.args.waits folder spans run v))
     c.sample_reader.result
-    (λ run. ran_told rules (delimited_lines c.args.options) c.args.waits (delimited_sets_once c.args.options) told spans u v run)
+    (λ run. ran_told (kind_of g.G.Stage.state g.G.Stage.ended) rules (delimited_lines c.args.options) c.args.waits (delimited_sets_once c.args.options) told spans u v run)
     given
 
 pub returns-clause-stopped : goal.returns-clause-stopped
 returns-clause-stopped g c =
     let told = g.L.Logs.folder c.sample_reader.new.logs in
-    let u = reached (kind_of g.G.Stage.state g.G.Stage.ended) c.args.target c.args.stage.now in
+    let u = c.args.stage.now in
     let v = c.sample_reader.new.stage in
     let spans = c.args.spans.now in
-    let rules : Rules = rules_of c.args.limit c.args.pattern.now c.args.moment.seconds (query_of c.args.query.now) c.args.fresh (text_by c.args.format (query_of c.args.query.now)) (shown_by (query_of c.args.query.now)) in
+    let rules : Rules = rules_of c.args.limit c.args.pattern.now c.args.moment.seconds (query_of c.args.query.now) (asked_by (files_for c.args.into) (wanted_text c.args.wanted c.args.moment.seconds) (query_of c.args.query.now)) in
     let Behind : DelimitedOptions → SampleFault → Type 0 = λ options fault. Told told (λ folder. AreKept (delimited_lines options) c.args.waits spans folder
-    → IsStoppedBy rules u (past_behind (delimited_lines options) c.args.waits folder nothing spans) fault v) in
+    → IsStoppedBy (kind_of g.G.Stage.state g.G.Stage.ended) rules u (past_behind (delimited_lines options) c.args.waits folder nothing spans) fault v) in
     let given = subst (λ (options : DelimitedOptions). IfErr c.sample_reader.result (Behind options)) c.in-Ok.ensures.ok c.sample_reader.ensures.stopped in
     if_err (Behind c.args.options)
     (λ (fault : SampleFault). Told told (λ folder. AreKept (delimited_lines c.args.options) c.args.waits spans folder
-    → IsStoppedBy rules u (past_of (delimited_lines c.args.options) c.args.waits folder spans) fault v))
+    → IsStoppedBy (kind_of g.G.Stage.state g.G.Stage.ended) rules u (past_of (delimited_lines c.args.options) c.args.waits folder spans) fault v))
     c.sample_reader.result
-    (λ fault. stopped_told rules (delimited_lines c.args.options) c.args.waits (delimited_sets_once c.args.options) told spans u v fault)
+    (λ fault. stopped_told (kind_of g.G.Stage.state g.G.Stage.ended) rules (delimited_lines c.args.options) c.args.waits (delimited_sets_once c.args.options) told spans u v fault)
     given
 
 pub returns-clause-too_many : goal.returns-clause-too_many

@@ -1,37 +1,44 @@
-use Rattle.std.proofs.Common.{[], sym, subst, None}
-use Rattle.finished_text.specs.RowsTexts.{rows_text_of, HasRowsText, shown_of}
-use Rattle.sampled_run.specs.Finishes.{shown_by, text_by}
+use Rattle.std.proofs.Common.{refl}
 use Rattle.lp_model.specs.Outside.{Told}
-use Rattle.query_run.specs.Output.{kind_of, reached}
+use Rattle.any_format.specs.Wanted.{wanted_text}
+use Rattle.text_output.specs.Output.{kind_of}
 use Rattle.query_tree.specs.Views.{query_of}
-use Rattle.log_reading.specs.Spans.{AreKept}
-use Rattle.sampled_run.specs.declared.fault.SampleFault.{SampleFault}
-use Rattle.column_kinds.specs.Spans.{past_behind}
+use Rattle.log_reading.specs.Page.{IsTooMany}
+use Rattle.log_reading.specs.Spans.{AreKept, BadLine, spans_bad_lines}
+use Rattle.row_output.specs.Sinks.{files_for}
+use Rattle.sampled_run.specs.Finishes.{asked_by}
 use Rattle.sampled_run.specs.Rules.{rules_of}
-use Rattle.sampled_run.specs.Ran.{IsStoppedBy}
 use Rattle.sampled_run.proofs.Fresh.{fresh_begins}
-use Rattle.sampled_run.proofs.Ran.{ran, stopped_ending}
+use Rattle.sampled_run.proofs.Ran.{ran, stopped_ending, bad_end, logs_end, fault_same}
 use Rattle.sampled_run.proofs.running.sample_reader.Goals as goal
 
-pub returns-in-Ok-end_page-clause-ran : goal.returns-in-Ok-end_page-clause-ran
-returns-in-Ok-end_page-clause-ran g c =
-    let rules = rules_of c.args.limit c.args.pattern.now c.args.moment.seconds (query_of c.args.query.now) c.args.fresh (text_by c.args.format (query_of c.args.query.now)) (shown_by (query_of c.args.query.now)) in
-    let format = g.R.LineReader.format c.args.reader.now in
-    let told = g.L.Logs.folder c.read_page.new.logs in
-    let read = c.in-Ok.ensures.read in
-    ran (kind_of g.G.Stage.state g.G.Stage.ended) rows_text_of HasRowsText shown_of rules format c.args.waits told c.args.spans.now read.first c.in-Ok.page c.args.target c.args.stage.now c.read_page.new.stage c.end_page.new.stage c.in-Ok-end_page.written
-    (fresh_begins (kind_of g.G.Stage.state g.G.Stage.ended) rows_text_of HasRowsText shown_of c.args.limit c.args.pattern.now c.args.moment.seconds (query_of c.args.query.now) c.args.fresh c.args.format c.args.target read.first.taker c.args.stage.now read.is_fresh)
-    read.rows read.bad c.in-Ok-end_page.ensures.processed c.in-Ok-end_page.ensures.bad read.reads c.in-Ok-end_page.ensures.written
+pub returns-in-Ok-clause-ran : goal.returns-in-Ok-clause-ran
+returns-in-Ok-clause-ran g c =
+    let rules = rules_of c.args.limit c.args.pattern.now c.args.moment.seconds (query_of c.args.query.now) (asked_by (files_for c.args.into) (wanted_text c.args.wanted c.args.moment.seconds) (query_of c.args.query.now)) in
+    let read = c.in_ok-page.ensures.read in
+    ran (kind_of g.G.Stage.state g.G.Stage.ended) rules (g.R.LineReader.format c.args.reader.now) c.args.waits (g.L.Logs.folder c.read_page.new.logs) c.args.spans.now read.first c.in_ok-page.page c.args.stage.now c.read_page.new.stage c.finish_run.new.stage _
+    (fresh_begins (kind_of g.G.Stage.state g.G.Stage.ended) c.args.limit c.args.pattern.now c.args.moment.seconds (query_of c.args.query.now) c.args.wanted c.args.into read.first.taker c.args.stage.now read.is_fresh)
+    read.rows read.bad refl refl read.reads c.in-Ok.ensures.written
 
-pub returns-in-Err-end_page-clause-stopped : goal.returns-in-Err-end_page-clause-stopped
-returns-in-Err-end_page-clause-stopped g c =
-    let rules = rules_of c.args.limit c.args.pattern.now c.args.moment.seconds (query_of c.args.query.now) c.args.fresh (text_by c.args.format (query_of c.args.query.now)) (shown_by (query_of c.args.query.now)) in
+pub returns-in-Ok-clause-goes : goal.returns-in-Ok-clause-goes
+returns-in-Ok-clause-goes g c = g.met.G.Stage.goes_on _ _ _ c.read_page.ensures.goes c.finish_run.ensures.goes
+
+pub returns-clause-stopped : goal.returns-clause-stopped
+returns-clause-stopped g c =
+    let rules = rules_of c.args.limit c.args.pattern.now c.args.moment.seconds (query_of c.args.query.now) (asked_by (files_for c.args.into) (wanted_text c.args.wanted c.args.moment.seconds) (query_of c.args.query.now)) in
+    let read = c.in_ok-page.ensures.read in
+    stopped_ending (kind_of g.G.Stage.state g.G.Stage.ended) rules (g.R.LineReader.format c.args.reader.now) c.args.waits (g.L.Logs.folder c.read_page.new.logs) c.args.spans.now read.first c.in_ok-page.page c.args.stage.now c.read_page.new.stage c.finish_run.new.stage c.in-Err.fault
+    (fresh_begins (kind_of g.G.Stage.state g.G.Stage.ended) c.args.limit c.args.pattern.now c.args.moment.seconds (query_of c.args.query.now) c.args.wanted c.args.into read.first.taker c.args.stage.now read.is_fresh) read.reads c.in-Err.ensures.stopped
+
+pub returns-clause-too_many : goal.returns-clause-too_many
+returns-clause-too_many g c =
     let format = g.R.LineReader.format c.args.reader.now in
     let told = g.L.Logs.folder c.read_page.new.logs in
-    let read = c.in-Ok.ensures.read in
-    let u = (reached (kind_of g.G.Stage.state g.G.Stage.ended) c.args.target c.args.stage.now) in
-    let w = c.end_page.new.stage in
-    let Of : SampleFault → Type 0 = λ fault. Told told (λ folder. AreKept format c.args.waits c.args.spans.now folder → IsStoppedBy rules u (past_behind format c.args.waits folder (record { first = None; founds = [] }) c.args.spans.now) fault w) in
-    subst Of (sym c.fault_of.ensures)
-    (stopped_ending (kind_of g.G.Stage.state g.G.Stage.ended) rows_text_of HasRowsText shown_of rules format c.args.waits told c.args.spans.now read.first c.in-Ok.page c.args.target c.args.stage.now c.read_page.new.stage w c.in-Err-end_page.stop
-    (fresh_begins (kind_of g.G.Stage.state g.G.Stage.ended) rows_text_of HasRowsText shown_of c.args.limit c.args.pattern.now c.args.moment.seconds (query_of c.args.query.now) c.args.fresh c.args.format c.args.target read.first.taker c.args.stage.now read.is_fresh) read.reads c.in-Err-end_page.ensures.stopped)
+    let Of : BadLine → Type 0 = λ line. Told told (λ folder. AreKept format c.args.waits c.args.spans.now folder → IsTooMany c.args.most_bad 0 (spans_bad_lines format c.args.waits folder c.args.spans.now) line) in
+    bad_end c.in-Err.fault Of c.in-Err.ensures.ended
+
+pub returns-clause-logs : goal.returns-clause-logs
+returns-clause-logs g c = λ is. absurd (logs_end c.in-Err.fault c.in-Err.ensures.ended (fault_same c.in-Err.fault _ is))
+
+pub returns-clause-goes : goal.returns-clause-goes
+returns-clause-goes g c = g.met.G.Stage.goes_on _ _ _ c.read_page.ensures.goes c.finish_run.ensures.goes

@@ -1,4 +1,3 @@
-use Rattle.std.proofs.Common.{◌∷◌, []}
 use Rattle.line_input.specs.Taken.{slots_of}
 use Rattle.log_reading.specs.Found.{Found}
 use Rattle.column_kinds.specs.Sampling.{kind_of}

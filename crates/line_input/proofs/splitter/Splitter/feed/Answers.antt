@@ -12,6 +12,5 @@ invariant_of-self-2 c =
 
 pub returns-in_err-extend_from_slice-clause-err : goal.returns-in_err-extend_from_slice-clause-err
 returns-in_err-extend_from_slice-clause-err c =
-    let kept = c.drop-drain.ensures.items ∙ c.drain.ensures.kept in
-    let size = ap length kept ∙ length-drop c.self.inside.head c.reserve.new.self.items in
-    absurd (grind (arith, common_steps, size, c.in_err-extend_from_slice.ensures.full, c.let_go.ensures.shorter, c.let_go.ensures.capacity, c.drop-drain.ensures.capacity, c.drain.ensures.capacity, c.in_ok-reserve.ensures.ok))
+    let size = ap length c.keep_from.ensures.left ∙ length-drop c.self.inside.head c.reserve.new.self.items in
+    absurd (grind (arith, common_steps, size, c.in_err-extend_from_slice.ensures.full, c.let_go.ensures.shorter, c.let_go.ensures.capacity, c.keep_from.ensures.room, c.in_ok-reserve.ensures.ok))

@@ -1,0 +1,172 @@
+// Whole runs at the moment 0, as their words are typed, over logs and a disk in memory.
+use logparser_cli::run;
+use lp_outside::Name;
+use lp_values::{Bytes, Text, TextList};
+use memory_outside::{MemoryDisk, MemoryLogs, MemorySink, MemorySource};
+use std::alloc::Global;
+use std::test::Fail;
+
+// The logs and templates of all runs, with `;` for a line's end.
+const LOGS: &str = "\
+r.log 2001-01-01 00:00:01 /a
+v.csv a,b;1,x;2,x;3,x;4,x;5,x;6,x;7,x;8,x;9,x;10,x;1000,y;
+m.csv k,v;a/b,1;a_b,2;c,3;
+t.csv u,h;a,5;b,7;c,5;
+t.tpl <LPHEADER>;%FIELDNAME_1% (%FIELDS_NUM%);</LPHEADER>;<LPBODY>;%FIELD_1%: %h%;</LPBODY>;<LPFOOTER>;%SYSTEM_TIMESTAMP%;</LPFOOTER>;
+x.csv s,n;hello world,1;,2;
+f.txt q
+a.log a;b
+w.csv k,v;é€,1;a\t\u{7f},2;,3;
+p.csv k,v;..,1;,2;.,3;
+open.tpl <LPBODY>
+twice.tpl <LPBODY></LPBODY><LPBODY></LPBODY>
+text.tpl x<LPBODY></LPBODY>
+sign.tpl <LPBODY>\r;%u%%</LPBODY>";
+
+// Adds bytes, with `;` for a line's end.
+fn add(to: &mut Bytes, bytes: &[u8]) -> Result<(), Fail> {
+    for byte in bytes {
+        to.push(if *byte == b'\n' { b';' } else { *byte })?;
+    }
+    Ok(())
+}
+
+// The bytes of a text in which `;` stands for a line's end.
+fn lines(alloc: Global, text: &str) -> Result<Bytes, Fail> {
+    let mut lines = Bytes::new(alloc);
+    for byte in text.as_bytes() {
+        lines.push(if *byte == b';' { b'\n' } else { *byte })?;
+    }
+    Ok(lines)
+}
+
+fn name(text: &str) -> Result<Name, Fail> {
+    Ok(Name::read(text).map_err(|_| "no name")?)
+}
+
+fn logs(alloc: Global) -> Result<MemoryLogs, Fail> {
+    let mut logs = MemoryLogs::new(alloc);
+    for log in LOGS.lines() {
+        let (file, text) = log.split_once(' ').ok_or("no log")?;
+        logs.put(&name(file)?, lines(alloc, text)?.as_slice())?;
+    }
+    Ok(logs)
+}
+
+// The words as they are typed: options, and the query between quotes.
+fn words(alloc: Global, typed: &str) -> Result<TextList, Fail> {
+    let (options, rest) = typed.split_once('"').ok_or("no query")?;
+    let query = rest.strip_suffix('"').ok_or("no end")?;
+    let mut words = TextList::new(alloc);
+    for option in options.split(' ') {
+        if !option.is_empty() {
+            words.push(Text::from_str(alloc, option)?)?;
+        }
+    }
+    words.push(Text::from_str(alloc, query)?)?;
+    Ok(words)
+}
+
+// The code of a run with what it writes to out and to err, and what a file holds behind it.
+fn told(alloc: Global, logs: &mut MemoryLogs, file: &str, typed: &str) -> Result<Bytes, Fail> {
+    let mut disk = MemoryDisk::new(alloc);
+    disk.put(&name("o.csv")?, b"z")?;
+    let mut input = MemorySource::new(alloc, Bytes::new(alloc));
+    let mut out = MemorySink::new(alloc);
+    let mut err = MemorySink::new(alloc);
+    let words = words(alloc, typed)?;
+    let status = run(
+        alloc, &words, 0, logs, &mut disk, &mut input, &mut out, &mut err,
+    );
+    let mut told = Bytes::new(alloc);
+    add(
+        &mut told,
+        format!(in alloc; "{} ", status.code())?.as_str().as_bytes(),
+    )?;
+    add(&mut told, out.bytes())?;
+    told.push(b'|')?;
+    add(&mut told, err.bytes())?;
+    told.push(b'|')?;
+    add(&mut told, disk.bytes(&name(file)?))?;
+    Ok(told)
+}
+
+// The name of a file, the words, and what is told: the code, and out, err and the file with `|` between them.
+const WORKED: &str = "\
+none -i:IISW3C -e:0 \"SELECT * FROM r.log\" => 8 |logparser: parse errors: r.log row 1;|
+none \"SELECT a, b FROM v.csv\" => 0 a  b;-- -;1  x;2  x;3  x;4  x;5  x;6  x;7  x;8  x;9  x;10 x;;a    b;---- -;1000 y;|Statistics:;-----------;Elements processed: 11;Elements output:    11;|
+none -headers:OFF \"SELECT a, b FROM v.csv\" => 0 1  x;2  x;3  x;4  x;5  x;6  x;7  x;8  x;9  x;10 x;;1000 y;|Statistics:;-----------;Elements processed: 11;Elements output:    11;|
+out_a_b.csv \"SELECT k, v INTO out_*.csv FROM m.csv\" => 0 |Statistics:;-----------;Elements processed: 3;Elements output:    3;|v;1;2;
+out_c.csv \"SELECT k, v INTO out_*.csv FROM m.csv\" => 0 |Statistics:;-----------;Elements processed: 3;Elements output:    3;|v;3;
+none -tpl:t.tpl \"SELECT u, h FROM t.csv\" => 0 u (2);a: 5;b: 7;c: 5;1970-01-01 00:00:00;|Statistics:;-----------;Elements processed: 3;Elements output:    3;|
+none -o:W3C \"SELECT s, n, TIMESTAMP('2000-10-10 20:55:36','yyyy-MM-dd hh:mm:ss') AS t FROM x.csv\" => 0 #Software: Log Parser;#Version: 1.0;#Date: 1970-01-01 00:00:00;#Fields: s n t;hello+world 1 2000-10-10+20:55:36;- 2 2000-10-10+20:55:36;|Statistics:;-----------;Elements processed: 2;Elements output:    2;|
+none -o:TSV \"SELECT s, n FROM x.csv\" => 0 s\tn;hello world\t1;\t2;|Statistics:;-----------;Elements processed: 2;Elements output:    2;|
+none \"SELECT x FROM t.csv\" => 3 |logparser: query: at 7: unknown field;|
+none \"SELECT 'a FROM t.csv\" => 3 |logparser: query: at 7: open string;|
+none \"SELECT 9223372036854775808 FROM t.csv\" => 3 |logparser: query: at 7: number too large;|
+none \"SELECT u FROM t.csv WHERE\" => 3 |logparser: query: at 25: syntax;|
+o.csv -fileMode:2 \"SELECT Text INTO o.csv FROM f.txt\" => 0 |Statistics:;-----------;Elements processed: 1;Elements output:    1;|z
+a.log \"SELECT Text INTO a.log FROM a.log\" => 4 |logparser: input: name clash a.log;|";
+
+// Further ones, without statistics.
+const FURTHER: &str = "\
+none -rtp:2 \"SELECT h FROM t.csv\" => 0 h;-;5;7;;h;-;5;||
+none -rtp:3 \"SELECT h FROM t.csv\" => 0 h;-;5;7;5;||
+none -rtp:4 \"SELECT h FROM t.csv\" => 0 h;-;5;7;5;||
+none -rtp:-1 \"SELECT b, a FROM v.csv WHERE a > 9\" => 0 b a;- ----;x 10;y 1000;||
+none \"SELECT k, v FROM w.csv\" => 0 k   v;--- -;é€  1;a?? 2;-   3;||
+none \"SELECT h FROM t.csv WHERE h = 6\" => 0 h;-;||
+none -o:W3C -headers:OFF \"SELECT 'a b' AS [c d], '' AS e FROM f.txt\" => 0 #Software: Log Parser;#Version: 1.0;#Date: 1970-01-01 00:00:00;#Fields: c+d e;a+b -;||
+none -o:TSV -oSeparator:a -headers:OFF \"SELECT 'bab', 'c' FROM f.txt\" => 0 b bac;||
+o.csv -o:NAT -fileMode:0 \"SELECT u, h INTO o.csv FROM t.csv WHERE h = 7\" => 0 ||zu h;- -;b 7;
+o.csv -fileMode:0 -headers:ON \"SELECT u, h INTO o.csv FROM t.csv WHERE h = 7\" => 0 ||zu,h;b,7;
+o.csv -fileMode:1 -headers:OFF \"SELECT u, h INTO o.csv FROM t.csv WHERE h = 7\" => 0 ||b,7;
+_.csv \"SELECT k, v INTO *.csv FROM p.csv\" => 0 ||v;1;2;3;
+none -tpl:open.tpl \"SELECT u FROM t.csv\" => 4 |logparser: input: template at 0: unclosed;|
+none -tpl:twice.tpl \"SELECT u FROM t.csv\" => 4 |logparser: input: template at 17: misplaced;|
+none -tpl:text.tpl \"SELECT u FROM t.csv\" => 4 |logparser: input: template at 0: outside text;|
+none -tpl:sign.tpl \"SELECT u FROM t.csv\" => 0 a%b%c%||";
+
+fn is_told(alloc: Global, row: &str, options: &str) -> Result<bool, Fail> {
+    let (words, want) = row.split_once(" => ").ok_or("no text")?;
+    let (file, typed) = words.split_once(' ').ok_or("no words")?;
+    let typed = format!(in alloc; "{options}{typed}")?;
+    let told = told(alloc, &mut logs(alloc)?, file, typed.as_str())?;
+    Ok(told.as_slice() == want.as_bytes())
+}
+
+#[test]
+fn worked_runs_are_told(rt: HostRuntime) -> Result<(), Fail> {
+    for row in WORKED.lines() {
+        assert!(rt; is_told(rt.alloc(), row, "")?, "{row}");
+    }
+    Ok(())
+}
+
+#[test]
+fn further_runs_are_told(rt: HostRuntime) -> Result<(), Fail> {
+    for row in FURTHER.lines() {
+        assert!(rt; is_told(rt.alloc(), row, "-stats:OFF ")?, "{row}");
+    }
+    Ok(())
+}
+
+// A log of so many lines, each another one.
+fn many(alloc: Global, count: u32) -> Result<MemoryLogs, Fail> {
+    let mut bytes = Bytes::new(alloc);
+    for number in 0..count {
+        bytes.add(format!(in alloc; "{number}\n")?.as_str().as_bytes())?;
+    }
+    let mut logs = MemoryLogs::new(alloc);
+    logs.put(&name("n.log")?, bytes.as_slice())?;
+    Ok(logs)
+}
+
+#[test]
+fn outputs_are_counted(rt: HostRuntime) -> Result<(), Fail> {
+    let typed = "-o:CSV \"SELECT Text, Index INTO *.csv FROM n.log\"";
+    let told = told(rt.alloc(), &mut many(rt.alloc(), 10_001)?, "none", typed)?;
+    let want = "4 |logparser: input: more than 10000 outputs;|";
+    assert!(rt; told.as_slice() == want.as_bytes(), "{:?}", told.as_slice());
+    Ok(())
+}

@@ -1,0 +1,33 @@
+-- Where the rows of a query go.
+use Rattle.std.specs.Prelude.{ℕ, ℤ, Bool, true, List, [], map, codes, Option, Some, None, if◌then◌else◌}
+use Rattle.std.specs.Str.{str_eq_ignore_ascii_case}
+use Rattle.grammar.specs.Trees.{Placed, Query}
+use Rattle.command_words.specs.declared.spec.Spec.{Spec}
+use Rattle.log_listing.specs.Firsts.{with_names}
+use Rattle.log_reading.specs.declared.span.Span.{Span}
+use Rattle.query_types.specs.Planned.{Planned}
+use Rattle.row_output.specs.Asked.{Asked, Files}
+use Rattle.sampled_run.specs.Finishes.{asked_by}
+use Rattle.tpl_output.specs.Sections.{Sections}
+use Rattle.execution.specs.Texts.{into_in, run_text}
+
+-- the name of standard output, in any case of its letters
+abbrev pub is_stdout : List ℕ → Bool
+is_stdout name = str_eq_ignore_ascii_case name (codes "STDOUT")
+
+-- INTO is absent, or names standard output
+abbrev pub is_standard : Option Placed → Bool
+is_standard None = true
+is_standard (Some name) = is_stdout name.text
+
+-- the files that an INTO name stands for, none of which may be a log that is read
+abbrev pub files_named : Spec → List (List ℕ) → Option Placed → Option Files
+files_named spec logs None = None
+files_named spec logs (Some name) = if is_stdout name.text then None else Some (record { pattern = name.text; forbidden = with_names [] logs; mode = spec.file_mode })
+
+abbrev pub files_of : Spec → Query → List Span → Option Files
+files_of spec q spans = files_named spec (map (λ (span : Span). span.name) spans) (into_in q)
+
+-- what becomes of the rows of a plan of a query
+abbrev pub asked_in : Spec → Sections → ℤ → Query → List Span → Planned → Asked
+asked_in spec template moment q spans = asked_by (files_of spec q spans) (run_text spec template moment q) q

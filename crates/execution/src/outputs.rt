@@ -1,0 +1,65 @@
+// Where the rows of a query go.
+ghost use Rattle.std.specs.Prelude.{◌≡◌, [], map, IfOk};
+ghost use Rattle.query_tree.specs.Views.{query_of};
+ghost use Rattle.log_listing.specs.Firsts.{with_names};
+ghost use Rattle.log_reading.specs.declared.span.Span.{Span};
+ghost use Rattle.row_output.specs.Sinks.{IsUnplaced, files_for};
+ghost use Rattle.execution.specs.Outputs.{files_of, is_standard, is_stdout};
+ghost use Rattle.execution.specs.Texts.{into_in};
+
+use checkpoint::Spans;
+use command_words::Spec;
+use multiplex::Outputs;
+use query_tree::Query;
+use row_output::Into;
+use std::alloc::{AllocError, Global};
+
+// Whether a name is that of standard output, in any case of its letters.
+fn is_stdout(name: &str) -> bool
+    ensures { result ≡ is_stdout name.now }
+{
+    name.eq_ignore_ascii_case("STDOUT")
+}
+
+/// Whether the rows of a query go to standard output.
+pub fn is_standard(query: &Query) -> bool
+    ensures { result ≡ is_standard (into_in (query_of query.now)) }
+{
+    match &query.into {
+        None => true,
+        Some(name) => is_stdout(name.text.as_str()),
+    }
+}
+
+// Outputs of a pattern, none of which may be a log.
+fn outputs_beside(alloc: Global, pattern: &str, spans: &Spans) -> Result<Outputs, AllocError>
+    ensures exact { IfOk result (λ outputs. outputs ≡ record { pattern = pattern.now; forbidden = with_names [] (map (λ (span : Span). span.name) spans.now); names = [] }) }
+{
+    let mut outputs = Outputs::new(alloc, pattern)?;
+    for span in spans.as_slice() {
+        outputs.forbid(&span.name)?;
+    }
+    Ok(outputs)
+}
+
+/// Where the rows of a query go, none placed yet.
+pub(crate) fn into_of(
+    alloc: Global,
+    spec: &Spec,
+    query: &Query,
+    spans: &Spans,
+) -> Result<Into, AllocError>
+    ensures files { IfOk result (λ into. files_for into ≡ files_of spec.now (query_of query.now) spans.now) }
+    ensures none { IfOk result IsUnplaced }
+{
+    match &query.into {
+        None => Ok(Into::Standard),
+        Some(name) => {
+            if is_stdout(name.text.as_str()) {
+                return Ok(Into::Standard);
+            }
+            let outputs = outputs_beside(alloc, name.text.as_str(), spans)?;
+            Ok(Into::Files(outputs, spec.file_mode))
+        }
+    }
+}

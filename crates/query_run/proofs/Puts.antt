@@ -1,0 +1,83 @@
+-- What a writer has put, from what its outputs took.
+use Rattle.std.proofs.Common.{◌≡◌, List, [], ◌∷◌, ◌++◌, Option, Some, None, IfSome, ap, sym, ◌∙◌, subst}
+use Rattle.std.specs.List.{cons_option}
+use Rattle.std.proofs.lemmas.List.{append-nil}
+use Rattle.lp_values.specs.declared.value.Value.{Value}
+use Rattle.log_reading.specs.Found.{Found}
+use Rattle.text_output.specs.Output.{StageKind}
+use Rattle.row_output.specs.FileRows.{OnRefused}
+use Rattle.row_output.specs.Kept.{HasRows, asked_of}
+use Rattle.row_output.specs.Rows.{IsRefused, Stops}
+use Rattle.row_output.specs.declared.fault.OutputFault.{OutputFault}
+use Rattle.row_output.specs.declared.fault.Refused.{Refused}
+use Rattle.query_run.specs.Rows.{picked}
+use Rattle.query_run.specs.Writer.{PutsRows, StopsWithin, Writes, Halts, refused_by}
+use Rattle.query_run.specs.Writing.{PicksOf, puts_on, stops_before, stops_behind, stops_there}
+use Rattle.query_run.specs.declared.writer.Writer.{Writer}
+use Rattle.query_run.proofs.Reasons.{refused_kept}
+
+abbrev Rows : Type 0
+Rows = List (List Value)
+
+-- a writer that differs in its room alone
+pub puts_as : {P : Type 0} {S : Type 0} (kind : StageKind S) (put : Rows) (a b c : Writer P) (u v : S) → c.output ≡ b.output → c.picker ≡ b.picker → c.refused ≡ b.refused → PutsRows kind put a u b v → PutsRows kind put a u c v
+puts_as kind put a b c u v output picker refused f = record {
+  has = λ start rows has. subst (λ o. HasRows kind o start (rows ++ put) v) (sym output) (f.has start rows has);
+  asked = ap asked_of output ∙ f.asked;
+  picker = picker ∙ f.picker;
+  refused = refused ∙ f.refused;
+}
+
+-- the outputs were opened
+pub opens_as : {P : Type 0} {S : Type 0} (kind : StageKind S) (a b : Writer P) (u v : S) → ((start : S) (rows : Rows) → HasRows kind a.output start rows u → HasRows kind b.output start rows v) → asked_of b.output ≡ asked_of a.output → b.picker ≡ a.picker → b.refused ≡ a.refused → PutsRows kind [] a u b v
+opens_as kind a b u v has asked picker refused = record {
+  has = λ start rows at.
+      let Of : Rows → Type 0 = λ t. HasRows kind b.output start t v in
+      subst Of (sym (append-nil rows)) (has start rows at);
+  asked = asked;
+  picker = picker;
+  refused = refused;
+}
+
+-- the outputs didn't take rows
+pub stops_as : {P : Type 0} {S : Type 0} (kind : StageKind S) (put : Rows) (a b : Writer P) (u v : S) (fault : OutputFault)
+    → ((start : S) (rows more : Rows) → HasRows kind a.output start rows u → Stops kind (asked_of a.output) start (rows ++ (put ++ more)) v)
+    → OnRefused (λ why. (start : S) (rows more : Rows) → HasRows kind a.output start rows u → IsRefused (asked_of a.output) (rows ++ (put ++ more)) why) fault
+    → b.refused ≡ refused_by a.refused fault → StopsWithin kind put a u b v
+stops_as {S = S} kind put a b u v fault stop refused same = record {
+  stop = stop;
+  refused = λ none start rows more has.
+      let Q : Refused → Type 0 = IsRefused (asked_of a.output) (rows ++ (put ++ more)) in
+      let All : Refused → Type 0 = λ why. (s : S) (front behind : Rows) → HasRows kind a.output s front u → IsRefused (asked_of a.output) (front ++ (put ++ behind)) why in
+      subst (λ (o : Option Refused). IfSome o Q) (sym same) (refused_kept a.refused fault All Q (λ why is. is start rows more has) none refused);
+}
+
+-- the rows of one record
+picked_one : {P : Type 0} (picks : PicksOf P) (a b : P) (found : Found) (o : Option (List Value)) → b ≡ a → o ≡ picks b found → cons_option o [] ≡ picked (picks a) (found ∷ [])
+picked_one picks a b found o same e = ap (λ o. cons_option o []) (e ∙ ap (λ p. picks p found) same)
+
+module _ {P : Type 0} {S : Type 0} (kind : StageKind S) (picks : PicksOf P) where
+  -- a record gave no row
+  pub writes_no_row : (a b : Writer P) (u v : S) (found : Found) → None ≡ picks b.picker found → PutsRows kind [] a u b v → Writes kind picks a u (found ∷ []) b v
+  writes_no_row a b u v found e f =
+      let Of : Rows → Type 0 = λ t. PutsRows kind t a u b v in
+      subst Of (picked_one picks a.picker b.picker found None f.picker e) f
+
+  -- a record gave a row
+  pub writes_row : (a b c : Writer P) (u v w : S) (found : Found) (row : List Value) → Some row ≡ picks b.picker found → PutsRows kind [] a u b v → PutsRows kind (row ∷ []) b v c w → Writes kind picks a u (found ∷ []) c w
+  writes_row a b c u v w found row e f s =
+      let Of : Rows → Type 0 = λ t. PutsRows kind t a u c w in
+      subst Of (picked_one picks a.picker b.picker found (Some row) f.picker e) (puts_on kind [] (row ∷ []) a b c u v w f s)
+
+  -- its row wasn't put
+  pub halts_row : (a b c : Writer P) (u v w : S) (found : Found) (row : List Value) → Some row ≡ picks b.picker found → PutsRows kind [] a u b v → StopsWithin kind (row ∷ []) b v c w → Halts kind picks a u (found ∷ []) c w
+  halts_row a b c u v w found row e f s =
+      let Of : Rows → Type 0 = λ t. StopsWithin kind t a u c w in
+      subst Of (picked_one picks a.picker b.picker found (Some row) f.picker e) (stops_behind kind [] (row ∷ []) a b c u v w f s)
+
+  -- it stopped before the first record's row
+  pub halts_at_once : (a c : Writer P) (u w : S) (found : Found) → StopsWithin kind [] a u c w → Halts kind picks a u (found ∷ []) c w
+  halts_at_once a c u w found s = stops_before kind [] (picked (picks a.picker) (found ∷ [])) a c u w s
+
+  pub halts_there : (a c : Writer P) (u w : S) (found : Found) → PutsRows kind [] a u c w → Halts kind picks a u (found ∷ []) c w
+  halts_there a c u w found f = stops_there kind [] (picked (picks a.picker) (found ∷ [])) a c u w f

@@ -1,0 +1,13 @@
+pub mod Moves
+pub mod Sparing
+pub mod Following
+pub mod UnderWay
+pub mod Ending
+pub mod Naming
+pub mod Texts
+pub mod States
+pub mod Calls
+pub mod Plain
+pub mod Stopping
+pub mod SinkCalls
+pub mod KeptCalls

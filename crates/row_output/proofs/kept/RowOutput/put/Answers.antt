@@ -1,0 +1,41 @@
+use Rattle.std.proofs.Common.{List, [], ◌∷◌, ◌++◌, refl, ap, arith}
+use Rattle.lp_model.proofs.Results.{on_err}
+use Rattle.order_top.specs.Finish.{Row, finished}
+use Rattle.text_output.specs.Output.{kind_of}
+use Rattle.row_output.specs.declared.fault.Refused.{Refused}
+use Rattle.row_output.specs.Kept.{HasKept, HasRows, asked_of}
+use Rattle.row_output.specs.Rows.{IsRefused, IsRefusedAt}
+use Rattle.row_output.specs.Sinks.{Purpose, files_in}
+use Rattle.row_output.proofs.KeptCalls.{asked_for, rows_have, rows_stop_at, rows_refused, one_more}
+use Rattle.row_output.proofs.SinkCalls.{refused_on}
+use Rattle.row_output.proofs.kept.RowOutput.put.Goals as goal
+
+pub take-requires : goal.take-requires
+take-requires g c = let few = c.args.self.now.few in omega arith
+
+pub returns-in_err-take-clause-asked : goal.returns-in_err-take-clause-asked
+returns-in_err-take-clause-asked g c = ap (λ (p : Purpose). asked_for p c.args.self.now.order) c.take.ensures.purpose
+
+pub returns-in_err-take-clause-stop : goal.returns-in_err-take-clause-stop
+returns-in_err-take-clause-stop g c = on_err _ c.from_residual.result (λ start rows more has.
+    rows_stop_at (kind_of g.G.Stage.state g.G.Stage.ended) c.args.self.now c.args.stage.now c.take.new.stage start rows (rows ++ (c.args.row.now ∷ more)) (c.in_err-take.ensures.stop start rows more) has)
+
+pub returns-in_err-take-clause-refused : goal.returns-in_err-take-clause-refused
+returns-in_err-take-clause-refused g c =
+    let kind = kind_of g.G.Stage.state g.G.Stage.ended in
+    let o = c.args.self.now in
+    refused_on (λ (why : Refused). (start : _) (rows more : List Row) → HasKept kind o.kept o.order o.sink start rows c.args.stage.now → IsRefusedAt (files_in o.sink) (finished o.order (rows ++ (c.args.row.now ∷ more))) why)
+    (λ (why : Refused). (start : _) (rows more : List Row) → HasRows kind o start rows c.args.stage.now → IsRefused (asked_of o) (rows ++ (c.args.row.now ∷ more)) why)
+    c.from_residual.result _ c.from_residual.ensures.1
+    (λ why so start rows more has. rows_refused kind o c.args.stage.now c.take.new.stage start rows (rows ++ (c.args.row.now ∷ more)) why (so start rows more) has)
+    c.in_err-take.ensures.refused
+
+pub returns-in_err-take-clause-uncounted : goal.returns-in_err-take-clause-uncounted
+returns-in_err-take-clause-uncounted g c = on_err _ c.from_residual.result refl
+
+pub returns-clause-asked : goal.returns-clause-asked
+returns-clause-asked g c = ap (λ (p : Purpose). asked_for p c.args.self.now.order) c.take.ensures.purpose
+
+pub returns-clause-has : goal.returns-clause-has
+returns-clause-has g c = λ start rows has.
+    rows_have (kind_of g.G.Stage.state g.G.Stage.ended) c.args.self.now c.args.stage.now c.take.new.stage _ start rows (rows ++ c.args.row.now ∷ []) (c.in_ok-take.ensures.has start rows) (one_more c.args.self.now.put rows c.args.row.now) has

@@ -1,0 +1,41 @@
+use Rattle.std.proofs.Common.{◌<◌, ◌^◌, ◌∷◌, ◌++◌, [], refl, sym, ◌∙◌, ap, subst}
+use Rattle.order_top.specs.Finish.{Row}
+use Rattle.text_output.specs.Output.{kind_of}
+use Rattle.row_output.specs.Few.{places_in}
+use Rattle.row_output.specs.declared.kept.Kept.{Kept}
+use Rattle.row_output.specs.declared.kept.Kept.TheVariants as K
+use Rattle.row_output.proofs.KeptCalls.{plain_has, plain_stops, plain_refuses, ordered_takes, places_taken}
+use Rattle.row_output.proofs.Stopping.{kept_stops}
+use Rattle.row_output.proofs.row_output.take.Goals as goal
+
+pub keep-requires : goal.keep-requires
+keep-requires g c = subst (λ (k : Kept). places_in k < 2 ^ 63) c.in-Ordered.is c.requires
+
+pub returns-in-All-clause-has : goal.returns-in-All-clause-has
+returns-in-All-clause-has g c =
+    plain_has (kind_of g.G.Stage.state g.G.Stage.ended) c.args.kept.now c.in-All.is c.args.order.now c.args.sink.now c.args.stage.now c.put.new.stage c.put.result c.args.kept.now c.put.new.self (λ rows. rows ++ c.args.row.now ∷ []) refl c.put.ensures.has
+
+pub returns-in-All-clause-stop : goal.returns-in-All-clause-stop
+returns-in-All-clause-stop g c =
+    plain_stops (kind_of g.G.Stage.state g.G.Stage.ended) c.args.kept.now c.in-All.is c.args.order.now c.args.sink.now c.args.stage.now c.put.new.stage c.put.result (λ rows more. rows ++ (c.args.row.now ∷ more)) c.put.ensures.stop
+
+pub returns-in-All-clause-refused : goal.returns-in-All-clause-refused
+returns-in-All-clause-refused g c =
+    plain_refuses (kind_of g.G.Stage.state g.G.Stage.ended) c.args.kept.now c.in-All.is c.args.order.now c.args.sink.now c.args.stage.now c.put.new.stage c.put.result (λ rows more. rows ++ (c.args.row.now ∷ more)) c.put.ensures.refused
+
+pub returns-in-Ok-clause-places : goal.returns-in-Ok-clause-places
+returns-in-Ok-clause-places g c = places_taken c.args.kept.now c.in-Ordered.orderer c.keep.new.orderer c.in-Ordered.is c.keep.ensures.places
+
+pub returns-in-Ok-clause-has : goal.returns-in-Ok-clause-has
+returns-in-Ok-clause-has g c = λ start rows has.
+    ordered_takes (kind_of g.G.Stage.state g.G.Stage.ended) c.args.kept.now c.in-Ordered.orderer c.in-Ordered.is c.args.order.now c.args.sink.now start rows c.args.stage.now c.keep.new.orderer c.args.row.now c.keep.ensures.finish c.in-Ok.ensures.stands has
+
+pub returns-in-Err-clause-places : goal.returns-in-Err-clause-places
+returns-in-Err-clause-places g c = places_taken c.args.kept.now c.in-Ordered.orderer c.keep.new.orderer c.in-Ordered.is c.keep.ensures.places
+
+pub returns-in-Err-clause-err : goal.returns-in-Err-clause-err
+returns-in-Err-clause-err g c = ap K.Ordered c.in-Err.ensures.err ∙ sym c.in-Ordered.is
+
+pub returns-in-Err-clause-stop : goal.returns-in-Err-clause-stop
+returns-in-Err-clause-stop g c = λ start rows more has.
+    kept_stops (kind_of g.G.Stage.state g.G.Stage.ended) c.args.kept.now c.args.order.now c.args.sink.now start rows (c.args.row.now ∷ more) c.args.stage.now has

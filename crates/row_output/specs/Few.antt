@@ -1,0 +1,8 @@
+-- How many rows an order was given at most.
+use Rattle.std.specs.Prelude.{ℕ}
+use Rattle.row_output.specs.declared.kept.Kept.{Kept}
+use Rattle.row_output.specs.declared.kept.Kept.TheVariants as K
+
+abbrev pub places_in : Kept → ℕ
+places_in K.All = 0
+places_in (K.Ordered ordering) = ordering.places

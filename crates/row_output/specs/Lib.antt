@@ -1,0 +1,10 @@
+pub mod Orders
+pub mod Faults
+pub mod Asked
+pub mod Files
+pub mod FileTexts
+pub mod FileRows
+pub mod Rows
+pub mod Sinks
+pub mod Few
+pub mod Kept
