@@ -1,0 +1,9 @@
+pub mod Files
+pub mod Carried
+pub mod Sound
+pub mod Grounds
+pub mod Staged
+pub mod Phases
+pub mod Committed
+pub mod Stops
+pub mod Steps
