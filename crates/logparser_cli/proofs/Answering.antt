@@ -7,7 +7,8 @@ use Rattle.command_words.specs.declared.spec.Spec.{Spec}
 use Rattle.execution.specs.Executed.{IsExecuted, IsMoment, IsUntouched, Writes, rows_in}
 use Rattle.execution.specs.Executed.{HoldsFront as HoldsSpans, IsParseError as IsExceeded, IsStopped as IsStoppedIn, IsUnplaced as IsUnplacedIn, IsUnplanned as IsUnplannedIn, WritesAll as WritesSpans}
 use Rattle.execution.specs.Formats.{lines_in, log_format}
-use Rattle.execution.specs.Outputs.{asked_in}
+use Rattle.execution.specs.Outputs.{asked_in, is_standard}
+use Rattle.execution.specs.Texts.{into_in}
 use Rattle.execution.specs.Faults.{IfParse, IfPlan, IfRefused}
 use Rattle.execution.specs.declared.fault.RunFault.{RunFault}
 use Rattle.execution.specs.declared.fault.RunFault.TheVariants as X
@@ -162,10 +163,10 @@ unplaced_answers old new template spec moment q (W.BadName fault) is = inr is
 unplaced_answers old new template spec moment q (W.NameClash name) is = is
 
 -- a call of the outputs failed
-failed_answers : (old new : World) (template : Sections) (spec : Spec) (moment : ℤ) (q : model.Query) (standard : Bool) → IsStopped old new template spec moment q → OutputRose standard (Rose old.disk_faults new.disk_faults) (Rose old.out_faults new.out_faults)
+failed_answers : (old new : World) (template : Sections) (spec : Spec) (moment : ℤ) (q : model.Query) (standard : Bool) → is_standard (into_in q) ≡ standard → IsStopped old new template spec moment q → OutputRose standard (Rose old.disk_faults new.disk_faults) (Rose old.out_faults new.out_faults)
     → AnswersRun old new template spec moment q (failed_output standard)
-failed_answers old new template spec moment q true stop rose = (stop, rose)
-failed_answers old new template spec moment q false stop rose = (stop, rose)
+failed_answers old new template spec moment q true into stop rose = (into, stop, rose)
+failed_answers old new template spec moment q false into stop rose = (into, stop, rose)
 
 -- no plan was made
 unplanned : (old new : World) (mid : Option Folder) (spec : Spec) (moment : ℤ) (q : model.Query) (spans : List Span) (fault : TypeFault) → AreSpans old.folder mid q spans → OnlyGrow mid new.folder
@@ -177,18 +178,18 @@ unplanned old new mid spec moment q spans fault found grow plan before = record 
   unwritten = on_whole new.folder (log_format spec q) spec.ts_format found.logs spans (λ table. IsUnwritten old.held new.held) (λ table. IsUnwritten old.held new.held) found.wholes (λ table same. same) before;
 }
 
-pub stopped_answers : (old new : World) (mid : Option Folder) (template : Sections) (spec : Spec) (moment : ℤ) (q : model.Query) (spans : List Span) (standard : Bool) (fault : RunFault) → AreSpans old.folder mid q spans → OnlyGrow mid new.folder
+pub stopped_answers : (old new : World) (mid : Option Folder) (template : Sections) (spec : Spec) (moment : ℤ) (q : model.Query) (spans : List Span) (standard : Bool) (fault : RunFault) → is_standard (into_in q) ≡ standard → AreSpans old.folder mid q spans → OnlyGrow mid new.folder
     → StopsOver old new template spec moment q spans → IfPlan {T = Unit {0}} (Err fault) (IsUnplannedIn (log_format spec q) new.folder spec moment q spans)
     → IfPlan {T = Unit {0}} (Err fault) (λ f. IsUntouched (log_format spec q) new.folder (IsUnwritten old.held new.held) spec spans)
     → IfParse {T = Unit {0}} (Err fault) (IsExceeded (log_format spec q) new.folder spec moment q spans)
     → IfRefused {T = Unit {0}} (Err fault) (IsUnplacedIn (log_format spec q) new.folder (asked_in spec template moment q spans) spec moment q spans)
     → (fault ≡ X.LogsFault → Rose old.logs_faults new.logs_faults) → (fault ≡ X.StageFault → OutputRose standard (Rose old.disk_faults new.disk_faults) (Rose old.out_faults new.out_faults)) → AnswersRun old new template spec moment q (stopped standard fault)
-stopped_answers old new mid template spec moment q spans standard (X.Plan fault) found grow stop plan before parse refused logs stage = unplanned old new mid spec moment q spans fault found grow plan before
-stopped_answers old new mid template spec moment q spans standard (X.Refused why) found grow stop plan before parse refused logs stage = unplaced_answers old new template spec moment q why (unplaced_is old new mid template spec moment q spans why found grow stop refused)
-stopped_answers old new mid template spec moment q spans standard X.LogsFault found grow stop plan before parse refused logs stage = (inr (halted old new mid template spec moment q spans found grow stop), logs refl)
-stopped_answers old new mid template spec moment q spans standard X.StageFault found grow stop plan before parse refused logs stage = failed_answers old new template spec moment q standard (inr (halted old new mid template spec moment q spans found grow stop)) (stage refl)
-stopped_answers old new mid template spec moment q spans standard (X.ParseErrors log row) found grow stop plan before parse refused logs stage = exceeded old new mid template spec moment q spans (bad_line log row) found grow stop parse
-stopped_answers old new mid template spec moment q spans standard X.Memory found grow stop plan before parse refused logs stage = inr (halted old new mid template spec moment q spans found grow stop)
+stopped_answers old new mid template spec moment q spans standard (X.Plan fault) into found grow stop plan before parse refused logs stage = unplanned old new mid spec moment q spans fault found grow plan before
+stopped_answers old new mid template spec moment q spans standard (X.Refused why) into found grow stop plan before parse refused logs stage = unplaced_answers old new template spec moment q why (unplaced_is old new mid template spec moment q spans why found grow stop refused)
+stopped_answers old new mid template spec moment q spans standard X.LogsFault into found grow stop plan before parse refused logs stage = (inr (halted old new mid template spec moment q spans found grow stop), logs refl)
+stopped_answers old new mid template spec moment q spans standard X.StageFault into found grow stop plan before parse refused logs stage = failed_answers old new template spec moment q standard into (inr (halted old new mid template spec moment q spans found grow stop)) (stage refl)
+stopped_answers old new mid template spec moment q spans standard (X.ParseErrors log row) into found grow stop plan before parse refused logs stage = exceeded old new mid template spec moment q spans (bad_line log row) found grow stop parse
+stopped_answers old new mid template spec moment q spans standard X.Memory into found grow stop plan before parse refused logs stage = inr (halted old new mid template spec moment q spans found grow stop)
 
 -- the same world with the logs as they were before
 abbrev with_logs : World → Option Folder → ℕ → World
@@ -226,8 +227,8 @@ run_earlier mid new before faults template spec moment q TooManyOutputs grow lat
 run_earlier mid new before faults template spec moment q TooManyLogs grow later s = s
 run_earlier mid new before faults template spec moment q (Template fault) grow later s = absurd s
 run_earlier mid new before faults template spec moment q LogsFault grow later s = (stop_earlier mid new before faults template spec moment q grow s.0, rose_since faults mid.logs_faults new.logs_faults later s.1)
-run_earlier mid new before faults template spec moment q DiskFault grow later s = (stop_earlier mid new before faults template spec moment q grow s.0, s.1)
-run_earlier mid new before faults template spec moment q SinkFault grow later s = (stop_earlier mid new before faults template spec moment q grow s.0, s.1)
+run_earlier mid new before faults template spec moment q DiskFault grow later s = (s.0, stop_earlier mid new before faults template spec moment q grow s.1, s.2)
+run_earlier mid new before faults template spec moment q SinkFault grow later s = (s.0, stop_earlier mid new before faults template spec moment q grow s.1, s.2)
 run_earlier mid new before faults template spec moment q (ParseErrors log row) grow later s = record { logs = s.logs; are_logs = logs_earlier before mid.folder new.folder q s.logs grow s.are_logs; typed = s.typed; exceeds = s.exceeds; front = s.front }
 
 untemplated_since : (before mid now : Option Folder) (name : List ℕ) (status : Status) → OnlyGrow before mid → IsUntemplated mid now name status → IsUntemplated before now name status

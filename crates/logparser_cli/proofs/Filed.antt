@@ -220,7 +220,7 @@ front_left M.LeaveAlone (byte ∷ old) new base is there = absurd (omega (arith,
 -- what a stop leaves of files as a stage it leaves of files
 pub are_left : {D : Type 0} (state : D → DiskState) (files : Files) (rows : List Row) (start now : FileStage D) → FilesStop (file_kind state) files start rows now → AlwaysTells state
     → AreLeft files rows (seen_by state start) (seen_by state now)
-are_left {D} state files rows start now stop always = record { each = each; others = others }
+are_left {D} state files rows start now stop always = record { each = each; free = free; others = others }
   where
     Kept : Opened → Type 0
     Kept o = IsBase (file_kind state) files.mode start o.name o.base × Front state (length stop.opened) start now o
@@ -243,6 +243,15 @@ are_left {D} state files rows start now stop always = record { each = each; othe
 
     each : (name : List ℕ) → IsLeft files.mode (seen_by state start name) (seen_by state now name)
     each name = by name (is_among (called stop.opened) name) refl
+
+    kept_off : (name : List ℕ) (d : Bool) → is_among (called stop.opened) name ≡ d → is_among files.forbidden name ≡ true → seen_by state now name ≡ seen_by state start name
+    kept_off name false off forbidden = other_stays state stop.opened start now name always stop.spares off
+    kept_off name true there forbidden =
+        with_name (λ (o : Opened). is_among files.forbidden o.name ≡ false) stop.opened name (seen_by state now name ≡ seen_by state start name) stop.free there
+        (λ o same off. absurd (true≢false (sym forbidden ∙ (ap (is_among files.forbidden) (sym same) ∙ off))))
+
+    free : (name : List ℕ) → is_among files.forbidden name ≡ true → seen_by state now name ≡ seen_by state start name
+    free name forbidden = kept_off name (is_among (called stop.opened) name) refl forbidden
 
     other : (name : List ℕ) (d : Bool) → is_among (called stop.opened) name ≡ d → is_among (output_names files.pattern rows) name ≡ false → seen_by state now name ≡ seen_by state start name
     other name false off none = other_stays state stop.opened start now name always stop.spares off

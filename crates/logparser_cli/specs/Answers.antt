@@ -5,6 +5,8 @@ use Rattle.lp_model.specs.Outside.{Rose}
 use Rattle.command_words.specs.declared.spec.Spec.{Spec}
 use Rattle.execution.specs.Built.{all_built}
 use Rattle.execution.specs.Executed.{IsMoment}
+use Rattle.execution.specs.Outputs.{is_standard}
+use Rattle.execution.specs.Texts.{into_in}
 use Rattle.log_reading.specs.Spans.{bad_line}
 use Rattle.query_text.specs.declared.fault.QueryFault.{QueryFault}
 use Rattle.query_text.specs.declared.fault.QueryFault.TheVariants as Q
@@ -55,8 +57,8 @@ AnswersRun old new template spec moment q TooManyOutputs = IsUnplaced old.folder
 AnswersRun old new template spec moment q TooManyLogs = IsWithoutLogs old new q TooManyLogs
 AnswersRun old new template spec moment q (Template fault) = ⊥
 AnswersRun old new template spec moment q LogsFault = IsStopped old new template spec moment q × Rose old.logs_faults new.logs_faults
-AnswersRun old new template spec moment q DiskFault = IsStopped old new template spec moment q × Rose old.disk_faults new.disk_faults
-AnswersRun old new template spec moment q SinkFault = IsStopped old new template spec moment q × Rose old.out_faults new.out_faults
+AnswersRun old new template spec moment q DiskFault = (is_standard (into_in q) ≡ false) × IsStopped old new template spec moment q × Rose old.disk_faults new.disk_faults
+AnswersRun old new template spec moment q SinkFault = (is_standard (into_in q) ≡ true) × IsStopped old new template spec moment q × Rose old.out_faults new.out_faults
 AnswersRun old new template spec moment q (ParseErrors log row) = IsParseError old.folder new.folder old.held new.held template spec moment q (bad_line log row)
 
 -- the template isn't read, and nothing was written

@@ -33,7 +33,8 @@ IsLeft M.Overwrite old new = ⊤
 IsLeft M.LeaveAlone [] new = ⊤
 IsLeft M.LeaveAlone (byte ∷ old) new = new ≡ byte ∷ old
 
--- Files of outputs may have changed, and no other file did.
+-- Files of outputs may have changed, but none with a forbidden name, and no other file did.
 pub record AreLeft (files : Files) (rows : List Row) (before now : Contents) : Type 0 where
   pub each : (name : List ℕ) → IsLeft files.mode (before name) (now name)
+  pub free : (name : List ℕ) → is_among files.forbidden name ≡ true → now name ≡ before name
   pub others : (name : List ℕ) → is_among (output_names files.pattern rows) name ≡ false → now name ≡ before name

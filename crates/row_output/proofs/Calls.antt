@@ -16,11 +16,11 @@ use Rattle.row_output.specs.declared.files.FileOutputs.{FileOutputs}
 use Rattle.row_output.specs.declared.fault.OutputFault.{OutputFault}
 use Rattle.row_output.specs.declared.fault.OutputFault.TheVariants as F
 use Rattle.row_output.specs.declared.fault.Refused.{Refused}
-use Rattle.row_output.specs.Asked.{Files, IsRefusedAs, IsRefusedBy}
+use Rattle.row_output.specs.Asked.{Files, AreGood, IsRefusedAs, IsRefusedBy}
 use Rattle.row_output.specs.Files.{FilesHold, FilesStop}
-use Rattle.row_output.specs.FileTexts.{Making, AreUnderWay, AreEnding, StopsAmong, SparesFile, TakesRow}
+use Rattle.row_output.specs.FileTexts.{Making, AreUnderWay, AreEnding, StopsAmong, StopsFree, SparesFile, TakesRow}
 use Rattle.row_output.specs.FileRows.{AreNamesOf, HasOutputs, HasFileRows, files_of, making_of, output_text, OnRefused}
-use Rattle.row_output.proofs.Naming.{names_plain, names_of_differ, plain_after, starred_are, none_or_some, stops_for, refused_plain, refused_row}
+use Rattle.row_output.proofs.Naming.{names_plain, names_of_differ, plain_after, starred_are, none_or_some, stops_for, stops_free, refused_plain, refused_row}
 use Rattle.row_output.proofs.States.{outputs_same, rows_more, row_among, plain_among, outputs_stop, files_hold}
 
 -- P of a refusal, and so Q
@@ -46,12 +46,12 @@ named_by f row values counted are = ap (filled f.outputs.pattern) (are ∙ ap (�
 
 -- a row isn't placed
 pub put_stops : {S : Type 0} (kind : StageKind S) (f : FileOutputs) (start : S) (rows : List Row) (row values : Row) (more : List Row) (a b : S) → values ≡ take f.stars row → HasFileRows kind f start rows a
-    → StopsAmong kind f.mode (with_name f.outputs.names (filled f.outputs.pattern values)) start b → FilesStop kind (files_of f) start (rows ++ (row ∷ more)) b
+    → StopsFree kind (files_of f) (with_name f.outputs.names (filled f.outputs.pattern values)) start b → FilesStop kind (files_of f) start (rows ++ (row ∷ more)) b
 put_stops kind f start rows row values more a b are has stops =
     let named = named_by f row values has.outputs.stars_are are in
     let names = with_name f.outputs.names (row_name f.outputs.pattern row) in
-    stops_for kind (files_of f) names start (rows ++ (row ∷ more)) b (λ name there. row_among f.outputs rows row more name has.names there)
-    (subst (λ (n : List ℕ). StopsAmong kind f.mode (with_name f.outputs.names n) start b) named stops)
+    stops_free kind (files_of f) names start (rows ++ (row ∷ more)) b (λ name there. row_among f.outputs rows row more name has.names there)
+    (subst (λ (n : List ℕ). StopsFree kind (files_of f) (with_name f.outputs.names n) start b) named stops)
 
 -- why it is refused
 pub put_refused : {S : Type 0} (kind : StageKind S) (f : FileOutputs) (start : S) (rows : List Row) (row values : Row) (more : List Row) (a : S) (why : Refused) → values ≡ take f.stars row → HasFileRows kind f start rows a
@@ -84,14 +84,15 @@ pub hand_stops : {S : Type 0} (kind : StageKind S) (f g : FileOutputs) (start : 
 hand_stops kind f g start rows row values more a b c i d are same names at less placed calls has =
     let named = named_by f row values has.outputs.stars_are are in
     let stops = outputs_stop kind f g start rows row b c i d has.names (names ∙ ap (with_name f.outputs.names) named) (at ∙ ap Some named) less calls placed in
+    let own : StopsFree kind (files_of g) g.outputs.names start c = record { names = g.outputs.names; among = λ name there. there; free = placed.good.free; stops = stops } in
     put_stops kind f start rows row values more a c are has
-    (subst (λ (x : Files). StopsAmong kind x.mode (with_name f.outputs.names (filled f.outputs.pattern values)) start c) same (subst (λ (l : List (List ℕ)). StopsAmong kind g.mode l start c) names stops))
+    (subst (λ (x : Files). StopsFree kind x (with_name f.outputs.names (filled f.outputs.pattern values)) start c) same (subst (λ (l : List (List ℕ)). StopsFree kind (files_of g) l start c) names own))
 
 -- the one output without stars isn't opened
 pub open_stops : {S : Type 0} (kind : StageKind S) (f : FileOutputs) (start : S) (rows more : List Row) (a b : S) → f.stars ≡ 0 → HasFileRows kind f start rows a
-    → StopsAmong kind f.mode (with_name f.outputs.names (filled f.outputs.pattern [])) start b → FilesStop kind (files_of f) start more b
+    → StopsFree kind (files_of f) (with_name f.outputs.names (filled f.outputs.pattern [])) start b → FilesStop kind (files_of f) start more b
 open_stops kind f start rows more a b none has stops =
-    stops_for kind (files_of f) (with_name f.outputs.names (filled f.outputs.pattern [])) start more b (λ name there. plain_among f.outputs rows more name (sym has.outputs.stars_are ∙ none) has.names there) stops
+    stops_free kind (files_of f) (with_name f.outputs.names (filled f.outputs.pattern [])) start more b (λ name there. plain_among f.outputs rows more name (sym has.outputs.stars_are ∙ none) has.names there) stops
 
 pub open_refused : {S : Type 0} (kind : StageKind S) (f : FileOutputs) (start : S) (rows more : List Row) (a : S) (why : Refused) → f.stars ≡ 0 → HasFileRows kind f start rows a
     → IsNewName f.outputs (filled f.outputs.pattern []) × IsRefusedAs f.outputs.forbidden f.outputs.names (filled f.outputs.pattern []) why → IsRefusedBy (files_of f) more why
@@ -133,7 +134,7 @@ pub end_holds : {S : Type 0} (kind : StageKind S) (f g : FileOutputs) (start : S
 end_holds kind f g start rows outputs a b files making names has ending = files_hold kind f g start rows outputs b files making names has.outputs.good ending
 
 -- or not
-pub end_stops : {S : Type 0} (kind : StageKind S) (f g : FileOutputs) (start : S) (rows : List Row) (b : S) → files_of g ≡ files_of f → g.outputs.names ≡ output_names g.outputs.pattern rows → StopsAmong kind g.mode g.outputs.names start b → FilesStop kind (files_of f) start rows b
-end_stops kind f g start rows b files names stops =
+pub end_stops : {S : Type 0} (kind : StageKind S) (f g : FileOutputs) (start : S) (rows : List Row) (b : S) → files_of g ≡ files_of f → g.outputs.names ≡ output_names g.outputs.pattern rows → AreGood g.outputs.forbidden g.outputs.names → StopsAmong kind g.mode g.outputs.names start b → FilesStop kind (files_of f) start rows b
+end_stops kind f g start rows b files names good stops =
     subst (λ (x : Files). FilesStop kind x start rows b) files
-    (stops_for kind (files_of g) g.outputs.names start rows b (λ name there. sym (ap (λ (l : List (List ℕ)). is_among l name) names) ∙ there) stops)
+    (stops_for kind (files_of g) g.outputs.names start rows b (λ name there. sym (ap (λ (l : List (List ℕ)). is_among l name) names) ∙ there) good.free stops)

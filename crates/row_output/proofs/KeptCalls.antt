@@ -17,7 +17,7 @@ use Rattle.row_output.specs.FileRows.{OnRefused}
 use Rattle.row_output.specs.Kept.{HasKept, HasPut, HasRows, asked_of}
 use Rattle.row_output.specs.Rows.{Holds, HoldsAt, IsRefused, IsRefusedAt, Stops, StopsAt}
 use Rattle.row_output.specs.Sinks.{HasSinkRows, IsOpened, Purpose, files_in, purpose_of, sink_text}
-use Rattle.row_output.specs.Few.{places_in}
+use Rattle.row_output.specs.Few.{GoOn, places_in}
 use Rattle.row_output.proofs.Plain.{all_left}
 use Rattle.row_output.proofs.Stopping.{kept_stops}
 
@@ -98,6 +98,10 @@ nothing_stops kind kept order s start rows a has = subst (λ (l : List Row). Sto
 
 pub places_taken : (kept : Kept) (old new : Ordering) → kept ≡ K.Ordered old → new.places ≤ old.places + 1 → places_in (K.Ordered new) ≤ places_in kept + 1
 places_taken kept old new is less = subst (λ (k : Kept). new.places ≤ places_in k + 1) (sym is) less
+
+-- rows that an order has don't go on
+pub ordered_apart : (kept new : Kept) (ordering : Ordering) → kept ≡ K.Ordered ordering → GoOn kept → GoOn new
+ordered_apart kept new ordering is go = absurd (cc)
 
 -- a call that lets a sink have its rows
 module _ {S : Type 0} (kind : StageKind S) (o : RowOutput) (a b : S) where

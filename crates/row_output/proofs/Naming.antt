@@ -6,7 +6,7 @@ use Rattle.std.proofs.lemmas.Bool.Decides.{Decides-eqb}
 use Rattle.std.proofs.Math.Seq.{take-append_seam, take-length}
 use Rattle.std.proofs.lemmas.List.{map-append, append-nil, take_more, drop_more}
 use Rattle.std.proofs.lemmas.Option.{slice_get_within, get_or_from_slice_get}
-use Rattle.std.proofs.lemmas.List.Elements.{All-weaker, All-push, All-map, filter-append}
+use Rattle.std.proofs.lemmas.List.Elements.{All-head, All-tail, All-weaker, All-push, All-map, filter-append}
 use Rattle.std.proofs.lemmas.List.Folds.{list_any-append}
 use Rattle.std.proofs.lemmas.Slice.Eq.{bytes_eq-Decides}
 use Rattle.log_listing.specs.Firsts.{is_among, firsts, with_name}
@@ -23,7 +23,7 @@ use Rattle.row_output.specs.declared.fault.Refused.{Refused}
 use Rattle.row_output.specs.declared.fault.Refused.TheVariants as R
 use Rattle.row_output.specs.Asked.{Files, AreGood, IsRefusedAs, IsRefusedBy, IsFirstRefused}
 use Rattle.row_output.specs.Files.{FilesStop, IsBase, Opened}
-use Rattle.row_output.specs.FileTexts.{StopsAmong}
+use Rattle.row_output.specs.FileTexts.{StopsAmong, StopsFree}
 use Rattle.row_output.specs.FileRows.{AreNamesOf}
 
 or_true : (b : Bool) → (b || true) ≡ true
@@ -191,16 +191,30 @@ pub names_of_among : (outputs : Numbering) (rows more : List Row) (name : List �
 names_of_among outputs rows more name (inl names) there = names_more outputs.pattern rows more name (sym (ap (λ (l : List (List ℕ)). is_among l name) names) ∙ there)
 names_of_among outputs rows more name (inr (names, no_rows)) there = absurd (true≢false (sym there ∙ ap (λ (l : List (List ℕ)). is_among l name) names))
 
+-- where no name of some is forbidden, none that is among them is
+free_among : (forbidden names : List (List ℕ)) (name : List ℕ) → All (λ other. is_among forbidden other ≡ false) names → is_among names name ≡ true → is_among forbidden name ≡ false
+free_among forbidden [] name free there = absurd (true≢false (sym there))
+free_among forbidden (own ∷ names) name free there = decide (bytes_eq name own) refl (λ later. free_among forbidden names name (All-tail (λ other. is_among forbidden other ≡ false) own names free) later)
+  where
+    decide : (d : Bool) → bytes_eq name own ≡ d → (is_among names name ≡ true → is_among forbidden name ≡ false) → is_among forbidden name ≡ false
+    decide true e rest = ap (is_among forbidden) ((bytes_eq-Decides name own).0 e) ∙ All-head (λ other. is_among forbidden other ≡ false) own names free
+    decide false e rest = rest (sym (ap (λ (b : Bool). b || is_among names name) e) ∙ there)
+
 -- outputs of these names are some of the outputs of rows
 pub stops_for : {S : Type 0} (kind : StageKind S) (files : Files) (names : List (List ℕ)) (start : S) (rows : List Row) (now : S) → ((name : List ℕ) → is_among names name ≡ true → is_among (output_names files.pattern rows) name ≡ true)
-    → StopsAmong kind files.mode names start now → FilesStop kind files start rows now
-stops_for kind files names start rows now among stops = record {
+    → All (λ name. is_among files.forbidden name ≡ false) names → StopsAmong kind files.mode names start now → FilesStop kind files start rows now
+stops_for kind files names start rows now among free stops = record {
   opened = stops.opened;
   named = All-weaker (λ (o : Opened). is_among names o.name ≡ true) (λ (o : Opened). is_among (map (λ (r : OutputRows). r.name) (split files.pattern rows)) o.name ≡ true)
       (λ o there. ap (λ (l : List (List ℕ)). is_among l o.name) (names_kept files.pattern rows (output_names files.pattern rows)) ∙ among o.name there) stops.opened stops.named;
+  free = All-weaker (λ (o : Opened). is_among names o.name ≡ true) (λ (o : Opened). is_among files.forbidden o.name ≡ false) (λ o there. free_among files.forbidden names o.name free there) stops.opened stops.named;
   bases = stops.bases;
   spares = stops.spares;
 }
+
+pub stops_free : {S : Type 0} (kind : StageKind S) (files : Files) (known : List (List ℕ)) (start : S) (rows : List Row) (now : S) → ((name : List ℕ) → is_among known name ≡ true → is_among (output_names files.pattern rows) name ≡ true)
+    → StopsFree kind files known start now → FilesStop kind files start rows now
+stops_free kind files known start rows now among stops = stops_for kind files stops.names start rows now (λ name there. among name (stops.among name there)) stops.free stops.stops
 
 -- one name more is good
 good_push : (forbidden names : List (List ℕ)) (name : List ℕ) → CanBeAdded forbidden names name → AreGood forbidden names → AreGood forbidden (names ++ name ∷ [])

@@ -22,7 +22,7 @@ use Rattle.row_output.specs.declared.fault.Refused.{Refused}
 use Rattle.row_output.specs.Faults.{place_fault, put_fault}
 use Rattle.row_output.specs.Asked.{Files, AreGood, IsRefusedAs}
 use Rattle.row_output.specs.Files.{ArePut, FilesHold, FilesStop, Opened, opened_of, SparesBut}
-use Rattle.row_output.specs.FileTexts.{Making, AreFiles, AreUnderWay, AreEnding, StopsAmong, KeepsStage, TakesRow, SparesFile, IsFile, after_file, opened_in, rows_by, text_by}
+use Rattle.row_output.specs.FileTexts.{Making, AreFiles, AreUnderWay, AreEnding, StopsAmong, StopsFree, KeepsStage, TakesRow, SparesFile, IsFile, after_file, opened_in, rows_by, text_by}
 use Rattle.row_output.specs.FileRows.{AreNamesOf, HasOutputs, HasFirst, HasFileRows, IsNewFiles, files_of, making_of, output_text, OnRefused}
 use Rattle.row_output.proofs.Naming.{plain_after, starred_are, names_after, names_of_differ, differ_with, no_rows_of, rows_own, rows_other, names_more, names_of_among, stops_for, good_with, among_with, names_plain, take_front, among_take, next_at, off_before}
 use Rattle.row_output.proofs.Sparing.{off_front}
@@ -69,7 +69,7 @@ new_files_has kind f start new =
 -- outputs whose rows have come so far may stop, whatever rows follow
 pub files_stop : {S : Type 0} (kind : StageKind S) (f : FileOutputs) (start : S) (rows more : List Row) (now : S) → HasFileRows kind f start rows now → FilesStop kind (files_of f) start (rows ++ more) now
 files_stop kind f start rows more now has =
-    stops_for kind (files_of f) f.outputs.names start (rows ++ more) now (λ name there. names_of_among f.outputs rows more name has.names there)
+    stops_for kind (files_of f) f.outputs.names start (rows ++ more) now (λ name there. names_of_among f.outputs rows more name has.names there) has.outputs.good.free
     (way_stops kind (making_of f) (rows_named f.outputs.pattern rows) f.outputs.names start now f.files.items f.texts has.outputs.under_way)
 
 -- a name is there, and those before it have their outputs
@@ -208,10 +208,13 @@ files_hold {S} kind f g start rows outputs now files making names good ending =
     (subst (λ (m : Making). FilesHold kind (files_of g) (text_by m) start rows outputs now) making hold)
 
 -- where no name could be placed
-pub place_stops : {S : Type 0} (kind : StageKind S) (f : FileOutputs) (start : S) (rows : List Row) (now : S) (name : List ℕ) → HasFileRows kind f start rows now → StopsAmong kind f.mode (with_name f.outputs.names name) start now
-place_stops kind f start rows now name has =
-    stops_more kind f.mode f.outputs.names (with_name f.outputs.names name) start now (λ other there. among_with f.outputs.names name other there)
-    (way_stops kind (making_of f) (rows_named f.outputs.pattern rows) f.outputs.names start now f.files.items f.texts has.outputs.under_way)
+pub place_stops : {S : Type 0} (kind : StageKind S) (f : FileOutputs) (start : S) (rows : List Row) (now : S) (name : List ℕ) → HasFileRows kind f start rows now → StopsFree kind (files_of f) (with_name f.outputs.names name) start now
+place_stops kind f start rows now name has = record {
+  names = f.outputs.names;
+  among = λ other there. among_with f.outputs.names name other there;
+  free = has.outputs.good.free;
+  stops = way_stops kind (making_of f) (rows_named f.outputs.pattern rows) f.outputs.names start now f.files.items f.texts has.outputs.under_way;
+}
 
 -- why it couldn't
 pub refused_place : (outputs : Numbering) (name : List ℕ) (fault : PlaceFault) → HasNoOutput outputs name fault → OnRefused (λ why. IsNewName outputs name × IsRefusedAs outputs.forbidden outputs.names name why) (place_fault fault)
@@ -252,7 +255,11 @@ place_has kind f g h start rows a b name placed counted files texts making can o
 
 -- it is placed, and calls failed
 pub opening_stops : {S : Type 0} (kind : StageKind S) (f g : FileOutputs) (start : S) (rows : List Row) (a b : S) (name : List ℕ) → g.outputs ≡ after_row f.outputs name → g.files.items ≡ f.files.items → g.texts ≡ f.texts → making_of g ≡ making_of f
-    → (HasFirst kind g start rows a → StopsAmong kind g.mode g.outputs.names start b) → HasFileRows kind f start rows a → StopsAmong kind f.mode (with_name f.outputs.names name) start b
-opening_stops kind f g start rows a b name placed files texts making stops has =
-    subst (λ (m : Making). StopsAmong kind m.mode (with_name f.outputs.names name) start b) making
-    (subst (λ (o : Numbering). StopsAmong kind g.mode o.names start b) placed (stops (first_after kind f g start rows a name placed files texts making has)))
+    → (is_among f.outputs.names name ≡ false → CanBeAdded f.outputs.forbidden f.outputs.names name) → (HasFirst kind g start rows a → StopsAmong kind g.mode g.outputs.names start b) → HasFileRows kind f start rows a → StopsFree kind (files_of f) (with_name f.outputs.names name) start b
+opening_stops kind f g start rows a b name placed files texts making can stops has = record {
+  names = with_name f.outputs.names name;
+  among = λ other there. there;
+  free = (good_with f.outputs.forbidden f.outputs.names name can has.outputs.good).free;
+  stops = subst (λ (m : Making). StopsAmong kind m.mode (with_name f.outputs.names name) start b) making
+      (subst (λ (o : Numbering). StopsAmong kind g.mode o.names start b) placed (stops (first_after kind f g start rows a name placed files texts making has)));
+}

@@ -1,6 +1,6 @@
 -- Outputs in files while rows still come: of each name the text that is on its way, or that its file is left alone.
 use Rattle.std.specs.Option.{option_to_list}
-use Rattle.std.specs.Prelude.{◌≡◌, ◌<◌, ◌+◌, ◌%◌, ◌^◌, ◌==◌, ℕ, ℤ, true, List, [], ◌∷◌, ◌++◌, length, map, All, Option, Some, None, ⊤}
+use Rattle.std.specs.Prelude.{◌≡◌, ◌<◌, ◌+◌, ◌%◌, ◌^◌, ◌==◌, ℕ, ℤ, true, false, List, [], ◌∷◌, ◌++◌, length, map, All, Option, Some, None, ⊤}
 use Rattle.any_format.specs.declared.format.Format.{Format}
 use Rattle.any_format.specs.declared.wanted.Wanted.{Wanted}
 use Rattle.any_format.specs.Formats.{text_of, HasText as IsSoFar}
@@ -52,6 +52,11 @@ abbrev pub after_file : ℕ → FileOutput → ℕ
 after_file index O.LeftAlone = index
 after_file index (O.Text text) = index + 1
 
+-- how many bytes of its text an output holds back
+abbrev pub held_back : FileOutput → ℕ
+held_back O.LeftAlone = 0
+held_back (O.Text text) = length text.held
+
 -- the outputs of these names, in order and numbered from an index
 abbrev pub AreFiles : {S : Type 0} → StageKind S → Making → S → S → (List ℕ → List Row) → ℕ → List (List ℕ) → List FileOutput → Type 0
 AreFiles kind making start now rows_of index [] [] = ⊤
@@ -82,6 +87,13 @@ pub record StopsAmong {S : Type 0} (kind : StageKind S) (mode : FileMode) (names
   pub named : All (λ (o : Opened). is_among names o.name ≡ true) opened
   pub bases : All (λ (o : Opened). IsBase kind mode start o.name o.base) opened
   pub spares : SparesBut kind opened start now
+
+-- The same, where each name is one of these and none is forbidden.
+pub record StopsFree {S : Type 0} (kind : StageKind S) (files : Files) (known : List (List ℕ)) (start now : S) : Type 0 where
+  pub names : List (List ℕ)
+  pub among : (name : List ℕ) → is_among names name ≡ true → is_among known name ≡ true
+  pub free : All (λ name. is_among files.forbidden name ≡ false) names
+  pub stops : StopsAmong kind files.mode names start now
 
 -- A call that asks a stage for something lets all stand.
 pub record KeepsStage {S : Type 0} (kind : StageKind S) (before now : S) : Type 0 where

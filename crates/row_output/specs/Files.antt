@@ -69,9 +69,10 @@ pub record FilesHold {S : Type 0} (kind : StageKind S) (files : Files) (text : O
   pub tells : (kind.state start).tells → (kind.state now).tells
   pub spares : SparesBut kind (map opened_of outputs) start now
 
--- Some of the outputs of rows were opened, and all other files stay.
+-- Some of the outputs of rows were opened, none of them with a forbidden name, and all other files stay.
 pub record FilesStop {S : Type 0} (kind : StageKind S) (files : Files) (start : S) (rows : List Row) (now : S) : Type 0 where
   pub opened : List Opened
   pub named : All (λ (o : Opened). is_among (map (λ (r : OutputRows). r.name) (split files.pattern rows)) o.name ≡ true) opened
+  pub free : All (λ (o : Opened). is_among files.forbidden o.name ≡ false) opened
   pub bases : All (λ (o : Opened). IsBase kind files.mode start o.name o.base) opened
   pub spares : SparesBut kind opened start now

@@ -4,6 +4,7 @@ use Rattle.order_top.specs.Finish.{Row, Finish}
 use Rattle.order_top.specs.Ordering.{StandsFor}
 use Rattle.text_output.specs.Output.{StageKind}
 use Rattle.row_output.specs.Asked.{Asked}
+use Rattle.row_output.specs.Few.{GoOn}
 use Rattle.row_output.specs.Orders.{IsPlain}
 use Rattle.row_output.specs.Sinks.{HasSinkRows, IsNewSink, columns_in, files_in, text_fn}
 use Rattle.row_output.specs.declared.kept.Kept.{Kept}
@@ -14,6 +15,10 @@ use Rattle.row_output.specs.declared.sink.Sink.{Sink}
 -- what is asked of the rows
 abbrev pub asked_of : RowOutput → Asked
 asked_of o = record { files = files_in o.sink; text = text_fn o.sink; columns = columns_in o.sink; order = o.order }
+
+-- no row is kept back
+abbrev pub KeepsNone : RowOutput → Type 0
+KeepsNone o = GoOn o.kept
 
 -- rows went on as they came, or an order has them
 abbrev pub HasKept : {S : Type 0} → StageKind S → Kept → Finish → Sink → S → List Row → S → Type 0

@@ -1,5 +1,5 @@
 -- How far rows have come on their way to standard output or to files.
-use Rattle.std.specs.Prelude.{◌≡◌, ℕ, true, List, [], ◌∷◌, Option, Some, None, ⊤}
+use Rattle.std.specs.Prelude.{◌≡◌, ◌<◌, ℕ, true, length, List, [], ◌∷◌, Option, Some, None, ⊤}
 use Rattle.any_format.specs.Formats.{text_of, HasText}
 use Rattle.any_format.specs.Wanted.{wanted_text}
 use Rattle.multiplex.specs.Naming.{stars}
@@ -66,6 +66,11 @@ HasStandardRows kind s start rows now = IsUnderWay (HasText s.text.shape true s.
 abbrev pub HasSinkRows : {S : Type 0} → StageKind S → Sink → S → List Row → S → Type 0
 HasSinkRows kind (S.Standard s) start rows now = HasStandardRows kind s start rows now
 HasSinkRows kind (S.Files f) start rows now = HasFileRows kind f start rows now
+
+-- standard output holds back less of its text than so many bytes
+abbrev pub HoldsLittle : Sink → Type 0
+HoldsLittle (S.Standard s) = length s.text.held < 65_536
+HoldsLittle (S.Files f) = ⊤
 
 -- what a sink is for
 pub record Purpose : Type 0 where

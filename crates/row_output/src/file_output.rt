@@ -9,7 +9,7 @@ ghost use Rattle.order_top.specs.Finish.{Row};
 ghost use Rattle.text_output.specs.Output.{kind_of};
 ghost use Rattle.text_output.specs.declared.target.Output.{Output as Ended};
 ghost use Rattle.row_output.specs.Asked.{Files};
-ghost use Rattle.row_output.specs.FileTexts.{Making, IsFound, KeepsStage, AreUnderWay, StopsAmong, SparesFile, TakesRow, EndsFile, AreEnding, after_file};
+ghost use Rattle.row_output.specs.FileTexts.{Making, IsFound, KeepsStage, AreUnderWay, StopsAmong, SparesFile, TakesRow, EndsFile, AreEnding, after_file, held_back};
 
 use any_format::{Format, Wanted};
 use command_words::FileMode;
@@ -92,6 +92,7 @@ pub(crate) fn put_row<G: Stage>(
     stage: &mut G,
 ) -> Result<(), PutFault>
     ensures takes { OnOk result (TakesRow (kind_of G.state G.ended) row.now file.old file.new stage.old stage.new) }
+    ensures small { OnOk result (held_back file.new < 4096) }
     ensures spares { SparesFile (kind_of G.state G.ended) file.old stage.old stage.new }
     ensures goes { G.goes stage.old stage.new }
     ensures later { G.faults stage.old ≤ G.faults stage.new }

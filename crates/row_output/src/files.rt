@@ -48,7 +48,7 @@ impl FileOutputs {
     ghost use Rattle.row_output.specs.declared.file_output.FileOutput.{FileOutput as O};
     ghost use Rattle.row_output.specs.Asked.{IsRefusedAs, IsRefusedBy};
     ghost use Rattle.row_output.specs.Files.{FilesHold, FilesStop};
-    ghost use Rattle.row_output.specs.FileTexts.{IsFile, KeepsStage, StopsAmong, SparesFile, TakesRow, after_file};
+    ghost use Rattle.row_output.specs.FileTexts.{IsFile, KeepsStage, StopsAmong, StopsFree, SparesFile, TakesRow, after_file};
     ghost use Rattle.row_output.specs.FileRows.{HasFileRows, HasOutputs, HasFirst, IsNewFiles, files_of, making_of, output_text, OnRefused};
 
     // Opens an output under the next index, unless its file is left alone.
@@ -116,7 +116,7 @@ impl FileOutputs {
         ensures there { IfOk result (λ index. index < length self.new.files.items) }
         ensures has { OnOk result ((start : G) (rows : List Row) → HasFileRows (kind_of G.state G.ended) self.old start rows stage.old → HasOutputs (kind_of G.state G.ended) self.new start rows stage.new) }
         ensures stop { OnErr result ((start : G) (rows : List Row) → HasFileRows (kind_of G.state G.ended) self.old start rows stage.old
-            → StopsAmong (kind_of G.state G.ended) self.old.mode (with_name self.old.outputs.names (filled self.old.outputs.pattern values.now)) start stage.new) }
+            → StopsFree (kind_of G.state G.ended) (files_of self.old) (with_name self.old.outputs.names (filled self.old.outputs.pattern values.now)) start stage.new) }
         ensures refused { IfErr result (OnRefused (λ fault. IsNewName self.old.outputs (filled self.old.outputs.pattern values.now)
             × IsRefusedAs self.old.outputs.forbidden self.old.outputs.names (filled self.old.outputs.pattern values.now) fault)) }
         ensures goes { G.goes stage.old stage.new }

@@ -9,8 +9,9 @@ ghost use Rattle.row_output.specs.FileRows.{OnRefused};
 ghost use Rattle.order_top.specs.Ordering.{StandsFor};
 ghost use Rattle.row_output.specs.Rows.{Holds, IsRefused, IsRefusedAt, Stops, StopsAt};
 ghost use Rattle.row_output.specs.Sinks.{HasSinkRows, IsOpened, IsUnplaced, files_for, files_in, purpose_of, sink_text};
-ghost use Rattle.row_output.specs.Few.{places_in};
-ghost use Rattle.row_output.specs.Kept.{HasKept, HasRows, IsNew, IsNewKept, asked_of};
+ghost use Rattle.row_output.specs.Few.{GoOn, places_in};
+ghost use Rattle.row_output.specs.Orders.{IsPlain};
+ghost use Rattle.row_output.specs.Kept.{HasKept, HasRows, IsNew, IsNewKept, KeepsNone, asked_of};
 
 use crate::kept::{Kept, RowOutput};
 use crate::sink::Sink;
@@ -36,6 +37,7 @@ pub struct Finished {
 fn kept_under(alloc: Global, order: &Order) -> Result<Kept, AllocError>
     ensures new { IfOk result (λ kept. IsNewKept kept order.now) }
     ensures few { IfOk result (λ kept. places_in kept ≡ 0) }
+    ensures streams { IfOk result (λ kept. IsPlain order.now → GoOn kept) }
 {
     if order.keeps_all() {
         Ok(Kept::All)
@@ -99,6 +101,7 @@ fn take<G: Stage>(
     requires { places_in kept.old < 2 ^ 63 }
     ensures places { places_in kept.new ≤ places_in kept.old + 1 }
     ensures err { OnErr result (kept.new ≡ kept.old) }
+    ensures streams { GoOn kept.old → GoOn kept.new }
     ensures purpose { purpose_of sink.new ≡ purpose_of sink.old }
     ensures has { OnOk result ((start : G) (rows : List Row) → HasKept (kind_of G.state G.ended) kept.old order.now sink.old start rows stage.old → HasKept (kind_of G.state G.ended) kept.new order.now sink.new start (rows ++ row.old ∷ []) stage.new) }
     ensures stop { OnErr result ((start : G) (rows more : List Row) → HasKept (kind_of G.state G.ended) kept.old order.now sink.old start rows stage.old → StopsAt (files_in sink.old) (kind_of G.state G.ended) (sink_text sink.old) start (finished order.now (rows ++ (row.old ∷ more))) stage.new) }
@@ -161,6 +164,8 @@ impl RowOutput {
         requires none { IsUnplaced into }
         ensures asked { IfOk result (λ o. asked_of o ≡ record { files = files_for into; text = wanted_text wanted moment; columns = columns_for (files_for into) names; order = order }) }
         ensures new { IfOk result IsNew }
+        // Where nothing is asked of rows none is kept back.
+        ensures streams { IfOk result (λ o. IsPlain order → KeepsNone o) }
     {
         let kept = kept_under(alloc, &order)?;
         let sink = Sink::new(alloc, wanted, moment, into, names)?;
@@ -182,6 +187,7 @@ impl RowOutput {
         ensures refused { IfErr result (OnRefused (λ fault. (start : G) (rows more : List Row) → HasRows (kind_of G.state G.ended) self.old start rows stage.old → IsRefused (asked_of self.old) (rows ++ more) fault)) }
         ensures opened { OnOk result ((start : G) (rows : List Row) → HasRows (kind_of G.state G.ended) self.old start rows stage.old → IsOpened self.new.sink) }
         ensures count { self.new.put ≡ self.old.put }
+        ensures streams { KeepsNone self.old → KeepsNone self.new }
         ensures goes { G.goes stage.old stage.new }
         ensures later { G.faults stage.old ≤ G.faults stage.new }
         ensures failed { IsErrOf result OutputFault.Failed → Rose (G.faults stage.old) (G.faults stage.new) }
@@ -198,6 +204,7 @@ impl RowOutput {
         ensures refused { IfErr result (OnRefused (λ fault. (start : G) (rows more : List Row) → HasRows (kind_of G.state G.ended) self.old start rows stage.old → IsRefused (asked_of self.old) (rows ++ (row.old ∷ more)) fault)) }
         ensures count { OnOk result (self.new.put ≡ self.old.put + 1) }
         ensures uncounted { OnErr result (self.new.put ≡ self.old.put) }
+        ensures streams { KeepsNone self.old → KeepsNone self.new }
         ensures goes { G.goes stage.old stage.new }
         ensures later { G.faults stage.old ≤ G.faults stage.new }
         ensures failed { IsErrOf result OutputFault.Failed → Rose (G.faults stage.old) (G.faults stage.new) }

@@ -7,7 +7,7 @@ ghost use Rattle.order_top.specs.Finish.{Row};
 ghost use Rattle.text_output.specs.Output.{kind_of, GainsFront};
 ghost use Rattle.row_output.specs.Asked.{columns_for};
 ghost use Rattle.row_output.specs.Rows.{HoldsAt, IsRefusedAt, StandardHolds, StopsAt, standard_at};
-ghost use Rattle.row_output.specs.Sinks.{IsNewSink, IsOpened, IsStandard, IsUnplaced, HasSinkRows, HasStandardRows, files_for, files_in, purpose_of, sink_text};
+ghost use Rattle.row_output.specs.Sinks.{HoldsLittle, IsNewSink, IsOpened, IsStandard, IsUnplaced, HasSinkRows, HasStandardRows, files_for, files_in, purpose_of, sink_text};
 ghost use Rattle.row_output.specs.FileRows.{OnRefused};
 
 use crate::fault::put_fault;
@@ -114,6 +114,7 @@ impl Sink {
         ensures has { OnOk result ((start : G) (rows : List Row) → HasSinkRows (kind_of G.state G.ended) self.old start rows stage.old → HasSinkRows (kind_of G.state G.ended) self.new start (rows ++ row.old ∷ []) stage.new) }
         ensures stop { OnErr result ((start : G) (rows more : List Row) → HasSinkRows (kind_of G.state G.ended) self.old start rows stage.old → StopsAt (files_in self.old) (kind_of G.state G.ended) (sink_text self.old) start (rows ++ (row.old ∷ more)) stage.new) }
         ensures refused { IfErr result (OnRefused (λ fault. (start : G) (rows more : List Row) → HasSinkRows (kind_of G.state G.ended) self.old start rows stage.old → IsRefusedAt (files_in self.old) (rows ++ (row.old ∷ more)) fault)) }
+        ensures little { OnOk result (HoldsLittle self.new) }
         ensures goes { G.goes stage.old stage.new }
         ensures later { G.faults stage.old ≤ G.faults stage.new }
         ensures failed { IsErrOf result OutputFault.Failed → Rose (G.faults stage.old) (G.faults stage.new) }

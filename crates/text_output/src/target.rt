@@ -50,6 +50,7 @@ impl Target {
         ensures goes { G.goes stage.old stage.new }
         ensures gained { OnOk result (GainsText (reached (kind_of G.state G.ended) self.old stage.old) (reached (kind_of G.state G.ended) self.new stage.new) bytes.now) }
         ensures front { OnErr result (GainsFront (reached (kind_of G.state G.ended) self.old stage.old) stage.new bytes.now) }
+        ensures mark { OnErr result (self.new.mark ≡ self.old.mark) }
         ensures spares { Spares (kind_of G.state G.ended) self.old.output self.old.name self.old.base stage.old stage.new }
         ensures cause { HasCause (G.faults stage.old) (G.faults stage.new) result }
         ensures output { self.new.output ≡ self.old.output }

@@ -4,7 +4,7 @@ use Rattle.text_output.specs.Output.{kind_of}
 use Rattle.row_output.specs.Few.{places_in}
 use Rattle.row_output.specs.declared.kept.Kept.{Kept}
 use Rattle.row_output.specs.declared.kept.Kept.TheVariants as K
-use Rattle.row_output.proofs.KeptCalls.{plain_has, plain_stops, plain_refuses, ordered_takes, places_taken}
+use Rattle.row_output.proofs.KeptCalls.{plain_has, plain_stops, plain_refuses, ordered_takes, places_taken, ordered_apart}
 use Rattle.row_output.proofs.Stopping.{kept_stops}
 use Rattle.row_output.proofs.row_output.take.Goals as goal
 
@@ -26,12 +26,18 @@ returns-in-All-clause-refused g c =
 pub returns-in-Ok-clause-places : goal.returns-in-Ok-clause-places
 returns-in-Ok-clause-places g c = places_taken c.args.kept.now c.in-Ordered.orderer c.keep.new.orderer c.in-Ordered.is c.keep.ensures.places
 
+pub returns-in-Ok-clause-streams : goal.returns-in-Ok-clause-streams
+returns-in-Ok-clause-streams g c = ordered_apart c.args.kept.now _ c.in-Ordered.orderer c.in-Ordered.is
+
 pub returns-in-Ok-clause-has : goal.returns-in-Ok-clause-has
 returns-in-Ok-clause-has g c = λ start rows has.
     ordered_takes (kind_of g.G.Stage.state g.G.Stage.ended) c.args.kept.now c.in-Ordered.orderer c.in-Ordered.is c.args.order.now c.args.sink.now start rows c.args.stage.now c.keep.new.orderer c.args.row.now c.keep.ensures.finish c.in-Ok.ensures.stands has
 
 pub returns-in-Err-clause-places : goal.returns-in-Err-clause-places
 returns-in-Err-clause-places g c = places_taken c.args.kept.now c.in-Ordered.orderer c.keep.new.orderer c.in-Ordered.is c.keep.ensures.places
+
+pub returns-in-Err-clause-streams : goal.returns-in-Err-clause-streams
+returns-in-Err-clause-streams g c = ordered_apart c.args.kept.now _ c.in-Ordered.orderer c.in-Ordered.is
 
 pub returns-in-Err-clause-err : goal.returns-in-Err-clause-err
 returns-in-Err-clause-err g c = ap K.Ordered c.in-Err.ensures.err ∙ sym c.in-Ordered.is

@@ -34,5 +34,5 @@ returns-in-Err-clause-stop g c = λ start rows has.
     let h = c.open.new.self in
     let opened = c.in_ok-open.ensures in
     let now = opened.has start rows has in
-    end_stops (kind_of g.G.Stage.state g.G.Stage.ended) c.args.self.now h start rows c.end_all.new.stage opened.same.0 (opened.all start rows has)
+    end_stops (kind_of g.G.Stage.state g.G.Stage.ended) c.args.self.now h start rows c.end_all.new.stage opened.same.0 (opened.all start rows has) now.outputs.good
     (c.in-Err.ensures.stop (files_of h) (making_of h) start (rows_named h.outputs.pattern rows) h.outputs.names h.texts refl (names_of_differ h.outputs rows now.names) now.outputs.under_way)

@@ -33,4 +33,4 @@ returns-in-Err-open_all-clause-stop g c = λ start rows has.
     let f = c.args.self.now in
     let placed : FileOutputs = record f { outputs = c.place_values.new.self; fits = c.self-1.given.0; few = c.self-1.given.1.0 } in
     opening_stops (kind_of g.G.Stage.state g.G.Stage.ended) f placed start rows c.args.stage.now c.open_all.new.stage (filled f.outputs.pattern c.args.values.now)
-    c.in-Ok.ensures.ok refl refl refl (λ first. c.in-Err-open_all.ensures.stop start rows first) has
+    c.in-Ok.ensures.ok refl refl refl c.in-Ok.ensures.new (λ first. c.in-Err-open_all.ensures.stop start rows first) has
