@@ -4,3 +4,4 @@ pub mod Tabling
 pub mod Piecing
 pub mod Blocks
 pub mod Searching
+pub mod Noting

@@ -6,3 +6,4 @@ pub mod Tables
 pub mod Nat
 pub mod NatBeginning
 pub mod Widths
+pub mod Noted

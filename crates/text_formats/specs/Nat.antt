@@ -3,10 +3,10 @@ use Rattle.std.specs.Prelude.{◌≡◌, ℕ, Bool, true, false, ◌&&◌, ◌||
 use Rattle.lp_values.specs.declared.value.Value.{Value}
 use Rattle.lp_values.specs.declared.value.Value.TheVariants.{Text}
 use Rattle.output_formats.specs.declared.csv.Headers.{Headers}
-use Rattle.text_formats.specs.Tables.{block_text}
+use Rattle.text_formats.specs.Tables.{Cells, cells_of, block_text}
 
 abbrev pub Rows : Type 0
-Rows = List (List Value)
+Rows = List Cells
 
 -- whether so many rows fill a block; without a limit none do
 abbrev pub is_full : Option ℕ → ℕ → Bool
@@ -29,29 +29,30 @@ unfoldable pub blocks_text : (Rows → List ℕ) → Bool → List Rows → List
 blocks_text layout first [] = []
 blocks_text layout first (block ∷ blocks) = gap_before first ++ layout block ++ blocks_text layout false blocks
 
--- the names as a row
-abbrev pub title : List (List ℕ) → List Value
-title names = map Text names
+-- the names as a row: each is shown as a value that is that text
+abbrev pub title : List (List ℕ) → Cells
+title names = cells_of (map Text names)
 
 -- how the text of rows is wanted, and what of it is held back: the rows of a block that isn't full
 pub record NatState : Type 0 where
   pub limit : Option ℕ
   pub headers : Headers
-  pub title : List Value
+  pub title : Cells
   -- whether no block is out
   pub first : Bool
   pub held : Rows
 
-abbrev pub nat_of : Option ℕ → Headers → Bool → List (List ℕ) → Rows → List ℕ
-nat_of limit headers fresh names rows = blocks_text (block_text headers (title names)) true (blocks_behind limit true true [] rows)
+-- the cells of the rows, in blocks, each laid out under the names
+abbrev pub nat_of : Option ℕ → Headers → Bool → List (List ℕ) → List (List Value) → List ℕ
+nat_of limit headers fresh names rows = blocks_text (block_text headers (title names)) true (blocks_behind limit true true [] (map cells_of rows))
 
 -- the text of the blocks that are complete
-abbrev pub complete_of : Option ℕ → Headers → List (List ℕ) → Rows → List ℕ
-complete_of limit headers names rows = blocks_text (block_text headers (title names)) true (blocks_behind limit false true [] rows)
+abbrev pub complete_of : Option ℕ → Headers → List (List ℕ) → List (List Value) → List ℕ
+complete_of limit headers names rows = blocks_text (block_text headers (title names)) true (blocks_behind limit false true [] (map cells_of rows))
 
 -- what is out is the text of the complete blocks, and what is held back gives the rest, whatever rows follow
-pub record IsNatText (state : NatState) (names : List (List ℕ)) (rows : Rows) (so_far : List ℕ) : Type 0 where
+pub record IsNatText (state : NatState) (names : List (List ℕ)) (rows : List (List Value)) (so_far : List ℕ) : Type 0 where
   pub titled : state.title ≡ title names
   pub complete : so_far ≡ complete_of state.limit state.headers names rows
-  pub later : (ends : Bool) (more : Rows) → blocks_text (block_text state.headers (title names)) true (blocks_behind state.limit ends true [] (rows ++ more))
-      ≡ so_far ++ blocks_text (block_text state.headers (title names)) state.first (blocks_behind state.limit ends state.first state.held more)
+  pub later : (ends : Bool) (more : List (List Value)) → blocks_text (block_text state.headers (title names)) true (blocks_behind state.limit ends true [] (map cells_of (rows ++ more)))
+      ≡ so_far ++ blocks_text (block_text state.headers (title names)) state.first (blocks_behind state.limit ends state.first state.held (map cells_of more))

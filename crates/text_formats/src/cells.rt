@@ -1,10 +1,11 @@
 // The cells of a table.
-ghost use Rattle.std.specs.Prelude.{◌≡◌, ◌∷◌, ◌++◌, [], ℕ, map, replicate, IfOk, OnOk, OnErr};
+ghost use Rattle.std.specs.Prelude.{◌≡◌, ◌≤◌, ◌++◌, length, take, drop, map, replicate, IfOk, OnOk, OnErr};
 ghost use Rattle.std.specs.List.{list_any};
 ghost use Rattle.lp_model.specs.Outside.{GrowsIn};
-ghost use Rattle.text_formats.specs.Tables.{begins_scalar, scalars, is_control, shown_byte, is_null, cell_of, cell_width, width_at};
+ghost use Rattle.text_formats.specs.Noted.{is_odd};
+ghost use Rattle.text_formats.specs.Tables.{begins_scalar, scalars, is_control, shown_byte, is_null, cell_of};
 
-use lp_values::{Bytes, Value, ValueList, print};
+use lp_values::{Bytes, Value, bytes_from, bytes_to, print};
 use std::alloc::AllocError;
 
 fn begins_scalar(byte: u8) -> bool
@@ -13,7 +14,7 @@ fn begins_scalar(byte: u8) -> bool
     byte < 128 || byte >= 192
 }
 
-pub(crate) fn scalars(text: &[u8]) -> usize
+fn scalars(text: &[u8]) -> usize
     ensures { result ≡ scalars text.now }
 {
     text.iter().filter(|byte| begins_scalar(**byte)).count()
@@ -23,6 +24,12 @@ fn is_control(byte: u8) -> bool
     ensures { result ≡ is_control byte }
 {
     byte < 32 || byte == 127
+}
+
+fn is_odd(byte: u8) -> bool
+    ensures { result ≡ is_odd byte }
+{
+    byte < 32 || byte >= 127
 }
 
 fn shown_byte(byte: u8) -> u8
@@ -48,18 +55,6 @@ fn add_each(text: &[u8], to: &mut Bytes) -> Result<(), AllocError>
     Ok(())
 }
 
-fn add_shown(text: &[u8], to: &mut Bytes) -> Result<(), AllocError>
-    ensures ok { OnOk result (to.new ≡ to.old ++ map shown_byte text.now) }
-    ensures err { OnErr result (GrowsIn to.old to.new (map shown_byte text.now)) }
-{
-    if has_control(text) {
-        add_each(text, to)
-    } else {
-        to.add(text)?;
-        Ok(())
-    }
-}
-
 fn is_null(value: &Value) -> bool
     ensures { result ≡ is_null value.now }
 {
@@ -69,57 +64,86 @@ fn is_null(value: &Value) -> bool
     }
 }
 
-pub(crate) fn add_cell(scratch: &mut Bytes, value: &Value, to: &mut Bytes) -> Result<(), AllocError>
-    ensures ok { OnOk result (to.new ≡ to.old ++ cell_of value.now) }
-    ensures err { OnErr result (GrowsIn to.old to.new (cell_of value.now)) }
+// Whether a byte is no whole character, or a control character. No byte ends the loop, so that it takes many at a time.
+fn has_odd(text: &[u8]) -> bool
+    ensures { result ≡ list_any is_odd text.now }
 {
-    if is_null(value) {
-        to.push(b'-')?;
-        return Ok(());
+    let mut found = false;
+    for byte in text {
+        found |= is_odd(*byte);
     }
-    if let Value::Text(text) = value {
-        return add_shown(text.as_str().as_bytes(), to);
-    }
-    scratch.clear();
-    print(value, scratch)?;
-    add_shown(scratch.as_slice(), to)
+    found
 }
 
-fn cell_width(scratch: &mut Bytes, value: &Value) -> Result<usize, AllocError>
-    ensures { IfOk result (λ width. width ≡ cell_width value.now) }
+// Puts `?` for each control character from a place on.
+fn replace_controls(start: usize, scratch: &mut Bytes, texts: &mut Bytes) -> Result<(), AllocError>
+    requires { start ≤ length texts.old }
+    ensures { OnOk result (texts.new ≡ take start texts.old ++ map shown_byte (drop start texts.old)) }
+{
+    scratch.clear();
+    scratch.add(bytes_from(texts.as_slice(), start))?;
+    texts.truncate(start);
+    add_each(scratch.as_slice(), texts)
+}
+
+// Makes what is printed from a place on a cell's text, and tells its width; it has an odd byte.
+fn show_odd(start: usize, scratch: &mut Bytes, texts: &mut Bytes) -> Result<usize, AllocError>
+    requires { start ≤ length texts.old }
+    ensures shown { OnOk result (texts.new ≡ take start texts.old ++ map shown_byte (drop start texts.old)) }
+    ensures width { IfOk result (λ width. width ≡ scalars (map shown_byte (drop start texts.old))) }
+{
+    let text = bytes_from(texts.as_slice(), start);
+    let width = scalars(text);
+    if has_control(text) {
+        replace_controls(start, scratch, texts)?;
+    }
+    Ok(width)
+}
+
+// Makes what is printed from a place on a cell's text, and tells its width. Most texts have no odd byte: they stay, and are
+// as wide as they are long.
+fn show(start: usize, scratch: &mut Bytes, texts: &mut Bytes) -> Result<usize, AllocError>
+    requires { start ≤ length texts.old }
+    ensures shown { OnOk result (texts.new ≡ take start texts.old ++ map shown_byte (drop start texts.old)) }
+    ensures width { IfOk result (λ width. width ≡ scalars (map shown_byte (drop start texts.old))) }
+{
+    let text = bytes_from(texts.as_slice(), start);
+    if has_odd(text) {
+        show_odd(start, scratch, texts)
+    } else {
+        Ok(text.len())
+    }
+}
+
+// Appends a value's cell, and tells its width.
+pub(crate) fn add_cell(
+    value: &Value,
+    scratch: &mut Bytes,
+    texts: &mut Bytes,
+) -> Result<usize, AllocError>
+    ensures text { OnOk result (texts.new ≡ texts.old ++ cell_of value.now) }
+    ensures width { IfOk result (λ width. width ≡ scalars (cell_of value.now)) }
 {
     if is_null(value) {
+        texts.push(b'-')?;
         return Ok(1);
     }
-    if let Value::Text(text) = value {
-        return Ok(scalars(text.as_str().as_bytes()));
-    }
-    scratch.clear();
-    print(value, scratch)?;
-    Ok(scalars(scratch.as_slice()))
+    let start = texts.len();
+    print(value, texts)?;
+    show(start, scratch, texts)
 }
 
-// The width of a row's cell in a column.
-pub(crate) fn width_at(
-    scratch: &mut Bytes,
-    column: usize,
-    row: &ValueList,
-) -> Result<usize, AllocError>
-    ensures { IfOk result (λ width. width ≡ width_at column row.now) }
-{
-    match row.get(column) {
-        None => Ok(0),
-        Some(value) => cell_width(scratch, value),
-    }
-}
+// How many bytes are appended at once.
+const RUN: usize = 64;
 
 // Appends a byte so many times.
 pub(crate) fn add_times(count: usize, byte: u8, to: &mut Bytes) -> Result<(), AllocError>
     ensures ok { OnOk result (to.new ≡ to.old ++ replicate count byte) }
     ensures err { OnErr result (GrowsIn to.old to.new (replicate count byte)) }
 {
-    for _ in 0..count {
-        to.push(byte)?;
+    let run = [byte; RUN];
+    for _ in 0..count / RUN {
+        to.add(&run)?;
     }
-    Ok(())
+    to.add(bytes_to(&run, count % RUN))
 }

@@ -7,6 +7,7 @@
 
 mod cells;
 mod fields;
+mod line;
 mod nat;
 mod style;
 mod table;

@@ -1,15 +1,18 @@
 // Tables to be read by people.
-ghost use Rattle.std.specs.Prelude.{◌≡◌, ◌||◌, ◌∷◌, ◌++◌, [], false, nat_lt, length, IfOk, OnOk, OnErr};
+ghost use Rattle.std.specs.Prelude.{◌≡◌, ◌||◌, ◌∷◌, ◌++◌, [], false, map, nat_lt, length, IfOk, OnOk, OnErr};
 ghost use Rattle.lp_model.specs.Outside.{GrowsIn};
+ghost use Rattle.lp_values.specs.declared.value.Value.TheVariants.{Text};
 ghost use Rattle.text_formats.specs.Nat.{is_full, title, gap_before, nat_of, IsNatText};
 ghost use Rattle.text_formats.specs.NatBeginning.{nat_begins};
 ghost use Rattle.text_formats.specs.Tables.{block_text};
 
+use crate::line::Line;
 use crate::table::add_block;
 use lp_values::{Bytes, ListOf, TextList, Value, ValueList};
 use output_formats::{Headers, Shape};
 use std::alloc::{AllocError, Global};
 use std::marker::Model;
+use std::mem;
 
 /// Tables: a block of rows is laid out when it is full, and the last one at the end. Columns are as wide as their widest
 /// cell in the block, and an empty line stands between blocks.
@@ -18,13 +21,14 @@ pub struct Nat {
     alloc: Global,
     rtp: Option<u32>,
     headers: Headers,
-    title: ValueList,
+    title: Line,
     // Whether no block is out.
     first: bool,
-    held: Vec<ValueList>,
+    held: Vec<Line>,
+    // Lines of blocks that are out, whose memory the next rows take.
+    spare: Vec<Line>,
     widths: ListOf<usize>,
-    // What a value prints as.
-    printed: Bytes,
+    scratch: Bytes,
 }
 
 impl Model for Nat {
@@ -45,11 +49,12 @@ impl Nat {
             alloc,
             rtp,
             headers,
-            title: ValueList::new(alloc),
+            title: Line::new(alloc),
             first: true,
             held: Vec::new(alloc),
+            spare: Vec::new(alloc),
             widths: ListOf::new(alloc),
-            printed: Bytes::new(alloc),
+            scratch: Bytes::new(alloc),
         }
     }
 }
@@ -63,9 +68,9 @@ fn is_full(limit: Option<u32>, count: usize) -> bool
     }
 }
 
-// The names as a row.
-fn title_of(alloc: Global, names: &TextList) -> Result<ValueList, AllocError>
-    ensures { IfOk result (λ row. row ≡ title names.now) }
+// The names as values.
+fn values_of(alloc: Global, names: &TextList) -> Result<ValueList, AllocError>
+    ensures { IfOk result (λ row. row ≡ map Text names.now) }
 {
     let mut row = ValueList::new(alloc);
     for name in names.as_slice() {
@@ -74,14 +79,20 @@ fn title_of(alloc: Global, names: &TextList) -> Result<ValueList, AllocError>
     Ok(row)
 }
 
-fn copy_row(alloc: Global, values: &ValueList) -> Result<ValueList, AllocError>
-    ensures { IfOk result (λ copy. copy ≡ values.now) }
+// The names as a row.
+fn title_of(alloc: Global, names: &TextList, scratch: &mut Bytes) -> Result<Line, AllocError>
+    ensures { IfOk result (λ line. line ≡ title names.now) }
 {
-    let mut copy = ValueList::with_capacity(alloc, values.len())?;
-    for value in values.as_slice() {
-        copy.push(value.copy(alloc)?)?;
+    let values = values_of(alloc, names)?;
+    Line::new(alloc).refilled(&values, scratch)
+}
+
+// A line that is there, or a new one.
+fn line_from(alloc: Global, spare: &mut Vec<Line>) -> Line {
+    match spare.pop() {
+        None => Line::new(alloc),
+        Some(line) => line,
     }
-    Ok(copy)
 }
 
 fn add_gap(first: bool, to: &mut Bytes) -> Result<(), AllocError>
@@ -95,23 +106,21 @@ fn add_gap(first: bool, to: &mut Bytes) -> Result<(), AllocError>
 fn add_next(
     first: bool,
     headers: Headers,
-    title: &ValueList,
-    rows: &[ValueList],
+    title: &Line,
+    rows: &[Line],
     widths: &mut ListOf<usize>,
-    scratch: &mut Bytes,
     to: &mut Bytes,
 ) -> Result<(), AllocError>
     ensures ok { OnOk result (to.new ≡ to.old ++ (gap_before first ++ block_text headers title.now rows.now)) }
     ensures err { OnErr result (GrowsIn to.old to.new (gap_before first ++ block_text headers title.now rows.now)) }
 {
     add_gap(first, to)?;
-    add_block(headers, title, rows, widths, scratch, to)
+    add_block(headers, title, rows, widths, to)
 }
 
 impl Nat {
-    ghost use Rattle.std.specs.Prelude.{List};
-    ghost use Rattle.lp_values.specs.declared.value.Value.{Value};
     ghost use Rattle.text_formats.specs.Nat.{Rows};
+    ghost use Rattle.text_formats.specs.Tables.{Cells, cells_of};
 
     // Appends the block that is held.
     fn add_held(&mut self, to: &mut Bytes) -> Result<(), AllocError>
@@ -125,18 +134,17 @@ impl Nat {
             &self.title,
             self.held.as_slice(),
             &mut self.widths,
-            &mut self.printed,
             to,
         )
     }
 
     // Holds a row.
     fn hold(&mut self, values: &ValueList) -> Result<(), AllocError>
-        ensures ok { OnOk result (self.new ≡ record self.old { held = self.old.held ++ values.now ∷ [] }) }
+        ensures ok { OnOk result (self.new ≡ record self.old { held = self.old.held ++ cells_of values.now ∷ [] }) }
         ensures err { OnErr result (self.new ≡ self.old) }
     {
-        let copy = copy_row(self.alloc, values)?;
-        self.held.push(copy)?;
+        let line = line_from(self.alloc, &mut self.spare).refilled(values, &mut self.scratch)?;
+        self.held.push(line)?;
         Ok(())
     }
 
@@ -155,15 +163,16 @@ impl Nat {
 
     // Lets go the last row that is held.
     fn forget_last(&mut self)
-        ensures { (row : List Value) (rows : Rows) → self.old.held ≡ rows ++ row ∷ [] → self.new ≡ record self.old { held = rows } }
+        ensures { (row : Cells) (rows : Rows) → self.old.held ≡ rows ++ row ∷ [] → self.new ≡ record self.old { held = rows } }
     {
         self.held.pop();
     }
 
-    // Begins the next block.
+    // Begins the next block, in the memory of this one.
     fn begin_next(&mut self)
         ensures { self.new ≡ record self.old { first = false; held = [] } }
     {
+        mem::swap(&mut self.held, &mut self.spare);
         self.held.clear();
         self.first = false;
     }
@@ -173,7 +182,7 @@ impl Nat {
         ensures ok { OnOk result (to.new ≡ to.old ++ (gap_before self.old.first ++ block_text self.old.headers self.old.title self.old.held)) }
         ensures next { OnOk result (self.new ≡ record self.old { first = false; held = [] }) }
         ensures err { OnErr result (GrowsIn to.old to.new (gap_before self.old.first ++ block_text self.old.headers self.old.title self.old.held)) }
-        ensures forgotten { OnErr result ((row : List Value) (rows : Rows) → self.old.held ≡ rows ++ row ∷ [] → self.new ≡ record self.old { held = rows }) }
+        ensures forgotten { OnErr result ((row : Cells) (rows : Rows) → self.old.held ≡ rows ++ row ∷ [] → self.new ≡ record self.old { held = rows }) }
     {
         match self.add_held(to) {
             Ok(()) => {
@@ -196,7 +205,7 @@ impl Shape for Nat {
     ghost shown = { λ s rows. rows };
 
     fn begin(&mut self, names: &TextList, fresh: bool, to: &mut Bytes) -> Result<(), AllocError> {
-        self.title = title_of(self.alloc, names)?;
+        self.title = title_of(self.alloc, names, &mut self.scratch)?;
         self.held.clear();
         self.first = true;
         Ok(())

@@ -1,11 +1,12 @@
 // The layout of a block.
-ghost use Rattle.std.specs.Prelude.{◌≡◌, ◌-◌, ◌∷◌, ◌++◌, [], max, replicate, flat_map, IfOk, OnOk, OnErr, if◌then◌else◌};
+ghost use Rattle.std.specs.Prelude.{◌≡◌, ◌<◌, ◌∷◌, ◌++◌, [], length, get_or, max, replicate, flat_map, OnOk, OnErr, if◌then◌else◌};
 ghost use Rattle.lp_model.specs.Outside.{GrowsIn};
-ghost use Rattle.text_formats.specs.Tables.{cell_of, cell_width, width_in, pieces_from, filled, ruled, row_line, rule_line, is_titled, block_text};
+ghost use Rattle.text_formats.specs.Tables.{width_in, filled, row_line, rule_line, is_titled, block_text};
 ghost use Rattle.text_formats.specs.Widths.{AreWidths};
 
-use crate::cells::{add_cell, add_times, scalars, width_at};
-use lp_values::{Bytes, ListOf, Value, ValueList, bytes_from};
+use crate::cells::add_times;
+use crate::line::Line;
+use lp_values::{Bytes, ListOf};
 use output_formats::Headers;
 use std::alloc::AllocError;
 
@@ -16,100 +17,79 @@ fn wider(a: usize, b: usize) -> usize
 }
 
 // The width of a column of a table of a title and rows.
-fn column_width(
-    scratch: &mut Bytes,
-    title: &ValueList,
-    rows: &[ValueList],
-    column: usize,
-) -> Result<usize, AllocError>
-    ensures { IfOk result (λ width. width ≡ width_in (title.now ∷ rows.now) column) }
+fn column_width(title: &Line, rows: &[Line], column: usize) -> usize
+    ensures { result ≡ width_in (title.now ∷ rows.now) column }
 {
-    let mut width = width_at(scratch, column, title)?;
+    let mut width = title.width_at(column);
     for row in rows {
-        width = wider(width, width_at(scratch, column, row)?);
+        width = wider(width, row.width_at(column));
     }
-    Ok(width)
+    width
 }
 
 // Notes the widths of the columns that the title has.
-fn note_widths(
-    scratch: &mut Bytes,
-    title: &ValueList,
-    rows: &[ValueList],
-    widths: &mut ListOf<usize>,
-) -> Result<(), AllocError>
+fn note_widths(title: &Line, rows: &[Line], widths: &mut ListOf<usize>) -> Result<(), AllocError>
     ensures { OnOk result (AreWidths (title.now ∷ rows.now) widths.new) }
 {
     widths.clear();
     for column in 0..title.len() {
-        widths.push(column_width(scratch, title, rows, column)?)?;
+        widths.push(column_width(title, rows, column))?;
     }
     Ok(())
 }
 
 // The width of a column; a row may have more cells than the title, whose columns aren't noted.
-fn noted_width(
-    scratch: &mut Bytes,
-    title: &ValueList,
-    rows: &[ValueList],
-    widths: &ListOf<usize>,
-    column: usize,
-) -> Result<usize, AllocError>
+fn noted_width(title: &Line, rows: &[Line], widths: &ListOf<usize>, column: usize) -> usize
     requires { AreWidths (title.now ∷ rows.now) widths.now }
-    ensures { IfOk result (λ width. width ≡ width_in (title.now ∷ rows.now) column) }
+    ensures { result ≡ width_in (title.now ∷ rows.now) column }
 {
     match widths.get(column) {
-        Some(width) => Ok(*width),
-        None => column_width(scratch, title, rows, column),
+        Some(width) => *width,
+        None => column_width(title, rows, column),
     }
 }
 
-// Appends a cell, spaces up to a width, and one more.
-fn add_filled(
-    scratch: &mut Bytes,
-    width: usize,
-    value: &Value,
-    to: &mut Bytes,
-) -> Result<(), AllocError>
-    ensures ok { OnOk result (to.new ≡ to.old ++ (cell_of value.now ++ replicate (width - cell_width value.now) 32 ++ 32 ∷ [])) }
-    ensures err { OnErr result (GrowsIn to.old to.new (cell_of value.now ++ replicate (width - cell_width value.now) 32 ++ 32 ∷ [])) }
+// Appends a cell, so many spaces, and one more.
+fn add_filled(cell: &[u8], spaces: usize, to: &mut Bytes) -> Result<(), AllocError>
+    ensures ok { OnOk result (to.new ≡ to.old ++ (cell.now ++ replicate spaces 32 ++ 32 ∷ [])) }
+    ensures err { OnErr result (GrowsIn to.old to.new (cell.now ++ replicate spaces 32 ++ 32 ∷ [])) }
 {
-    let start = to.len();
-    add_cell(scratch, value, to)?;
-    let used = scalars(bytes_from(to.as_slice(), start));
-    add_times(width.saturating_sub(used), b' ', to)?;
+    to.add(cell)?;
+    add_times(spaces, b' ', to)?;
     to.push(b' ')?;
     Ok(())
 }
 
+// Appends the cell of a row in a column.
 fn add_entry(
-    scratch: &mut Bytes,
-    title: &ValueList,
-    rows: &[ValueList],
+    title: &Line,
+    rows: &[Line],
     widths: &ListOf<usize>,
+    row: &Line,
     column: usize,
     last: bool,
-    value: &Value,
     to: &mut Bytes,
 ) -> Result<(), AllocError>
-    requires { AreWidths (title.now ∷ rows.now) widths.now }
-    ensures ok { OnOk result (to.new ≡ to.old ++ filled (title.now ∷ rows.now) column last value.now) }
-    ensures err { OnErr result (GrowsIn to.old to.new (filled (title.now ∷ rows.now) column last value.now)) }
+    requires widths { AreWidths (title.now ∷ rows.now) widths.now }
+    requires there { column < length row.now }
+    ensures ok { OnOk result (to.new ≡ to.old ++ filled (title.now ∷ rows.now) column last (get_or row.now column [])) }
+    ensures err { OnErr result (GrowsIn to.old to.new (filled (title.now ∷ rows.now) column last (get_or row.now column []))) }
 {
+    let (cell, used) = row.cell_at(column);
     if last {
-        add_cell(scratch, value, to)
+        to.add(cell)?;
+        Ok(())
     } else {
-        let width = noted_width(scratch, title, rows, widths, column)?;
-        add_filled(scratch, width, value, to)
+        let width = noted_width(title, rows, widths, column);
+        add_filled(cell, width.saturating_sub(used), to)
     }
 }
 
 fn add_row(
-    scratch: &mut Bytes,
-    title: &ValueList,
-    rows: &[ValueList],
+    title: &Line,
+    rows: &[Line],
     widths: &ListOf<usize>,
-    row: &ValueList,
+    row: &Line,
     to: &mut Bytes,
 ) -> Result<(), AllocError>
     requires { AreWidths (title.now ∷ rows.now) widths.now }
@@ -117,9 +97,8 @@ fn add_row(
     ensures err { OnErr result (GrowsIn to.old to.new (row_line (title.now ∷ rows.now) row.now)) }
 {
     let count = row.len();
-    for (column, value) in row.as_slice().iter().enumerate() {
-        let last = column + 1 == count;
-        add_entry(scratch, title, rows, widths, column, last, value, to)?;
+    for column in 0..count {
+        add_entry(title, rows, widths, row, column, column + 1 == count, to)?;
     }
     to.push(b'\n')?;
     Ok(())
@@ -137,9 +116,8 @@ fn add_dashes(width: usize, last: bool, to: &mut Bytes) -> Result<(), AllocError
 }
 
 fn add_rule(
-    scratch: &mut Bytes,
-    title: &ValueList,
-    rows: &[ValueList],
+    title: &Line,
+    rows: &[Line],
     widths: &ListOf<usize>,
     to: &mut Bytes,
 ) -> Result<(), AllocError>
@@ -149,7 +127,7 @@ fn add_rule(
 {
     let count = title.len();
     for column in 0..count {
-        let width = noted_width(scratch, title, rows, widths, column)?;
+        let width = noted_width(title, rows, widths, column);
         add_dashes(width, column + 1 == count, to)?;
     }
     to.push(b'\n')?;
@@ -167,9 +145,8 @@ fn is_titled(headers: Headers) -> bool
 
 fn add_title(
     headers: Headers,
-    scratch: &mut Bytes,
-    title: &ValueList,
-    rows: &[ValueList],
+    title: &Line,
+    rows: &[Line],
     widths: &ListOf<usize>,
     to: &mut Bytes,
 ) -> Result<(), AllocError>
@@ -178,17 +155,16 @@ fn add_title(
     ensures err { OnErr result (GrowsIn to.old to.new (if is_titled headers then row_line (title.now ∷ rows.now) title.now ++ rule_line (title.now ∷ rows.now) title.now else [])) }
 {
     if is_titled(headers) {
-        add_row(scratch, title, rows, widths, title, to)?;
-        add_rule(scratch, title, rows, widths, to)
+        add_row(title, rows, widths, title, to)?;
+        add_rule(title, rows, widths, to)
     } else {
         Ok(())
     }
 }
 
 fn add_rows(
-    scratch: &mut Bytes,
-    title: &ValueList,
-    rows: &[ValueList],
+    title: &Line,
+    rows: &[Line],
     widths: &ListOf<usize>,
     to: &mut Bytes,
 ) -> Result<(), AllocError>
@@ -197,7 +173,7 @@ fn add_rows(
     ensures err { OnErr result (GrowsIn to.old to.new (flat_map (row_line (title.now ∷ rows.now)) rows.now)) }
 {
     for row in rows {
-        add_row(scratch, title, rows, widths, row, to)?;
+        add_row(title, rows, widths, row, to)?;
     }
     Ok(())
 }
@@ -205,16 +181,15 @@ fn add_rows(
 /// Appends a block of rows under their title.
 pub(crate) fn add_block(
     headers: Headers,
-    title: &ValueList,
-    rows: &[ValueList],
+    title: &Line,
+    rows: &[Line],
     widths: &mut ListOf<usize>,
-    scratch: &mut Bytes,
     to: &mut Bytes,
 ) -> Result<(), AllocError>
     ensures ok { OnOk result (to.new ≡ to.old ++ block_text headers title.now rows.now) }
     ensures err { OnErr result (GrowsIn to.old to.new (block_text headers title.now rows.now)) }
 {
-    note_widths(scratch, title, rows, widths)?;
-    add_title(headers, scratch, title, rows, widths, to)?;
-    add_rows(scratch, title, rows, widths, to)
+    note_widths(title, rows, widths)?;
+    add_title(headers, title, rows, widths, to)?;
+    add_rows(title, rows, widths, to)
 }

@@ -1,7 +1,6 @@
 use Rattle.std.proofs.Common.{◌+◌, ◌++◌, [], ◌∷◌, nat_eq, get_or, replicate, if◌then◌else◌, ap, ◌∙◌, refl, append_assoc, arith}
 use Rattle.lp_model.proofs.Results.{on_err}
 use Rattle.lp_model.proofs.Buffers.{grows_along}
-use Rattle.lp_values.specs.declared.value.Value.TheVariants.{Null}
 use Rattle.text_formats.specs.Tables.{ruled, pieces_from}
 use Rattle.text_formats.proofs.Piecing.{pieced_next, pieced_all, pieced_stopped, pieced_within}
 use Rattle.text_formats.proofs.table.add_rule.Goals as goal
@@ -12,13 +11,8 @@ loop-column-preserved c =
     let i = c.loop-column.column in
     let last = nat_eq (i + 1) c.len-count.result in
     let ends = ap (nat_eq (i + 1)) c.len-count.ensures in
-    let piece = c.in_ok-add_dashes.ensures.ok ∙ ap (λ w. c.loop-column.to ++ (replicate w 45 ++ (if last then [] else 32 ∷ []))) c.in_ok-width.ensures in
-    pieced_next (ruled (title ∷ c.args.rows.now)) title i (get_or title i Null) Null last c.args.to.now c.loop-column.to c.add_dashes.new.to (omega (arith, c.len-count.ensures)) refl ends c.loop-column.invariant piece
-
-pub returns-in_err-width-clause-err : goal.returns-in_err-width-clause-err
-returns-in_err-width-clause-err c =
-    on_err _ c.from_residual.result
-    (pieced_stopped (ruled (c.args.title.now ∷ c.args.rows.now)) c.args.title.now c.loop-column.column c.args.to.now c.loop-column.to c.loop-column.to (10 ∷ []) c.loop-column.invariant refl)
+    let piece = c.in_ok-add_dashes.ensures.ok ∙ ap (λ w. c.loop-column.to ++ (replicate w 45 ++ (if last then [] else 32 ∷ []))) c.noted_width-width.ensures in
+    pieced_next (ruled (title ∷ c.args.rows.now)) title i (get_or title i []) [] last c.args.to.now c.loop-column.to c.add_dashes.new.to (omega (arith, c.len-count.ensures)) refl ends c.loop-column.invariant piece
 
 pub returns-in_err-add_dashes-clause-err : goal.returns-in_err-add_dashes-clause-err
 returns-in_err-add_dashes-clause-err c =
@@ -26,9 +20,9 @@ returns-in_err-add_dashes-clause-err c =
     let i = c.loop-column.column in
     let last = nat_eq (i + 1) c.len-count.result in
     let ends = ap (nat_eq (i + 1)) c.len-count.ensures in
-    let piece = grows_along _ _ _ _ (ap (λ w. replicate w 45 ++ (if last then [] else 32 ∷ [])) c.in_ok-width.ensures) c.in_err-add_dashes.ensures.err in
-    on_err _ c.from_residual-in_err-add_dashes.result
-    (pieced_within (ruled (title ∷ c.args.rows.now)) title i (get_or title i Null) Null last c.args.to.now c.loop-column.to c.add_dashes.new.to (10 ∷ []) (omega (arith, c.len-count.ensures)) refl ends c.loop-column.invariant piece)
+    let piece = grows_along _ _ _ _ (ap (λ w. replicate w 45 ++ (if last then [] else 32 ∷ [])) c.noted_width-width.ensures) c.in_err-add_dashes.ensures.err in
+    on_err _ c.from_residual.result
+    (pieced_within (ruled (title ∷ c.args.rows.now)) title i (get_or title i []) [] last c.args.to.now c.loop-column.to c.add_dashes.new.to (10 ∷ []) (omega (arith, c.len-count.ensures)) refl ends c.loop-column.invariant piece)
 
 pub returns-in_err-push-clause-err : goal.returns-in_err-push-clause-err
 returns-in_err-push-clause-err c =
