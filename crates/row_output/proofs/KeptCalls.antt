@@ -100,8 +100,12 @@ pub places_taken : (kept : Kept) (old new : Ordering) → kept ≡ K.Ordered old
 places_taken kept old new is less = subst (λ (k : Kept). new.places ≤ places_in k + 1) (sym is) less
 
 -- rows that an order has don't go on
-pub ordered_apart : (kept new : Kept) (ordering : Ordering) → kept ≡ K.Ordered ordering → GoOn kept → GoOn new
-ordered_apart kept new ordering is go = absurd (cc)
+pub ordered_apart : (Q : Type 0) (kept : Kept) (ordering : Ordering) → kept ≡ K.Ordered ordering → GoOn kept → Q
+ordered_apart Q kept ordering is go = absurd (cc)
+
+pub on_ok_given : {T E : Type 0} (P Q : Type 0) (r : Result T E) → OnOk r P → OnOk r (Q → P)
+on_ok_given P Q (Ok value) p = λ q. p
+on_ok_given P Q (Err fault) p = tt
 
 -- a call that lets a sink have its rows
 module _ {S : Type 0} (kind : StageKind S) (o : RowOutput) (a b : S) where

@@ -29,7 +29,7 @@ use Rattle.row_output.specs.Faults.{put_fault}
 use Rattle.row_output.specs.Files.{FilesHold, FilesStop}
 use Rattle.row_output.specs.FileRows.{HasFileRows, OnRefused, files_of, output_text}
 use Rattle.row_output.specs.Rows.{HoldsAt, IsRefusedAt, StandardHolds, StopsAt, standard_at}
-use Rattle.row_output.specs.Sinks.{HasSinkRows, HasStandardRows, HoldsLittle, IsOpened, Purpose, files_for, files_in, purpose_of, sink_text}
+use Rattle.row_output.specs.Sinks.{HasSinkRows, HasStandardRows, IsOpened, Purpose, files_for, files_in, purpose_of, sink_text}
 use Rattle.row_output.proofs.Calls.{refused_so}
 use Rattle.row_output.proofs.Naming.{names_plain}
 use Rattle.row_output.proofs.States.{refused_put}
@@ -61,11 +61,6 @@ new_files into outputs mode f wanted moment names is files (is_wanted, is_moment
 
 pub opened_standard : (s : Sink) (own : Standard) → s ≡ To.Standard own → IsOpened s
 opened_standard s own is = subst IsOpened (sym is) tt
-
--- files are no standard output
-pub files_little : {A : Type 0} (r : Result A OutputFault) (g : FileOutputs) → OnOk r (HoldsLittle (To.Files g))
-files_little (Ok x) g = tt
-files_little (Err fault) g = tt
 
 -- a call of the files of a sink, from one moment to another
 module _ {S : Type 0} (kind : StageKind S) (s : Sink) (f : FileOutputs) (is : s ≡ To.Files f) (a b : S) where

@@ -1,6 +1,6 @@
 -- Outputs in files while rows still come: of each name the text that is on its way, or that its file is left alone.
 use Rattle.std.specs.Option.{option_to_list}
-use Rattle.std.specs.Prelude.{◌≡◌, ◌<◌, ◌+◌, ◌%◌, ◌^◌, ◌==◌, ℕ, ℤ, true, false, List, [], ◌∷◌, ◌++◌, length, map, All, Option, Some, None, ⊤}
+use Rattle.std.specs.Prelude.{◌≡◌, ◌<◌, ◌+◌, ◌%◌, ◌^◌, ◌==◌, ℕ, ℤ, true, false, List, [], ◌∷◌, ◌++◌, length, map, All, slice_index_or, Option, Some, None, ⊤}
 use Rattle.any_format.specs.declared.format.Format.{Format}
 use Rattle.any_format.specs.declared.wanted.Wanted.{Wanted}
 use Rattle.any_format.specs.Formats.{text_of, HasText as IsSoFar}
@@ -56,6 +56,10 @@ after_file index (O.Text text) = index + 1
 abbrev pub held_back : FileOutput → ℕ
 held_back O.LeftAlone = 0
 held_back (O.Text text) = length text.held
+
+-- the output of an index holds back less than a whole piece
+abbrev pub HoldsLittleAt : List FileOutput → ℕ → Type 0
+HoldsLittleAt files index = (d : FileOutput) → held_back (slice_index_or files index d) < 4096
 
 -- the outputs of these names, in order and numbered from an index
 abbrev pub AreFiles : {S : Type 0} → StageKind S → Making → S → S → (List ℕ → List Row) → ℕ → List (List ℕ) → List FileOutput → Type 0

@@ -9,6 +9,7 @@ use Rattle.lp_outside.specs.Stages.{no_mark}
 use Rattle.text_output.specs.Output.{StageKind, IsUnderWay, reached}
 use Rattle.text_output.specs.declared.target.Target.{Target}
 use Rattle.row_output.specs.Asked.{Files, OutputText, RowsText}
+use Rattle.row_output.specs.FileTexts.{HoldsLittleAt}
 use Rattle.row_output.specs.FileRows.{HasFileRows, IsNewFiles, files_of}
 use Rattle.row_output.specs.Rows.{standard_at}
 use Rattle.row_output.specs.declared.into.Into.{Into}
@@ -67,10 +68,10 @@ abbrev pub HasSinkRows : {S : Type 0} → StageKind S → Sink → S → List Ro
 HasSinkRows kind (S.Standard s) start rows now = HasStandardRows kind s start rows now
 HasSinkRows kind (S.Files f) start rows now = HasFileRows kind f start rows now
 
--- standard output holds back less of its text than so many bytes
+-- standard output, or the output that the last row went to, holds back less of its text than so many bytes
 abbrev pub HoldsLittle : Sink → Type 0
 HoldsLittle (S.Standard s) = length s.text.held < 65_536
-HoldsLittle (S.Files f) = ⊤
+HoldsLittle (S.Files f) = (index : ℕ) × HoldsLittleAt f.files.items index
 
 -- what a sink is for
 pub record Purpose : Type 0 where

@@ -52,6 +52,8 @@ pub(crate) fn put_full<G: Stage>(
     ensures moves { OnOk result (MovesText (reached (kind_of G.state G.ended) target.old stage.old) (reached (kind_of G.state G.ended) target.new stage.new) held.old held.new) }
     ensures small { OnOk result (length held.new < full) }
     ensures err { OnErr result (GainsFront (reached (kind_of G.state G.ended) target.old stage.old) stage.new held.old) }
+    // Nothing is asked of the stage before so many bytes are held.
+    ensures quiet { length held.old < full → stage.new ≡ stage.old }
     ensures spares { Spares (kind_of G.state G.ended) target.old.output target.old.name target.old.base stage.old stage.new }
     ensures output { (target.new.output ≡ target.old.output) × (target.new.name ≡ target.old.name) × (target.new.base ≡ target.old.base) }
     ensures later { G.faults stage.old ≤ G.faults stage.new }

@@ -11,7 +11,7 @@ use Rattle.row_output.proofs.SinkCalls.{with_rest, with_next, stops_alike, refus
 use Rattle.row_output.proofs.row_output.put_all.Goals as goal
 
 pub loop-index-init : goal.loop-index-init
-loop-index-init g c = record { purpose = refl; behind = refl; size = refl; has = λ start had. had; goes = g.met.G.Stage.goes_nowhere _; later = omega arith }
+loop-index-init g c = record { purpose = refl; behind = refl; size = refl; has = λ start had. had; little = λ some. absurd (omega (arith, some)); goes = g.met.G.Stage.goes_nowhere _; later = omega arith }
 
 pub loop-index-preserved : goal.loop-index-preserved
 loop-index-preserved g c =
@@ -33,6 +33,7 @@ loop-index-preserved g c =
       has = λ start had.
           subst (λ (l : List Row). HasSinkRows (kind_of g.G.Stage.state g.G.Stage.ended) c.put.new.self start l c.put.new.stage) (with_next all i row c.new.result within is)
           (here.has start (take i all) (so_far.has start had));
+      little = λ some. here.little;
       goes = g.met.G.Stage.goes_on _ _ _ so_far.goes here.goes;
       later = omega arith;
     }

@@ -4,7 +4,7 @@ use Rattle.text_output.specs.Output.{kind_of}
 use Rattle.row_output.specs.Few.{places_in}
 use Rattle.row_output.specs.declared.kept.Kept.{Kept}
 use Rattle.row_output.specs.declared.kept.Kept.TheVariants as K
-use Rattle.row_output.proofs.KeptCalls.{plain_has, plain_stops, plain_refuses, ordered_takes, places_taken, ordered_apart}
+use Rattle.row_output.proofs.KeptCalls.{plain_has, plain_stops, plain_refuses, ordered_takes, places_taken, ordered_apart, on_ok_given}
 use Rattle.row_output.proofs.Stopping.{kept_stops}
 use Rattle.row_output.proofs.row_output.take.Goals as goal
 
@@ -14,6 +14,9 @@ keep-requires g c = subst (λ (k : Kept). places_in k < 2 ^ 63) c.in-Ordered.is 
 pub returns-in-All-clause-has : goal.returns-in-All-clause-has
 returns-in-All-clause-has g c =
     plain_has (kind_of g.G.Stage.state g.G.Stage.ended) c.args.kept.now c.in-All.is c.args.order.now c.args.sink.now c.args.stage.now c.put.new.stage c.put.result c.args.kept.now c.put.new.self (λ rows. rows ++ c.args.row.now ∷ []) refl c.put.ensures.has
+
+pub returns-in-All-clause-little : goal.returns-in-All-clause-little
+returns-in-All-clause-little g c = on_ok_given _ _ c.put.result c.put.ensures.little
 
 pub returns-in-All-clause-stop : goal.returns-in-All-clause-stop
 returns-in-All-clause-stop g c =
@@ -27,7 +30,10 @@ pub returns-in-Ok-clause-places : goal.returns-in-Ok-clause-places
 returns-in-Ok-clause-places g c = places_taken c.args.kept.now c.in-Ordered.orderer c.keep.new.orderer c.in-Ordered.is c.keep.ensures.places
 
 pub returns-in-Ok-clause-streams : goal.returns-in-Ok-clause-streams
-returns-in-Ok-clause-streams g c = ordered_apart c.args.kept.now _ c.in-Ordered.orderer c.in-Ordered.is
+returns-in-Ok-clause-streams g c = ordered_apart _ c.args.kept.now c.in-Ordered.orderer c.in-Ordered.is
+
+pub returns-in-Ok-clause-little : goal.returns-in-Ok-clause-little
+returns-in-Ok-clause-little g c = ordered_apart _ c.args.kept.now c.in-Ordered.orderer c.in-Ordered.is
 
 pub returns-in-Ok-clause-has : goal.returns-in-Ok-clause-has
 returns-in-Ok-clause-has g c = λ start rows has.
@@ -37,7 +43,7 @@ pub returns-in-Err-clause-places : goal.returns-in-Err-clause-places
 returns-in-Err-clause-places g c = places_taken c.args.kept.now c.in-Ordered.orderer c.keep.new.orderer c.in-Ordered.is c.keep.ensures.places
 
 pub returns-in-Err-clause-streams : goal.returns-in-Err-clause-streams
-returns-in-Err-clause-streams g c = ordered_apart c.args.kept.now _ c.in-Ordered.orderer c.in-Ordered.is
+returns-in-Err-clause-streams g c = ordered_apart _ c.args.kept.now c.in-Ordered.orderer c.in-Ordered.is
 
 pub returns-in-Err-clause-err : goal.returns-in-Err-clause-err
 returns-in-Err-clause-err g c = ap K.Ordered c.in-Err.ensures.err ∙ sym c.in-Ordered.is

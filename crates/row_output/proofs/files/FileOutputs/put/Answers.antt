@@ -13,6 +13,9 @@ pub returns-in_err-index-clause-refused : goal.returns-in_err-index-clause-refus
 returns-in_err-index-clause-refused g c = handed _ c.from_residual.result c.in_err-index.field-0.0 c.from_residual.ensures.1
     (put_refusals (kind_of g.G.Stage.state g.G.Stage.ended) c.args.self.now c.args.row.now c.first_values.result.now c.args.stage.now c.in_err-index.field-0.0 c.first_values.ensures c.in_err-index.ensures.refused)
 
+pub returns-in-Ok-clause-small : goal.returns-in-Ok-clause-small
+returns-in-Ok-clause-small g c = (c.in_ok-index.index, c.in-Ok.ensures.small)
+
 pub returns-in-Ok-clause-has : goal.returns-in-Ok-clause-has
 returns-in-Ok-clause-has g c = λ start rows has.
     let placed = c.in_ok-index.ensures in

@@ -4,7 +4,7 @@ use Rattle.text_output.specs.Output.{kind_of}
 use Rattle.row_output.specs.declared.fault.Refused.{Refused}
 use Rattle.row_output.specs.Rows.{IsRefusedAt, standard_at}
 use Rattle.row_output.specs.Sinks.{HasSinkRows, files_in}
-use Rattle.row_output.proofs.SinkCalls.{files_same, files_have, files_stop_in, files_refuse_in, files_little, standard_same, text_had, text_stops, told_put, failed_put}
+use Rattle.row_output.proofs.SinkCalls.{files_same, files_have, files_stop_in, files_refuse_in, standard_same, text_had, text_stops, told_put, failed_put}
 use Rattle.row_output.proofs.sink.Sink.put.Goals as goal
 
 pub returns-in-Ok-clause-purpose : goal.returns-in-Ok-clause-purpose
@@ -49,4 +49,4 @@ pub returns-in-Files-clause-refused : goal.returns-in-Files-clause-refused
 returns-in-Files-clause-refused g c = files_refuse_in (kind_of g.G.Stage.state g.G.Stage.ended) c.args.self.now c.in-Files.files c.in-Files.is c.args.stage.now c.put.new.stage c.put.result (λ rows more. rows ++ (c.args.row.now ∷ more)) c.put.ensures.refused
 
 pub returns-in-Files-clause-little : goal.returns-in-Files-clause-little
-returns-in-Files-clause-little g c = files_little c.put.result c.put.new.self
+returns-in-Files-clause-little g c = c.put.ensures.small
