@@ -1,8 +1,9 @@
 // The phases of a commit, one after the other, over the only reference to a disk.
-ghost use Rattle.std.specs.Prelude.{◌≡◌, ◌≤◌, ◌+◌, ◌^◌, ◌++◌, [], ◌∷◌, ℕ, List, OnOk, OnErr, IsErrOf};
+ghost use Rattle.std.specs.Prelude.{◌≡◌, ◌<◌, ◌≤◌, ◌+◌, ◌^◌, ◌++◌, [], ◌∷◌, ℕ, List, length, OnOk, OnErr, IsErrOf};
 ghost use Rattle.lp_model.specs.Outside.{HasCause};
 ghost use Rattle.disk_model.specs.Disk.{Files};
 ghost use Rattle.ledger_model.specs.Entries.{Entry};
+ghost use Rattle.ledger_model.specs.Grammar.{payload_of};
 ghost use Rattle.ledger.specs.Written.{entry_of};
 ghost use Rattle.ledger.specs.Reader.{HasReason};
 ghost use Rattle.ledger.specs.declared.refused.LedgerRefused.TheVariants.{LedgerFault};
@@ -114,6 +115,8 @@ impl<'d, D: Disk> Commit<'d, D> {
         ensures same { Same self.old self.new }
         // A crash at any moment leaves the state without the entry, and so does the disk afterwards, at a refusal too.
         ensures any_moment { (entries : List Entry) (files : Files) → Settled D.state self.old entries files → PreservesHeld D.state self.old self.new entries files }
+        // An entry that was sealed has a length of 64 bits.
+        ensures small { OnOk result (length (payload_of (entry_of entry.now)) < 2 ^ 64) }
         ensures sealed { OnOk result ((entries : List Entry) (before after : Files) → Settled D.state self.old entries before → Staged D.state self.old (entry_of entry.now) before after → Sealed D.state self.new (entry_of entry.now) entries before after) }
         ensures cause { HasCause (D.faults self.old.disk.now) (D.faults self.new.disk.now) result }
     {

@@ -1,5 +1,5 @@
 // A whole commit through the trait of stages.
-ghost use Rattle.std.specs.Prelude.{◌≡◌, ◌≢◌, ◌⊎◌, ◌<◌, ◌≤◌, ◌^◌, ◌++◌, [], ◌∷◌, ℕ, List, length, OnOk, IfOk, IsErrOf, OnErr};
+ghost use Rattle.std.specs.Prelude.{◌≡◌, ◌≢◌, ◌⊎◌, ◌≤◌, ◌++◌, [], ◌∷◌, ℕ, List, OnOk, IfOk, IsErrOf, OnErr};
 ghost use Rattle.lp_model.specs.Outside.{HasCause, Rose};
 ghost use Rattle.disk_model.specs.Disk.{Files, LeavesOnly};
 ghost use Rattle.ledger_model.specs.Entries.{Entry as PlainEntry};
@@ -52,8 +52,8 @@ pub fn place_two_texts<G: Stage>(
 ) -> Result<(Placed, Placed), StageFailed>
     requires apart { first.now ≢ second.now }
     ensures goes { G.goes stage.old stage.new }
-    ensures first { IfOk result (λ placed. (G.state stage.old).tells → length one.now < 2 ^ 64 → HasText 0 first.now placed.0.base placed.0.mark one.now (G.state stage.new)) }
-    ensures second { IfOk result (λ placed. (G.state stage.old).tells → length two.now < 2 ^ 64 → HasText 1 second.now placed.1.base placed.1.mark two.now (G.state stage.new)) }
+    ensures first { IfOk result (λ placed. (G.state stage.old).tells → HasText 0 first.now placed.0.base placed.0.mark one.now (G.state stage.new)) }
+    ensures second { IfOk result (λ placed. (G.state stage.old).tells → HasText 1 second.now placed.1.base placed.1.mark two.now (G.state stage.new)) }
     ensures ended { IfOk result (λ placed. G.ended stage.new first.now placed.0.base placed.0.mark × G.ended stage.new second.now placed.1.base placed.1.mark) }
     ensures bases { IfOk result (λ placed. (G.state stage.old).tells → (G.state stage.old).is_length first.now placed.0.base × (G.state stage.old).is_length second.now placed.1.base) }
     ensures cause { HasCause (G.faults stage.old) (G.faults stage.new) result }
@@ -100,8 +100,6 @@ fn stage_texts<'d, D: Disk>(
 ) -> Result<(), Refused>
     requires empty { entry.old.outputs ≡ [] }
     requires apart { first.now ≢ second.now }
-    requires one { length one.now < 2 ^ 64 }
-    requires two { length two.now < 2 ^ 64 }
     ensures reason { HasRefusal (D.faults commit.old.disk.now) (D.faults commit.new.disk.now) result }
     ensures goes { Goes D.state commit.old commit.new }
     ensures staged { OnOk result ((entries : List PlainEntry) (before after : Files) → Settled D.state commit.old entries before → AddsTwo first.now one.now second.now two.now before after
@@ -132,8 +130,6 @@ fn prepare<'d, D: Disk>(
 ) -> Result<(), Refused>
     requires empty { entry.old.outputs ≡ [] }
     requires apart { first.now ≢ second.now }
-    requires one { length one.now < 2 ^ 64 }
-    requires two { length two.now < 2 ^ 64 }
     ensures reason { HasRefusal (D.faults commit.old.disk.now) (D.faults commit.new.disk.now) result }
     ensures same { Same commit.old commit.new }
     ensures any_moment { (entries : List PlainEntry) (files : Files) → Settled D.state commit.old entries files → PreservesHeld D.state commit.old commit.new entries files }
@@ -178,8 +174,6 @@ fn commit_texts<'d, D: Disk>(
 ) -> Result<(), Stopped>
     requires empty { entry.old.outputs ≡ [] }
     requires apart { first.now ≢ second.now }
-    requires one { length one.now < 2 ^ 64 }
-    requires two { length two.now < 2 ^ 64 }
     ensures same { Same commit.old commit.new }
     ensures each_moment { (entries : List PlainEntry) (before after : Files) → MayCommit (disk_of D.state commit.old) (ledger_of commit.old) (stage_of commit.old) entries (entry_of entry.new) first.now one.now second.now two.now before after
         → LeavesOnly (disk_of D.state commit.old) (disk_of D.state commit.new) (BeforeOrWith (disk_of D.state commit.old) (ledger_of commit.old) (stage_of commit.old) entries (entry_of entry.new) after) }
@@ -232,8 +226,6 @@ pub fn commit_two_texts<D: Disk>(
 ) -> Result<(), Stopped>
     requires empty { entry.old.outputs ≡ [] }
     requires apart { first.now ≢ second.now }
-    requires one { length one.now < 2 ^ 64 }
-    requires two { length two.now < 2 ^ 64 }
     // At each moment, whether it is done or refused, and so at the end too.
     ensures each_moment { (entries : List PlainEntry) (before after : Files) → MayCommit (D.state disk.old) files.ledger files.stage entries (entry_of entry.new) first.now one.now second.now two.now before after
         → LeavesOnly (D.state disk.old) (D.state disk.new) (BeforeOrWith (D.state disk.old) files.ledger files.stage entries (entry_of entry.new) after) }

@@ -1,5 +1,5 @@
 -- What a run is asked for.
-use Rattle.std.proofs.Common.{◌≡◌, ℤ, List, Option, Some, None, ◌∙◌, ap, ap₂, inl}
+use Rattle.std.proofs.Common.{◌≡◌, ℤ, Bool, List, Option, Some, None, ◌∙◌, ap, ap₂, inl}
 use Rattle.grammar.specs.Trees as model
 use Rattle.lp_model.specs.Outside.{Folder}
 use Rattle.command_words.specs.declared.formats.OutputFormat.{OutputFormat}
@@ -23,8 +23,8 @@ as_asked spec q spans format template moment files text placed asked is =
     ap₂ (λ (f : Option Files) (t : RowsText). asked_by f t q) placed (is ∙ ap (λ (f : OutputFormat). text_as spec f template moment) asked)
 
 -- a run that did nothing
-pub stopped_at_once : (format : LogFormat) (told : Option Folder) (Nothing : Type 0) (Front : Asked → List (List Value) → Type 0) (asked : Planned → Asked) (spec : Spec) (moment : ℤ) (q : model.Query) (spans : List Span)
-    → Nothing → IsStopped format told Nothing Front asked spec moment q spans
-stopped_at_once (F.Tabled format) told Nothing Front asked spec moment q spans nothing = inl nothing
-stopped_at_once (F.Sampled options limit) None Nothing Front asked spec moment q spans nothing = tt
-stopped_at_once (F.Sampled options limit) (Some folder) Nothing Front asked spec moment q spans nothing = λ kept. inl nothing
+pub stopped_at_once : (format : LogFormat) (waits : Bool) (told : Option Folder) (Nothing : Type 0) (Front : Asked → List (List Value) → Type 0) (asked : Planned → Asked) (spec : Spec) (moment : ℤ) (q : model.Query) (spans : List Span)
+    → Nothing → IsStopped format waits told Nothing Front asked spec moment q spans
+stopped_at_once (F.Tabled format) waits told Nothing Front asked spec moment q spans nothing = inl nothing
+stopped_at_once (F.Sampled options limit) waits None Nothing Front asked spec moment q spans nothing = tt
+stopped_at_once (F.Sampled options limit) waits (Some folder) Nothing Front asked spec moment q spans nothing = λ kept. inl nothing

@@ -1,5 +1,5 @@
 -- What a run over sampled columns says of its query.
-use Rattle.std.proofs.Common.{◌≡◌, false, List, ℕ, ℤ, Option, Some, None, inl, inr, subst}
+use Rattle.std.proofs.Common.{◌≡◌, Bool, List, ℕ, ℤ, Option, Some, None, inl, inr, subst}
 use Rattle.grammar.specs.Trees as model
 use Rattle.lp_model.specs.Outside.{Folder, Told}
 use Rattle.command_words.specs.declared.spec.Spec.{Spec}
@@ -22,16 +22,16 @@ use Rattle.column_kinds.specs.Spans.{past_of}
 use Rattle.execution.specs.declared.formats.LogFormat.TheVariants as F
 use Rattle.execution.specs.Executed.{IsExecuted, IsStopped, IsParseError, IsUnplaced, IsUnplanned, IsUntouched}
 
-abbrev Kept : DelimitedOptions → List Span → Folder → Type 0
-Kept options spans folder = AreKept (delimited_lines options) false spans folder
+abbrev Kept : DelimitedOptions → Bool → List Span → Folder → Type 0
+Kept options waits spans folder = AreKept (delimited_lines options) waits spans folder
 
 abbrev rules_with : ℕ → Spec → ℤ → model.Query → (Planned → Asked) → Rules
 rules_with limit spec moment q asked = rules_of limit spec.ts_format moment q asked
 
-module _ {S : Type 0} (kind : StageKind S) (told : Option Folder) (start now : S) (asked : Planned → Asked) (spec : Spec) (moment : ℤ) (q : model.Query) (options : DelimitedOptions) (limit : ℕ) where
+module _ {S : Type 0} (kind : StageKind S) (told : Option Folder) (start now : S) (asked : Planned → Asked) (spec : Spec) (moment : ℤ) (q : model.Query) (options : DelimitedOptions) (limit : ℕ) (waits : Bool) where
   written_all : (told : Option Folder) (spans : List Span) (run : Written)
-      → Told told (λ folder. Kept options spans folder → IsSampled kind (rules_with limit spec moment q asked) start (past_of (delimited_lines options) false folder spans) (delimited_lines options) false folder spans run now)
-      → IsExecuted (F.Sampled options limit) told (λ asked rows. Holds kind asked start rows run.outputs now) asked spec moment q spans run.counts
+      → Told told (λ folder. Kept options waits spans folder → IsSampled kind (rules_with limit spec moment q asked) start (past_of (delimited_lines options) waits folder spans) (delimited_lines options) waits folder spans run now)
+      → IsExecuted (F.Sampled options limit) waits told (λ asked rows. Holds kind asked start rows run.outputs now) asked spec moment q spans run.counts
   written_all None spans run ran = tt
   written_all (Some folder) spans run ran = λ kept.
       let all = ran kept in
@@ -42,16 +42,16 @@ module _ {S : Type 0} (kind : StageKind S) (told : Option Folder) (start now : S
       }
 
   pub executed : (slice spans : List Span) (run : Written) → slice ≡ spans
-      → Told told (λ folder. Kept options slice folder → IsSampled kind (rules_with limit spec moment q asked) start (past_of (delimited_lines options) false folder slice) (delimited_lines options) false folder slice run now)
-      → IsExecuted (F.Sampled options limit) told (λ asked rows. Holds kind asked start rows run.outputs now) asked spec moment q spans run.counts
+      → Told told (λ folder. Kept options waits slice folder → IsSampled kind (rules_with limit spec moment q asked) start (past_of (delimited_lines options) waits folder slice) (delimited_lines options) waits folder slice run now)
+      → IsExecuted (F.Sampled options limit) waits told (λ asked rows. Holds kind asked start rows run.outputs now) asked spec moment q spans run.counts
   executed slice spans run listed ran =
-      subst (λ (s : List Span). IsExecuted (F.Sampled options limit) told (λ asked rows. Holds kind asked start rows run.outputs now) asked spec moment q s run.counts) listed (written_all told slice run ran)
+      subst (λ (s : List Span). IsExecuted (F.Sampled options limit) waits told (λ asked rows. Holds kind asked start rows run.outputs now) asked spec moment q s run.counts) listed (written_all told slice run ran)
 
   -- ---- it stopped
 
   stopped_all : (told : Option Folder) (spans : List Span)
-      → Told told (λ folder. Kept options spans folder → IsFront kind (rules_with limit spec moment q asked) start (past_of (delimited_lines options) false folder spans) now)
-      → IsStopped (F.Sampled options limit) told (now ≡ start) (λ asked rows. Stops kind asked start rows now) asked spec moment q spans
+      → Told told (λ folder. Kept options waits spans folder → IsFront kind (rules_with limit spec moment q asked) start (past_of (delimited_lines options) waits folder spans) now)
+      → IsStopped (F.Sampled options limit) waits told (now ≡ start) (λ asked rows. Stops kind asked start rows now) asked spec moment q spans
   stopped_all None spans front = tt
   stopped_all (Some folder) spans front = λ kept. elim (front kept) [
     | inl same ↦ inl same
@@ -59,64 +59,64 @@ module _ {S : Type 0} (kind : StageKind S) (told : Option Folder) (start now : S
   ]
 
   pub stopped : (slice spans : List Span) → slice ≡ spans
-      → Told told (λ folder. Kept options slice folder → IsFront kind (rules_with limit spec moment q asked) start (past_of (delimited_lines options) false folder slice) now)
-      → IsStopped (F.Sampled options limit) told (now ≡ start) (λ asked rows. Stops kind asked start rows now) asked spec moment q spans
+      → Told told (λ folder. Kept options waits slice folder → IsFront kind (rules_with limit spec moment q asked) start (past_of (delimited_lines options) waits folder slice) now)
+      → IsStopped (F.Sampled options limit) waits told (now ≡ start) (λ asked rows. Stops kind asked start rows now) asked spec moment q spans
   stopped slice spans listed front =
-      subst (λ (s : List Span). IsStopped (F.Sampled options limit) told (now ≡ start) (λ asked rows. Stops kind asked start rows now) asked spec moment q s) listed (stopped_all told slice front)
+      subst (λ (s : List Span). IsStopped (F.Sampled options limit) waits told (now ≡ start) (λ asked rows. Stops kind asked start rows now) asked spec moment q s) listed (stopped_all told slice front)
 
   -- ---- an output was refused
 
   abbrev Unplaces : Option Folder → List Span → Refused → Type 0
-  Unplaces told spans why = Told told (λ folder. Kept options spans folder → IsRefusedOutput kind (rules_with limit spec moment q asked) start (past_of (delimited_lines options) false folder spans) why now)
+  Unplaces told spans why = Told told (λ folder. Kept options waits spans folder → IsRefusedOutput kind (rules_with limit spec moment q asked) start (past_of (delimited_lines options) waits folder spans) why now)
 
-  unplaced_all : (told : Option Folder) (spans : List Span) (why : Refused) → Unplaces told spans why → IsUnplaced (F.Sampled options limit) told asked spec moment q spans why
+  unplaced_all : (told : Option Folder) (spans : List Span) (why : Refused) → Unplaces told spans why → IsUnplaced (F.Sampled options limit) waits told asked spec moment q spans why
   unplaced_all None spans why refused = tt
   unplaced_all (Some folder) spans why refused = λ kept. record { plan = (refused kept).plan; is_planned = (refused kept).planned; front = λ again. (refused kept).refused }
 
-  pub unplaced : (slice spans : List Span) (why : Refused) → slice ≡ spans → Unplaces told slice why → IsUnplaced (F.Sampled options limit) told asked spec moment q spans why
-  unplaced slice spans why listed refused = subst (λ (s : List Span). IsUnplaced (F.Sampled options limit) told asked spec moment q s why) listed (unplaced_all told slice why refused)
+  pub unplaced : (slice spans : List Span) (why : Refused) → slice ≡ spans → Unplaces told slice why → IsUnplaced (F.Sampled options limit) waits told asked spec moment q spans why
+  unplaced slice spans why listed refused = subst (λ (s : List Span). IsUnplaced (F.Sampled options limit) waits told asked spec moment q s why) listed (unplaced_all told slice why refused)
 
   unplaced_front : (told : Option Folder) (spans : List Span) (why : Refused) → Unplaces told spans why
-      → Told told (λ folder. Kept options spans folder → IsFront kind (rules_with limit spec moment q asked) start (past_of (delimited_lines options) false folder spans) now)
+      → Told told (λ folder. Kept options waits spans folder → IsFront kind (rules_with limit spec moment q asked) start (past_of (delimited_lines options) waits folder spans) now)
   unplaced_front None spans why refused = tt
   unplaced_front (Some folder) spans why refused = λ kept. inr (record { plan = (refused kept).plan; planned = (refused kept).planned; stops = (refused kept).stops })
 
   pub unplaced_stopped : (slice spans : List Span) (why : Refused) → slice ≡ spans → Unplaces told slice why
-      → IsStopped (F.Sampled options limit) told (now ≡ start) (λ asked rows. Stops kind asked start rows now) asked spec moment q spans
+      → IsStopped (F.Sampled options limit) waits told (now ≡ start) (λ asked rows. Stops kind asked start rows now) asked spec moment q spans
   unplaced_stopped slice spans why listed refused = stopped slice spans listed (unplaced_front told slice why refused)
 
   -- ---- no plan was made, and nothing written
 
   abbrev Refuses : Option Folder → List Span → TypeFault → Type 0
-  Refuses told spans fault = Told told (λ folder. Kept options spans folder → IsRefused (rules_with limit spec moment q asked) start (past_of (delimited_lines options) false folder spans) fault now)
+  Refuses told spans fault = Told told (λ folder. Kept options waits spans folder → IsRefused (rules_with limit spec moment q asked) start (past_of (delimited_lines options) waits folder spans) fault now)
 
-  unplanned_all : (told : Option Folder) (spans : List Span) (fault : TypeFault) → Refuses told spans fault → IsUnplanned (F.Sampled options limit) told spec moment q spans fault
+  unplanned_all : (told : Option Folder) (spans : List Span) (fault : TypeFault) → Refuses told spans fault → IsUnplanned (F.Sampled options limit) waits told spec moment q spans fault
   unplanned_all None spans fault refused = tt
   unplanned_all (Some folder) spans fault refused = λ kept. (refused kept).fault
 
-  pub unplanned : (slice spans : List Span) (fault : TypeFault) → slice ≡ spans → Refuses told slice fault → IsUnplanned (F.Sampled options limit) told spec moment q spans fault
-  unplanned slice spans fault listed refused = subst (λ (s : List Span). IsUnplanned (F.Sampled options limit) told spec moment q s fault) listed (unplanned_all told slice fault refused)
+  pub unplanned : (slice spans : List Span) (fault : TypeFault) → slice ≡ spans → Refuses told slice fault → IsUnplanned (F.Sampled options limit) waits told spec moment q spans fault
+  unplanned slice spans fault listed refused = subst (λ (s : List Span). IsUnplanned (F.Sampled options limit) waits told spec moment q s fault) listed (unplanned_all told slice fault refused)
 
-  untouched_all : (told : Option Folder) (spans : List Span) (fault : TypeFault) → Refuses told spans fault → IsUntouched (F.Sampled options limit) told (now ≡ start) spec spans
+  untouched_all : (told : Option Folder) (spans : List Span) (fault : TypeFault) → Refuses told spans fault → IsUntouched (F.Sampled options limit) waits told (now ≡ start) spec spans
   untouched_all None spans fault refused = tt
   untouched_all (Some folder) spans fault refused = λ kept. (refused kept).nothing
 
-  pub untouched : (slice spans : List Span) (fault : TypeFault) → slice ≡ spans → Refuses told slice fault → IsUntouched (F.Sampled options limit) told (now ≡ start) spec spans
-  untouched slice spans fault listed refused = subst (λ (s : List Span). IsUntouched (F.Sampled options limit) told (now ≡ start) spec s) listed (untouched_all told slice fault refused)
+  pub untouched : (slice spans : List Span) (fault : TypeFault) → slice ≡ spans → Refuses told slice fault → IsUntouched (F.Sampled options limit) waits told (now ≡ start) spec spans
+  untouched slice spans fault listed refused = subst (λ (s : List Span). IsUntouched (F.Sampled options limit) waits told (now ≡ start) spec s) listed (untouched_all told slice fault refused)
 
   refused_front : (told : Option Folder) (spans : List Span) (fault : TypeFault) → Refuses told spans fault
-      → Told told (λ folder. Kept options spans folder → IsFront kind (rules_with limit spec moment q asked) start (past_of (delimited_lines options) false folder spans) now)
+      → Told told (λ folder. Kept options waits spans folder → IsFront kind (rules_with limit spec moment q asked) start (past_of (delimited_lines options) waits folder spans) now)
   refused_front None spans fault refused = tt
   refused_front (Some folder) spans fault refused = λ kept. inl (refused kept).nothing
 
   pub refused_stopped : (slice spans : List Span) (fault : TypeFault) → slice ≡ spans → Refuses told slice fault
-      → IsStopped (F.Sampled options limit) told (now ≡ start) (λ asked rows. Stops kind asked start rows now) asked spec moment q spans
+      → IsStopped (F.Sampled options limit) waits told (now ≡ start) (λ asked rows. Stops kind asked start rows now) asked spec moment q spans
   refused_stopped slice spans fault listed refused = stopped slice spans listed (refused_front told slice fault refused)
 
-pub parse_error : (told : Option Folder) (spec : Spec) (moment : ℤ) (q : model.Query) (options : DelimitedOptions) (limit : ℕ) (slice spans : List Span) (most : Option ℕ) (line : BadLine)
+pub parse_error : (told : Option Folder) (spec : Spec) (moment : ℤ) (q : model.Query) (options : DelimitedOptions) (limit : ℕ) (waits : Bool) (slice spans : List Span) (most : Option ℕ) (line : BadLine)
     → slice ≡ spans → most ≡ spec.errors
-    → Told told (λ folder. Kept options slice folder → IsTooMany most 0 (spans_bad_lines (delimited_lines options) false folder slice) line)
-    → IsParseError (F.Sampled options limit) told spec moment q spans line
-parse_error told spec moment q options limit slice spans most line listed same exceeds =
-    let Of : List Span → Option ℕ → Type 0 = λ s m. Told told (λ folder. Kept options s folder → IsTooMany m 0 (spans_bad_lines (delimited_lines options) false folder s) line) in
+    → Told told (λ folder. Kept options waits slice folder → IsTooMany most 0 (spans_bad_lines (delimited_lines options) waits folder slice) line)
+    → IsParseError (F.Sampled options limit) waits told spec moment q spans line
+parse_error told spec moment q options limit waits slice spans most line listed same exceeds =
+    let Of : List Span → Option ℕ → Type 0 = λ s m. Told told (λ folder. Kept options waits s folder → IsTooMany m 0 (spans_bad_lines (delimited_lines options) waits folder s) line) in
     record { typed = tt; exceeds = subst (λ (m : Option ℕ). Of spans m) same (subst (λ (s : List Span). Of s most) listed exceeds) }

@@ -12,10 +12,10 @@ reads_stdin [] = false
 reads_stdin (name ∷ []) = is_stdin name.text
 reads_stdin (name ∷ next ∷ names) = false
 
--- whether all that the options ask for is built
-abbrev pub are_options_built : Spec → Query → Bool
-are_options_built spec q = has_text spec (output_of spec q) && is_none spec.checkpoint
+-- whether the output's format and the query are built
+abbrev pub is_run_built : Spec → Query → Bool
+is_run_built spec q = has_text spec (output_of spec q) && is_built q && not (reads_stdin (names_in q))
 
 -- whether all that the options and the query ask for is built
 abbrev pub all_built : Spec → Query → Bool
-all_built spec q = are_options_built spec q && is_built q && not (reads_stdin (names_in q))
+all_built spec q = is_none spec.checkpoint && is_run_built spec q

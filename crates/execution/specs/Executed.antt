@@ -1,5 +1,5 @@
 -- What a query writes over spans of logs.
-use Rattle.std.specs.Prelude.{◌≡◌, ◌⊎◌, ℕ, ℤ, false, List, length, pos, ◌≤ℤ◌, ◌<ℤ◌, Option, Ok, Err, ⊤}
+use Rattle.std.specs.Prelude.{◌≡◌, ◌⊎◌, ℕ, ℤ, Bool, List, length, pos, ◌≤ℤ◌, ◌<ℤ◌, Option, Ok, Err, ⊤}
 use Rattle.grammar.specs.Trees as model
 use Rattle.lp_model.specs.Outside.{Folder, Told}
 use Rattle.lp_time.specs.declared.piece.Piece.{Piece}
@@ -33,54 +33,54 @@ abbrev pub IsMoment : ℤ → Type 0
 IsMoment moment = (pos 0 ≤ℤ moment) × (moment <ℤ pos 253402300800)
 
 -- the columns that logs tell: those of the first log that has any, of the kinds that the first records have
-abbrev pub told_in : DelimitedOptions → ℕ → List Piece → Folder → List Span → Judged
-told_in options limit pattern folder spans =
+abbrev pub told_in : DelimitedOptions → Bool → ℕ → List Piece → Folder → List Span → Judged
+told_in options waits limit pattern folder spans =
     let lines = delimited_lines options in
-    judged limit pattern (first_log lines false folder spans) (spans_found lines false folder spans)
+    judged limit pattern (first_log lines waits folder spans) (spans_found lines waits folder spans)
 
-abbrev pub told_table : DelimitedOptions → ℕ → List Piece → Folder → List Span → TableColumns
-told_table options limit pattern folder spans = table_with (told_in options limit pattern folder spans)
+abbrev pub told_table : DelimitedOptions → Bool → ℕ → List Piece → Folder → List Span → TableColumns
+told_table options waits limit pattern folder spans = table_with (told_in options waits limit pattern folder spans)
 
 -- a fact on the table of a run; one that the logs tell is known where these tell their bytes, and each span begins as its log was kept
-abbrev pub OnTable : LogFormat → List Piece → Option Folder → List Span → (TableColumns → Type 0) → Type 0
-OnTable (F.Tabled format) pattern told spans P = P (table_of format)
-OnTable (F.Sampled options limit) pattern told spans P = Told told (λ folder. AreKept (delimited_lines options) false spans folder → P (told_table options limit pattern folder spans))
+abbrev pub OnTable : LogFormat → Bool → List Piece → Option Folder → List Span → (TableColumns → Type 0) → Type 0
+OnTable (F.Tabled format) waits pattern told spans P = P (table_of format)
+OnTable (F.Sampled options limit) waits pattern told spans P = Told told (λ folder. AreKept (delimited_lines options) waits spans folder → P (told_table options waits limit pattern folder spans))
 
 -- the rows that SELECT gives over spans, by a plan
-abbrev pub rows_in : LogFormat → List Piece → Planned → Folder → List Span → List (List Value)
-rows_in (F.Tabled format) pattern plan folder spans = plan_rows (readings_of format) plan (lines_of format) false folder spans
-rows_in (F.Sampled options limit) pattern plan folder spans = rows_with pattern (told_in options limit pattern folder spans) plan (spans_found (delimited_lines options) false folder spans)
+abbrev pub rows_in : LogFormat → Bool → List Piece → Planned → Folder → List Span → List (List Value)
+rows_in (F.Tabled format) waits pattern plan folder spans = plan_rows (readings_of format) plan (lines_of format) waits folder spans
+rows_in (F.Sampled options limit) waits pattern plan folder spans = rows_with pattern (told_in options waits limit pattern folder spans) plan (spans_found (delimited_lines options) waits folder spans)
 
 -- Of what is asked of a plan's rows this is so; so many records, rows and bad lines were met.
-pub record Writes (Has : Asked → List (List Value) → Type 0) (asked : Planned → Asked) (spec : Spec) (format : LogFormat) (plan : Planned) (spans : List Span) (counts : Counts) (folder : Folder) : Type 0 where
-  pub has : Has (asked plan) (rows_in format spec.ts_format plan folder spans)
-  pub processed : counts.processed ≡ length (spans_found (lines_in format) false folder spans)
-  pub output : counts.output ≡ length (left_of (asked plan) (rows_in format spec.ts_format plan folder spans))
-  pub bad : counts.bad ≡ length (spans_bad (lines_in format) false folder spans)
+pub record Writes (Has : Asked → List (List Value) → Type 0) (asked : Planned → Asked) (spec : Spec) (format : LogFormat) (waits : Bool) (plan : Planned) (spans : List Span) (counts : Counts) (folder : Folder) : Type 0 where
+  pub has : Has (asked plan) (rows_in format waits spec.ts_format plan folder spans)
+  pub processed : counts.processed ≡ length (spans_found (lines_in format) waits folder spans)
+  pub output : counts.output ≡ length (left_of (asked plan) (rows_in format waits spec.ts_format plan folder spans))
+  pub bad : counts.bad ≡ length (spans_bad (lines_in format) waits folder spans)
 
 -- where each span begins as its log was kept, the rows of the query's plan over a table are written
-pub record WritesAll (format : LogFormat) (told : Option Folder) (Has : Asked → List (List Value) → Type 0) (asked : Planned → Asked) (spec : Spec) (moment : ℤ) (q : model.Query) (spans : List Span) (counts : Counts) (table : TableColumns) : Type 0 where
+pub record WritesAll (format : LogFormat) (waits : Bool) (told : Option Folder) (Has : Asked → List (List Value) → Type 0) (asked : Planned → Asked) (spec : Spec) (moment : ℤ) (q : model.Query) (spans : List Span) (counts : Counts) (table : TableColumns) : Type 0 where
   pub plan : Planned
   pub is_planned : plan_of table moment q ≡ Ok plan
-  pub written : Told told (λ folder. AreKept (lines_in format) false spans folder → Writes Has asked spec format plan spans counts folder)
+  pub written : Told told (λ folder. AreKept (lines_in format) waits spans folder → Writes Has asked spec format waits plan spans counts folder)
 
 -- the query's rows are written
-abbrev pub IsExecuted : LogFormat → Option Folder → (Asked → List (List Value) → Type 0) → (Planned → Asked) → Spec → ℤ → model.Query → List Span → Counts → Type 0
-IsExecuted format told Has asked spec moment q spans counts = OnTable format spec.ts_format told spans (WritesAll format told Has asked spec moment q spans counts)
+abbrev pub IsExecuted : LogFormat → Bool → Option Folder → (Asked → List (List Value) → Type 0) → (Planned → Asked) → Spec → ℤ → model.Query → List Span → Counts → Type 0
+IsExecuted format waits told Has asked spec moment q spans counts = OnTable format waits spec.ts_format told spans (WritesAll format waits told Has asked spec moment q spans counts)
 
 -- they were to be written
-pub record HoldsFront (format : LogFormat) (told : Option Folder) (Front : Asked → List (List Value) → Type 0) (asked : Planned → Asked) (spec : Spec) (moment : ℤ) (q : model.Query) (spans : List Span) (table : TableColumns) : Type 0 where
+pub record HoldsFront (format : LogFormat) (waits : Bool) (told : Option Folder) (Front : Asked → List (List Value) → Type 0) (asked : Planned → Asked) (spec : Spec) (moment : ℤ) (q : model.Query) (spans : List Span) (table : TableColumns) : Type 0 where
   pub plan : Planned
   pub is_planned : plan_of table moment q ≡ Ok plan
-  pub front : Told told (λ folder. AreKept (lines_in format) false spans folder → Front (asked plan) (rows_in format spec.ts_format plan folder spans))
+  pub front : Told told (λ folder. AreKept (lines_in format) waits spans folder → Front (asked plan) (rows_in format waits spec.ts_format plan folder spans))
 
 -- a run stopped before it wrote anything, or within the rows
-abbrev pub IsStopped : LogFormat → Option Folder → Type 0 → (Asked → List (List Value) → Type 0) → (Planned → Asked) → Spec → ℤ → model.Query → List Span → Type 0
-IsStopped format told Nothing Front asked spec moment q spans = OnTable format spec.ts_format told spans (λ table. Nothing ⊎ HoldsFront format told Front asked spec moment q spans table)
+abbrev pub IsStopped : LogFormat → Bool → Option Folder → Type 0 → (Asked → List (List Value) → Type 0) → (Planned → Asked) → Spec → ℤ → model.Query → List Span → Type 0
+IsStopped format waits told Nothing Front asked spec moment q spans = OnTable format waits spec.ts_format told spans (λ table. Nothing ⊎ HoldsFront format waits told Front asked spec moment q spans table)
 
 -- an output of the rows is refused by this fault
-abbrev pub IsUnplaced : LogFormat → Option Folder → (Planned → Asked) → Spec → ℤ → model.Query → List Span → Refused → Type 0
-IsUnplaced format told asked spec moment q spans why = OnTable format spec.ts_format told spans (HoldsFront format told (λ asked rows. IsRefused asked rows why) asked spec moment q spans)
+abbrev pub IsUnplaced : LogFormat → Bool → Option Folder → (Planned → Asked) → Spec → ℤ → model.Query → List Span → Refused → Type 0
+IsUnplaced format waits told asked spec moment q spans why = OnTable format waits spec.ts_format told spans (HoldsFront format waits told (λ asked rows. IsRefused asked rows why) asked spec moment q spans)
 
 -- over a table that is known before a log is read, the query has a plan
 abbrev pub IsTyped : LogFormat → ℤ → model.Query → Type 0
@@ -88,14 +88,14 @@ IsTyped (F.Tabled format) moment q = (plan : Planned) × (plan_of (table_of form
 IsTyped (F.Sampled options limit) moment q = ⊤
 
 -- of the bad lines of the spans, in order, this is the first that is one too many
-pub record IsParseError (format : LogFormat) (told : Option Folder) (spec : Spec) (moment : ℤ) (q : model.Query) (spans : List Span) (line : BadLine) : Type 0 where
+pub record IsParseError (format : LogFormat) (waits : Bool) (told : Option Folder) (spec : Spec) (moment : ℤ) (q : model.Query) (spans : List Span) (line : BadLine) : Type 0 where
   pub typed : IsTyped format moment q
-  pub exceeds : Told told (λ folder. AreKept (lines_in format) false spans folder → IsTooMany spec.errors 0 (spans_bad_lines (lines_in format) false folder spans) line)
+  pub exceeds : Told told (λ folder. AreKept (lines_in format) waits spans folder → IsTooMany spec.errors 0 (spans_bad_lines (lines_in format) waits folder spans) line)
 
 -- a query has no plan, by this fault
-abbrev pub IsUnplanned : LogFormat → Option Folder → Spec → ℤ → model.Query → List Span → TypeFault → Type 0
-IsUnplanned format told spec moment q spans fault = OnTable format spec.ts_format told spans (λ table. plan_of table moment q ≡ Err fault)
+abbrev pub IsUnplanned : LogFormat → Bool → Option Folder → Spec → ℤ → model.Query → List Span → TypeFault → Type 0
+IsUnplanned format waits told spec moment q spans fault = OnTable format waits spec.ts_format told spans (λ table. plan_of table moment q ≡ Err fault)
 
 -- nothing is written
-abbrev pub IsUntouched : LogFormat → Option Folder → Type 0 → Spec → List Span → Type 0
-IsUntouched format told Nothing spec spans = OnTable format spec.ts_format told spans (λ table. Nothing)
+abbrev pub IsUntouched : LogFormat → Bool → Option Folder → Type 0 → Spec → List Span → Type 0
+IsUntouched format waits told Nothing spec spans = OnTable format waits spec.ts_format told spans (λ table. Nothing)

@@ -1,5 +1,5 @@
 -- Where the rows of a query go.
-use Rattle.std.specs.Prelude.{ℕ, ℤ, Bool, true, List, [], map, codes, Option, Some, None, if◌then◌else◌}
+use Rattle.std.specs.Prelude.{ℕ, ℤ, Bool, true, List, [], ◌∷◌, ◌++◌, map, codes, Option, Some, None, if◌then◌else◌}
 use Rattle.std.specs.Str.{str_eq_ignore_ascii_case}
 use Rattle.grammar.specs.Trees.{Placed, Query}
 use Rattle.command_words.specs.declared.spec.Spec.{Spec}
@@ -20,10 +20,19 @@ abbrev pub is_standard : Option Placed → Bool
 is_standard None = true
 is_standard (Some name) = is_stdout name.text
 
--- the files that an INTO name stands for, none of which may be a log that is read
+-- the files that a run with a checkpoint keeps for itself: the ledger and its stage
+abbrev pub own_names : Option (List ℕ) → List (List ℕ)
+own_names None = []
+own_names (Some ledger) = ledger ∷ (ledger ++ codes ".stage") ∷ []
+
+-- the names that no output may have: those files, and the logs that are read
+abbrev pub forbidden_by : Spec → List (List ℕ) → List (List ℕ)
+forbidden_by spec logs = with_names [] (own_names spec.checkpoint ++ logs)
+
+-- the files that an INTO name stands for
 abbrev pub files_named : Spec → List (List ℕ) → Option Placed → Option Files
 files_named spec logs None = None
-files_named spec logs (Some name) = if is_stdout name.text then None else Some (record { pattern = name.text; forbidden = with_names [] logs; mode = spec.file_mode })
+files_named spec logs (Some name) = if is_stdout name.text then None else Some (record { pattern = name.text; forbidden = forbidden_by spec logs; mode = spec.file_mode })
 
 abbrev pub files_of : Spec → Query → List Span → Option Files
 files_of spec q spans = files_named spec (map (λ (span : Span). span.name) spans) (into_in q)

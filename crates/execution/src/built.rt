@@ -1,7 +1,7 @@
 // What is built so far.
 ghost use Rattle.std.specs.Prelude.{◌≡◌};
 ghost use Rattle.query_tree.specs.Views.{placed_all, query_of};
-ghost use Rattle.execution.specs.Built.{all_built, are_options_built, reads_stdin};
+ghost use Rattle.execution.specs.Built.{all_built, is_run_built, reads_stdin};
 
 use crate::texts::{has_text, output_of};
 use command_words::Spec;
@@ -19,16 +19,16 @@ fn reads_stdin(names: &PlacedList) -> bool
     }
 }
 
-// Whether all that the options ask for is built.
-fn are_options_built(spec: &Spec, query: &Query) -> bool
-    ensures { result ≡ are_options_built spec.now (query_of query.now) }
+/// Whether the output's format and the query are built.
+pub fn is_run_built(spec: &Spec, query: &Query) -> bool
+    ensures { result ≡ is_run_built spec.now (query_of query.now) }
 {
-    has_text(spec, output_of(spec, query)) && spec.checkpoint.is_none()
+    has_text(spec, output_of(spec, query)) && is_built(query) && !reads_stdin(&query.names)
 }
 
 /// Whether all that the options and the query ask for is built.
 pub fn all_built(spec: &Spec, query: &Query) -> bool
     ensures { result ≡ all_built spec.now (query_of query.now) }
 {
-    are_options_built(spec, query) && is_built(query) && !reads_stdin(&query.names)
+    spec.checkpoint.is_none() && is_run_built(spec, query)
 }

@@ -1,16 +1,17 @@
 // A query over spans of logs.
-ghost use Rattle.std.specs.Prelude.{◌≡◌, ◌≤◌, ◌+◌, true, length, IfOk, IsSome, OnErr, IsErrOf};
+ghost use Rattle.std.specs.Prelude.{◌≡◌, ◌≤◌, ◌+◌, ◌++◌, true, length, map, codes, None, IfOk, IfSome, IsSome, OnErr, IsErrOf};
 ghost use Rattle.lp_model.specs.Outside.{Rose, OnlyGrow, Told, bytes_in};
 ghost use Rattle.command_words.specs.Table.{IsInRange};
+ghost use Rattle.lp_outside.specs.NameFault.{name_fault};
 ghost use Rattle.log_reading.specs.Page.{IsWithin};
-ghost use Rattle.log_reading.specs.Spans.{AllSpans, IsSpan, spans_size};
+ghost use Rattle.log_reading.specs.Spans.{AllSpans, AreKept, IsSpan, spans_size, took_of};
 ghost use Rattle.text_output.specs.Output.{kind_of};
 ghost use Rattle.row_output.specs.Rows.{Holds, Stops};
 ghost use Rattle.query_tree.specs.Views.{query_of};
-ghost use Rattle.execution.specs.Built.{all_built};
+ghost use Rattle.execution.specs.Built.{is_run_built};
 ghost use Rattle.execution.specs.Executed.{IsMoment, IsExecuted, IsParseError, IsStopped, IsUnplaced, IsUnplanned, IsUntouched};
 ghost use Rattle.execution.specs.Faults.{IfParse, IfPlan, IfRefused};
-ghost use Rattle.execution.specs.Formats.{log_format};
+ghost use Rattle.execution.specs.Formats.{lines_in, log_format};
 ghost use Rattle.execution.specs.Outputs.{asked_in};
 ghost use Rattle.execution.specs.Texts.{output_of, sections_in};
 ghost use Rattle.command_words.specs.declared.formats.OutputFormat.TheVariants as O;
@@ -32,7 +33,8 @@ use tpl_output::Template;
 
 /// Runs a query over spans of logs, in order: their records, of which it takes those that WHERE keeps, and the text of the rows
 /// that SELECT makes of them, by the template where the output is by one. The columns of CSV and TSV logs are known behind their
-/// first records.
+/// first records. Where unended lines wait, it takes of each span the lines that LF ends, and answers what it took; else a last
+/// line without LF is taken too.
 pub fn execute<L: Logs, I: Source, G: Stage>(
     alloc: Global,
     spec: &Spec,
@@ -42,23 +44,27 @@ pub fn execute<L: Logs, I: Source, G: Stage>(
     logs: &mut L,
     input: &mut I,
     spans: &Spans,
+    waits: bool,
     stage: &mut G,
 ) -> Result<Ran, RunFault>
     requires moment { IsMoment moment }
     requires range { IsInRange spec.now }
     requires template { output_of spec.now (query_of query.now) ≡ O.Tpl → IsSome template }
-    requires built { all_built spec.now (query_of query.now) ≡ true }
+    requires built { is_run_built spec.now (query_of query.now) ≡ true }
+    requires stage { IfSome spec.now.checkpoint (λ ledger. name_fault (ledger ++ codes ".stage") ≡ None) }
     requires few { length spans.now ≤ 100000 }
     requires spans { AllSpans spans.now IsSpan }
     requires there { Told (L.folder logs.old) (λ folder. AllSpans spans.now (λ span. span.listed ≤ length (bytes_in folder span.name))) }
     ensures grows { OnlyGrow (L.folder logs.old) (L.folder logs.new) }
-    ensures ran { IfOk result (λ ran. IsExecuted (log_format spec.now (query_of query.now)) (L.folder logs.new) (λ asked rows. Holds (kind_of G.state G.ended) asked stage.old rows ran.outputs stage.new) (asked_in spec.now (sections_in (λ t. t.value) template) moment (query_of query.now) spans.now) spec.now moment (query_of query.now) spans.now ran.counts) }
+    ensures ran { IfOk result (λ ran. IsExecuted (log_format spec.now (query_of query.now)) waits (L.folder logs.new) (λ asked rows. Holds (kind_of G.state G.ended) asked stage.old rows ran.outputs stage.new) (asked_in spec.now (sections_in (λ t. t.value) template) moment (query_of query.now) spans.now) spec.now moment (query_of query.now) spans.now ran.counts) }
     ensures within { IfOk result (λ ran. IsWithin spec.now.errors ran.counts.bad) }
-    ensures stopped { OnErr result (IsStopped (log_format spec.now (query_of query.now)) (L.folder logs.new) (stage.new ≡ stage.old) (λ asked rows. Stops (kind_of G.state G.ended) asked stage.old rows stage.new) (asked_in spec.now (sections_in (λ t. t.value) template) moment (query_of query.now) spans.now) spec.now moment (query_of query.now) spans.now) }
-    ensures refused { IfRefused result (IsUnplaced (log_format spec.now (query_of query.now)) (L.folder logs.new) (asked_in spec.now (sections_in (λ t. t.value) template) moment (query_of query.now) spans.now) spec.now moment (query_of query.now) spans.now) }
-    ensures plan { IfPlan result (IsUnplanned (log_format spec.now (query_of query.now)) (L.folder logs.new) spec.now moment (query_of query.now) spans.now) }
-    ensures before { IfPlan result (λ fault. IsUntouched (log_format spec.now (query_of query.now)) (L.folder logs.new) (stage.new ≡ stage.old) spec.now spans.now) }
-    ensures parse { IfParse result (IsParseError (log_format spec.now (query_of query.now)) (L.folder logs.new) spec.now moment (query_of query.now) spans.now) }
+    ensures stopped { OnErr result (IsStopped (log_format spec.now (query_of query.now)) waits (L.folder logs.new) (stage.new ≡ stage.old) (λ asked rows. Stops (kind_of G.state G.ended) asked stage.old rows stage.new) (asked_in spec.now (sections_in (λ t. t.value) template) moment (query_of query.now) spans.now) spec.now moment (query_of query.now) spans.now) }
+    ensures refused { IfRefused result (IsUnplaced (log_format spec.now (query_of query.now)) waits (L.folder logs.new) (asked_in spec.now (sections_in (λ t. t.value) template) moment (query_of query.now) spans.now) spec.now moment (query_of query.now) spans.now) }
+    ensures plan { IfPlan result (IsUnplanned (log_format spec.now (query_of query.now)) waits (L.folder logs.new) spec.now moment (query_of query.now) spans.now) }
+    ensures before { IfPlan result (λ fault. IsUntouched (log_format spec.now (query_of query.now)) waits (L.folder logs.new) (stage.new ≡ stage.old) spec.now spans.now) }
+    ensures parse { IfParse result (IsParseError (log_format spec.now (query_of query.now)) waits (L.folder logs.new) spec.now moment (query_of query.now) spans.now) }
+    ensures took { IfOk result (λ ran. waits ≡ true → Told (L.folder logs.new) (λ folder. AreKept (lines_in (log_format spec.now (query_of query.now))) true spans.now folder
+        → ran.took ≡ map (took_of (lines_in (log_format spec.now (query_of query.now))) folder) spans.now)) }
     ensures input { input.new ≡ input.old }
     ensures given { L.given logs.new ≤ L.given logs.old + spans_size spans.now }
     ensures later_logs { L.faults logs.old ≤ L.faults logs.new }
@@ -74,10 +80,10 @@ pub fn execute<L: Logs, I: Source, G: Stage>(
     let wanted = wanted_as(spec, output_of(spec, query), template);
     match log_format(spec, query) {
         LogFormat::Tabled(format) => execute_tabled(
-            alloc, spec, format, query, moment, logs, spans, wanted, into, stage,
+            alloc, spec, format, query, moment, logs, spans, waits, wanted, into, stage,
         ),
         LogFormat::Sampled(options, limit) => execute_sampled(
-            alloc, spec, options, limit, query, moment, logs, spans, wanted, into, stage,
+            alloc, spec, options, limit, query, moment, logs, spans, waits, wanted, into, stage,
         ),
     }
 }

@@ -1,4 +1,5 @@
 // How a run of a query ends.
+use log_reading::TookList;
 use lp_outside::Name;
 use query_run::Counts;
 use query_types::TypeFault;
@@ -11,6 +12,8 @@ pub struct Ran {
     pub counts: Counts,
     /// The outputs that have the text, in order, without those whose files were left alone.
     pub outputs: OutputList,
+    /// What was taken of each span, in order.
+    pub took: TookList,
 }
 
 /// Why a run of a query stops. The fault of a plan is never want of memory.

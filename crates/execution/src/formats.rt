@@ -39,8 +39,8 @@ fn input_by_names(names: &PlacedList) -> InputFormat
     }
 }
 
-// The input format: that of the words, or else by the first FROM name.
-fn input_of(spec: &Spec, query: &Query) -> InputFormat
+/// The input format: that of the words, or else by the first FROM name.
+pub fn input_of(spec: &Spec, query: &Query) -> InputFormat
     ensures { result ≡ input_of spec.now (query_of query.now) }
 {
     match spec.input {

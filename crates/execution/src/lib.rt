@@ -1,8 +1,9 @@
 //! A query over spans of logs, to a stage.
 //!
 //! To the crate above: [`execute`] writes exactly the text of the query's rows over the records of the spans, in order, or
-//! answers the typing fault of the query; after a refusal the stage has the front of the text. [`all_built`] tells what is
-//! built so far, and [`log_format`] how logs are read.
+//! answers the typing fault of the query; after a refusal the stage has the front of the text. Where unended lines wait, it
+//! tells what it took of each span. [`all_built`] tells what is built so far, and [`log_format`] how logs are read, in the
+//! format that [`input_of`] tells.
 #![tactic(auto)]
 
 mod built;
@@ -16,9 +17,9 @@ mod sampled;
 mod tabled;
 mod texts;
 
-pub use built::all_built;
+pub use built::{all_built, is_run_built};
 pub use executing::execute;
 pub use fault::{Ran, RunFault};
-pub use formats::{LogFormat, log_format};
+pub use formats::{LogFormat, input_of, log_format};
 pub use outputs::is_standard;
 pub use texts::output_of;

@@ -1,14 +1,16 @@
 // Where the rows of a query go.
-ghost use Rattle.std.specs.Prelude.{◌≡◌, [], map, IfOk};
+ghost use Rattle.std.specs.Prelude.{◌≡◌, ◌++◌, [], map, codes, None, IfOk, IfSome, OnOk};
 ghost use Rattle.query_tree.specs.Views.{query_of};
 ghost use Rattle.log_listing.specs.Firsts.{with_names};
+ghost use Rattle.lp_outside.specs.NameFault.{name_fault};
 ghost use Rattle.log_reading.specs.declared.span.Span.{Span};
 ghost use Rattle.row_output.specs.Sinks.{IsUnplaced, files_for};
-ghost use Rattle.execution.specs.Outputs.{files_of, is_standard, is_stdout};
+ghost use Rattle.execution.specs.Outputs.{files_of, is_standard, is_stdout, own_names};
 ghost use Rattle.execution.specs.Texts.{into_in};
 
 use checkpoint::Spans;
 use command_words::Spec;
+use lp_outside::Name;
 use multiplex::Outputs;
 use query_tree::Query;
 use row_output::Into;
@@ -31,11 +33,35 @@ pub fn is_standard(query: &Query) -> bool
     }
 }
 
-// Outputs of a pattern, none of which may be a log.
-fn outputs_beside(alloc: Global, pattern: &str, spans: &Spans) -> Result<Outputs, AllocError>
-    ensures exact { IfOk result (λ outputs. outputs ≡ record { pattern = pattern.now; forbidden = with_names [] (map (λ (span : Span). span.name) spans.now); names = [] }) }
+// No output may be one of the files that a run with a checkpoint keeps for itself.
+fn forbid_own(outputs: &mut Outputs, checkpoint: &Option<Name>) -> Result<(), AllocError>
+    requires stage { IfSome checkpoint.now (λ ledger. name_fault (ledger ++ codes ".stage") ≡ None) }
+    ensures { OnOk result (outputs.new ≡ record { pattern = outputs.old.pattern; forbidden = with_names outputs.old.forbidden (own_names checkpoint.now); names = outputs.old.names }) }
+{
+    match checkpoint {
+        None => Ok(()),
+        Some(ledger) => {
+            outputs.forbid(ledger)?;
+            match ledger.with_suffix(".stage") {
+                Ok(stage) => outputs.forbid(&stage),
+                Err(_) => unreachable!(),
+            }
+        }
+    }
+}
+
+// Outputs of a pattern, none of which may be a log, or the ledger or its stage.
+fn outputs_beside(
+    alloc: Global,
+    checkpoint: &Option<Name>,
+    pattern: &str,
+    spans: &Spans,
+) -> Result<Outputs, AllocError>
+    requires stage { IfSome checkpoint.now (λ ledger. name_fault (ledger ++ codes ".stage") ≡ None) }
+    ensures exact { IfOk result (λ outputs. outputs ≡ record { pattern = pattern.now; forbidden = with_names [] (own_names checkpoint.now ++ map (λ (span : Span). span.name) spans.now); names = [] }) }
 {
     let mut outputs = Outputs::new(alloc, pattern)?;
+    forbid_own(&mut outputs, checkpoint)?;
     for span in spans.as_slice() {
         outputs.forbid(&span.name)?;
     }
@@ -49,6 +75,7 @@ pub(crate) fn into_of(
     query: &Query,
     spans: &Spans,
 ) -> Result<Into, AllocError>
+    requires stage { IfSome spec.now.checkpoint (λ ledger. name_fault (ledger ++ codes ".stage") ≡ None) }
     ensures files { IfOk result (λ into. files_for into ≡ files_of spec.now (query_of query.now) spans.now) }
     ensures none { IfOk result IsUnplaced }
 {
@@ -58,7 +85,7 @@ pub(crate) fn into_of(
             if is_stdout(name.text.as_str()) {
                 return Ok(Into::Standard);
             }
-            let outputs = outputs_beside(alloc, name.text.as_str(), spans)?;
+            let outputs = outputs_beside(alloc, &spec.checkpoint, name.text.as_str(), spans)?;
             Ok(Into::Files(outputs, spec.file_mode))
         }
     }

@@ -1,9 +1,10 @@
 // A query over logs whose columns they tell.
-ghost use Rattle.std.specs.Prelude.{◌≡◌, ◌≤◌, ◌+◌, true, length, IfOk, OnErr, IsErrOf};
+ghost use Rattle.std.specs.Prelude.{◌≡◌, ◌≤◌, ◌+◌, true, length, map, IfOk, OnErr, IsErrOf};
 ghost use Rattle.lp_model.specs.Outside.{Rose, OnlyGrow, Told, bytes_in};
+ghost use Rattle.delimited_input.specs.Lines.{delimited_lines};
 ghost use Rattle.delimited_input.specs.Separators.{IsRefused};
 ghost use Rattle.log_reading.specs.Page.{IsWithin};
-ghost use Rattle.log_reading.specs.Spans.{AllSpans, IsSpan, spans_size};
+ghost use Rattle.log_reading.specs.Spans.{AllSpans, AreKept, IsSpan, spans_size, took_of};
 ghost use Rattle.any_format.specs.Wanted.{wanted_text};
 ghost use Rattle.text_output.specs.Output.{kind_of};
 ghost use Rattle.row_output.specs.Rows.{Holds, Stops};
@@ -39,6 +40,7 @@ pub(crate) fn execute_sampled<L: Logs, G: Stage>(
     moment: Moment,
     logs: &mut L,
     spans: &Spans,
+    waits: bool,
     wanted: Wanted,
     into: Into,
     stage: &mut G,
@@ -51,13 +53,15 @@ pub(crate) fn execute_sampled<L: Logs, G: Stage>(
     requires spans { AllSpans spans.now IsSpan }
     requires there { Told (L.folder logs.old) (λ folder. AllSpans spans.now (λ span. span.listed ≤ length (bytes_in folder span.name))) }
     ensures grows { OnlyGrow (L.folder logs.old) (L.folder logs.new) }
-    ensures ran { IfOk result (λ ran. IsExecuted (F.Sampled options limit) (L.folder logs.new) (λ asked rows. Holds (kind_of G.state G.ended) asked stage.old rows ran.outputs stage.new) (asked_by (files_for into) (wanted_text wanted moment.seconds) (query_of query.now)) spec.now moment.seconds (query_of query.now) spans.now ran.counts) }
+    ensures ran { IfOk result (λ ran. IsExecuted (F.Sampled options limit) waits (L.folder logs.new) (λ asked rows. Holds (kind_of G.state G.ended) asked stage.old rows ran.outputs stage.new) (asked_by (files_for into) (wanted_text wanted moment.seconds) (query_of query.now)) spec.now moment.seconds (query_of query.now) spans.now ran.counts) }
     ensures within { IfOk result (λ ran. IsWithin spec.now.errors ran.counts.bad) }
-    ensures stopped { OnErr result (IsStopped (F.Sampled options limit) (L.folder logs.new) (stage.new ≡ stage.old) (λ asked rows. Stops (kind_of G.state G.ended) asked stage.old rows stage.new) (asked_by (files_for into) (wanted_text wanted moment.seconds) (query_of query.now)) spec.now moment.seconds (query_of query.now) spans.now) }
-    ensures refused { IfRefused result (IsUnplacedRun (F.Sampled options limit) (L.folder logs.new) (asked_by (files_for into) (wanted_text wanted moment.seconds) (query_of query.now)) spec.now moment.seconds (query_of query.now) spans.now) }
-    ensures plan { IfPlan result (IsUnplanned (F.Sampled options limit) (L.folder logs.new) spec.now moment.seconds (query_of query.now) spans.now) }
-    ensures before { IfPlan result (λ fault. IsUntouched (F.Sampled options limit) (L.folder logs.new) (stage.new ≡ stage.old) spec.now spans.now) }
-    ensures parse { IfParse result (IsParseError (F.Sampled options limit) (L.folder logs.new) spec.now moment.seconds (query_of query.now) spans.now) }
+    ensures stopped { OnErr result (IsStopped (F.Sampled options limit) waits (L.folder logs.new) (stage.new ≡ stage.old) (λ asked rows. Stops (kind_of G.state G.ended) asked stage.old rows stage.new) (asked_by (files_for into) (wanted_text wanted moment.seconds) (query_of query.now)) spec.now moment.seconds (query_of query.now) spans.now) }
+    ensures refused { IfRefused result (IsUnplacedRun (F.Sampled options limit) waits (L.folder logs.new) (asked_by (files_for into) (wanted_text wanted moment.seconds) (query_of query.now)) spec.now moment.seconds (query_of query.now) spans.now) }
+    ensures plan { IfPlan result (IsUnplanned (F.Sampled options limit) waits (L.folder logs.new) spec.now moment.seconds (query_of query.now) spans.now) }
+    ensures before { IfPlan result (λ fault. IsUntouched (F.Sampled options limit) waits (L.folder logs.new) (stage.new ≡ stage.old) spec.now spans.now) }
+    ensures parse { IfParse result (IsParseError (F.Sampled options limit) waits (L.folder logs.new) spec.now moment.seconds (query_of query.now) spans.now) }
+    ensures took { IfOk result (λ ran. waits ≡ true → Told (L.folder logs.new) (λ folder. AreKept (delimited_lines options) true spans.now folder
+        → ran.took ≡ map (took_of (delimited_lines options) folder) spans.now)) }
     ensures given { L.given logs.new ≤ L.given logs.old + spans_size spans.now }
     ensures later_logs { L.faults logs.old ≤ L.faults logs.new }
     ensures logs { IsErrOf result RunFault.LogsFault → Rose (L.faults logs.old) (L.faults logs.new) }
@@ -76,7 +80,7 @@ pub(crate) fn execute_sampled<L: Logs, G: Stage>(
         into,
         query,
         most_bad(spec.errors),
-        false,
+        waits,
         logs,
         spans.as_slice(),
         &mut took,
@@ -85,6 +89,7 @@ pub(crate) fn execute_sampled<L: Logs, G: Stage>(
         Ok(run) => Ok(Ran {
             counts: run.counts,
             outputs: run.outputs,
+            took,
         }),
         Err(SampleFault::Plan(fault)) => Err(RunFault::Plan(fault)),
         Err(SampleFault::Bad { log, row }) => Err(RunFault::ParseErrors { log, row }),

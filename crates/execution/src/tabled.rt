@@ -1,14 +1,15 @@
 // A query over logs of a format that has a table.
-ghost use Rattle.std.specs.Prelude.{◌≡◌, ◌≤◌, ◌+◌, true, length, IfOk, OnErr, IsErrOf};
+ghost use Rattle.std.specs.Prelude.{◌≡◌, ◌≤◌, ◌+◌, true, length, map, IfOk, OnErr, IsErrOf};
 ghost use Rattle.lp_model.specs.Outside.{Rose, OnlyGrow, Told, bytes_in};
 ghost use Rattle.log_reading.specs.Page.{IsWithin};
-ghost use Rattle.log_reading.specs.Spans.{AllSpans, IsSpan, spans_size};
+ghost use Rattle.log_reading.specs.Spans.{AllSpans, AreKept, IsSpan, spans_size, took_of};
 ghost use Rattle.any_format.specs.Wanted.{wanted_text};
 ghost use Rattle.text_output.specs.Output.{kind_of};
 ghost use Rattle.row_output.specs.Rows.{Holds, Stops};
 ghost use Rattle.row_output.specs.Sinks.{IsUnplaced, files_for};
 ghost use Rattle.query_tree.specs.Views.{query_of};
 ghost use Rattle.query_types.specs.Built.{is_built};
+ghost use Rattle.input_tables.specs.Tables.{lines_of};
 ghost use Rattle.execution.specs.Executed.{IsExecuted, IsMoment, IsParseError, IsStopped, IsUnplanned, IsUntouched};
 ghost use Rattle.execution.specs.Executed.{IsUnplaced as IsUnplacedRun};
 ghost use Rattle.sampled_run.specs.Finishes.{asked_by};
@@ -51,6 +52,7 @@ pub(crate) fn execute_tabled<L: Logs, G: Stage>(
     moment: Moment,
     logs: &mut L,
     spans: &Spans,
+    waits: bool,
     wanted: Wanted,
     into: Into,
     stage: &mut G,
@@ -62,13 +64,15 @@ pub(crate) fn execute_tabled<L: Logs, G: Stage>(
     requires spans { AllSpans spans.now IsSpan }
     requires there { Told (L.folder logs.old) (λ folder. AllSpans spans.now (λ span. span.listed ≤ length (bytes_in folder span.name))) }
     ensures grows { OnlyGrow (L.folder logs.old) (L.folder logs.new) }
-    ensures ran { IfOk result (λ ran. IsExecuted (F.Tabled format) (L.folder logs.new) (λ asked rows. Holds (kind_of G.state G.ended) asked stage.old rows ran.outputs stage.new) (asked_by (files_for into) (wanted_text wanted moment.seconds) (query_of query.now)) spec.now moment.seconds (query_of query.now) spans.now ran.counts) }
+    ensures ran { IfOk result (λ ran. IsExecuted (F.Tabled format) waits (L.folder logs.new) (λ asked rows. Holds (kind_of G.state G.ended) asked stage.old rows ran.outputs stage.new) (asked_by (files_for into) (wanted_text wanted moment.seconds) (query_of query.now)) spec.now moment.seconds (query_of query.now) spans.now ran.counts) }
     ensures within { IfOk result (λ ran. IsWithin spec.now.errors ran.counts.bad) }
-    ensures stopped { OnErr result (IsStopped (F.Tabled format) (L.folder logs.new) (stage.new ≡ stage.old) (λ asked rows. Stops (kind_of G.state G.ended) asked stage.old rows stage.new) (asked_by (files_for into) (wanted_text wanted moment.seconds) (query_of query.now)) spec.now moment.seconds (query_of query.now) spans.now) }
-    ensures refused { IfRefused result (IsUnplacedRun (F.Tabled format) (L.folder logs.new) (asked_by (files_for into) (wanted_text wanted moment.seconds) (query_of query.now)) spec.now moment.seconds (query_of query.now) spans.now) }
-    ensures plan { IfPlan result (IsUnplanned (F.Tabled format) (L.folder logs.new) spec.now moment.seconds (query_of query.now) spans.now) }
-    ensures before { IfPlan result (λ fault. IsUntouched (F.Tabled format) (L.folder logs.new) (stage.new ≡ stage.old) spec.now spans.now) }
-    ensures parse { IfParse result (IsParseError (F.Tabled format) (L.folder logs.new) spec.now moment.seconds (query_of query.now) spans.now) }
+    ensures stopped { OnErr result (IsStopped (F.Tabled format) waits (L.folder logs.new) (stage.new ≡ stage.old) (λ asked rows. Stops (kind_of G.state G.ended) asked stage.old rows stage.new) (asked_by (files_for into) (wanted_text wanted moment.seconds) (query_of query.now)) spec.now moment.seconds (query_of query.now) spans.now) }
+    ensures refused { IfRefused result (IsUnplacedRun (F.Tabled format) waits (L.folder logs.new) (asked_by (files_for into) (wanted_text wanted moment.seconds) (query_of query.now)) spec.now moment.seconds (query_of query.now) spans.now) }
+    ensures plan { IfPlan result (IsUnplanned (F.Tabled format) waits (L.folder logs.new) spec.now moment.seconds (query_of query.now) spans.now) }
+    ensures before { IfPlan result (λ fault. IsUntouched (F.Tabled format) waits (L.folder logs.new) (stage.new ≡ stage.old) spec.now spans.now) }
+    ensures parse { IfParse result (IsParseError (F.Tabled format) waits (L.folder logs.new) spec.now moment.seconds (query_of query.now) spans.now) }
+    ensures took { IfOk result (λ ran. waits ≡ true → Told (L.folder logs.new) (λ folder. AreKept (lines_of format) true spans.now folder
+        → ran.took ≡ map (took_of (lines_of format) folder) spans.now)) }
     ensures given { L.given logs.new ≤ L.given logs.old + spans_size spans.now }
     ensures later_logs { L.faults logs.old ≤ L.faults logs.new }
     ensures logs { IsErrOf result RunFault.LogsFault → Rose (L.faults logs.old) (L.faults logs.new) }
@@ -89,7 +93,7 @@ pub(crate) fn execute_tabled<L: Logs, G: Stage>(
         format,
         output,
         plan,
-        false,
+        waits,
         logs,
         spans.as_slice(),
         most_bad(spec.errors),
@@ -99,6 +103,7 @@ pub(crate) fn execute_tabled<L: Logs, G: Stage>(
         Ok(run) => Ok(Ran {
             counts: run.counts,
             outputs: run.outputs,
+            took,
         }),
         Err(WriteFault::Memory) => Err(RunFault::Memory),
         Err(WriteFault::Logs) => Err(RunFault::LogsFault),

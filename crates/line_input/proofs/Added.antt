@@ -1,5 +1,6 @@
 -- What is added to a buffer, field by field.
-use Rattle.std.proofs.Common.{◌≡◌, ℕ, zero, suc, ◌<◌, List, [], ◌∷◌, ◌++◌, length, take, drop, get_or, flat_map, refl, ◌∙◌, ap, append_assoc, arith}
+use Rattle.std.proofs.Common.{◌≡◌, ℕ, zero, suc, ◌<◌, ◌^◌, ◌/◌, ◌%◌, List, [], ◌∷◌, ◌++◌, length, take, drop, get_or, flat_map, refl, ◌∙◌, ap, append_assoc, arith}
+use Rattle.std.specs.Int.{to_le_bytes, w16, w32}
 use Rattle.lp_model.specs.Outside.{GrowsIn}
 use Rattle.lp_model.proofs.Buffers.{grows_front, grows_later, grows_along}
 use Rattle.ledger_model.specs.Layouts.{spelled}
@@ -19,6 +20,21 @@ flat_at f (y ∷ ys) (suc i) x lt is = append_assoc (f y) (flat_map f (take i ys
 pub some_added : {X : Type 0} (f : X → List ℕ) (xs : List X) (i : ℕ) (x : X) (old mid new : List ℕ) → i < length xs → x ≡ get_or xs i x → mid ≡ old ++ flat_map f (take i xs) → GrowsIn mid new (f x) → GrowsIn old new (flat_map f xs)
 some_added f xs i x old mid new lt is so_far grows =
     grows_along old new _ _ (flat_at f xs i x lt is) (grows_later old mid new (flat_map f (take i xs)) (f x ++ flat_map f (drop (suc i) xs)) so_far (grows_front mid new (f x) (flat_map f (drop (suc i) xs)) grows))
+
+-- the low bits of a number
+pub low_word : (n : ℕ) → to_le_bytes w32 (n % 2 ^ 32) ≡ to_le_bytes w32 n
+low_word n =
+    let a : n % 4294967296 % 256 ≡ n % 256 = omega arith in
+    let b : n % 4294967296 / 256 % 256 ≡ n / 256 % 256 = omega arith in
+    let c : n % 4294967296 / 65536 % 256 ≡ n / 65536 % 256 = omega arith in
+    let d : n % 4294967296 / 16777216 % 256 ≡ n / 16777216 % 256 = omega arith in
+    λ i. a i ∷ (b i ∷ (c i ∷ (d i ∷ [])))
+
+pub low_half : (n : ℕ) → to_le_bytes w16 (n % 2 ^ 16) ≡ to_le_bytes w16 n
+low_half n =
+    let a : n % 65536 % 256 ≡ n % 256 = omega arith in
+    let b : n % 65536 / 256 % 256 ≡ n / 256 % 256 = omega arith in
+    λ i. a i ∷ (b i ∷ [])
 
 -- names as their layout has them
 pub names_flat : (before names : List (List ℕ)) → spelled name_item before names ≡ flat_map text_bytes names

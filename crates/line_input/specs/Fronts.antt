@@ -1,8 +1,7 @@
 -- What stands at the front of some bytes.
-use Rattle.std.specs.Prelude.{◌≡◌, ℕ, ◌<◌, ◌≤◌, ◌-◌, ◌^◌, List, ◌++◌, length, Option, Some, None}
+use Rattle.std.specs.Prelude.{◌≡◌, ℕ, ◌-◌, ◌^◌, List, ◌++◌}
 use Rattle.std.specs.Bool.{⊤}
-use Rattle.std.specs.List.{All}
-use Rattle.lp_model.specs.Reading.{Columns, Standing}
+use Rattle.lp_model.specs.Reading.{Standing}
 use Rattle.ledger_model.specs.Layouts.{Layout, whole}
 use Rattle.ledger_model.specs.Standings.{standing_layout}
 use Rattle.line_input.specs.declared.standing_bytes.StandingFault.{StandingFault}
@@ -21,11 +20,6 @@ pub record HasBreak {A : Type 0} (layout : Layout A) (bytes : List ℕ) : Type 0
 -- a standing with any number of lines
 abbrev pub any_standing : Layout Standing
 any_standing = standing_layout (2 ^ 64 - 1)
-
--- columns whose number and names fit their fields
-abbrev pub AreFew : Option Columns → Type 0
-AreFew None = ⊤
-AreFew (Some names) = (length names ≤ 1024) × All (λ name. length name < 2 ^ 32) names
 
 -- the first field that doesn't fit begins at this place of the bytes
 abbrev pub IsMalformed : List ℕ → StandingFault → Type 0

@@ -1,12 +1,12 @@
 // The bytes of a standing: its lines, and the columns in force.
-ghost use Rattle.std.specs.Prelude.{◌≡◌, ◌++◌, ◌∷◌, ◌<◌, ◌≤◌, ◌^◌, ℕ, List, [], length, map, flat_map, All, OnOk, OnErr, IfOk, IfErr, MatchOption, MatchResult};
+ghost use Rattle.std.specs.Prelude.{◌≡◌, ◌++◌, ◌∷◌, ◌<◌, ◌^◌, ℕ, List, [], length, map, flat_map, OnOk, OnErr, IfOk, IfErr, MatchOption, MatchResult};
 ghost use Rattle.std.specs.Str.{IsUtf8};
 ghost use Rattle.lp_model.specs.Outside.{GrowsIn};
 ghost use Rattle.lp_model.specs.Reading.{Standing as State};
 ghost use Rattle.ledger_model.specs.Layouts.{listed, field};
 ghost use Rattle.ledger_model.specs.Numbers.{number, u16_bytes, u32_bytes, u64_bytes, text_bytes, text_of};
 ghost use Rattle.ledger_model.specs.Standings.{names_layout, columns_bytes, columns_field};
-ghost use Rattle.line_input.specs.Fronts.{IsFront, HasBreak, any_standing, AreFew, IsMalformed};
+ghost use Rattle.line_input.specs.Fronts.{IsFront, HasBreak, any_standing, IsMalformed};
 
 use crate::Standing;
 use iis_fields::{Column, Columns};
@@ -34,20 +34,18 @@ pub enum StandingFault {
     Memory,
 }
 
-// Adds a text behind its length.
+// Adds a text behind the low 32 bits of its length.
 fn add_text(text: &str, to: &mut Bytes) -> Result<(), AllocError>
-    requires short { length text.now < 2 ^ 32 }
     ensures ok { OnOk result (to.new ≡ to.old ++ text_bytes text.now) }
     ensures err { OnErr result (GrowsIn to.old to.new (text_bytes text.now)) }
 {
-    let length = text.len() as u32;
+    let length = (text.len() as u64 % (1 << 32)) as u32;
     to.add(&length.to_le_bytes())?;
     to.add(text.as_bytes())
 }
 
 // Adds the names of columns.
 fn add_names(columns: &[Column], to: &mut Bytes) -> Result<(), AllocError>
-    requires short { All (λ name. length name < 2 ^ 32) columns.now }
     ensures ok { OnOk result (to.new ≡ to.old ++ flat_map text_bytes columns.now) }
     ensures err { OnErr result (GrowsIn to.old to.new (flat_map text_bytes columns.now)) }
 {
@@ -57,21 +55,18 @@ fn add_names(columns: &[Column], to: &mut Bytes) -> Result<(), AllocError>
     Ok(())
 }
 
-// Adds the columns in force behind their number.
+// Adds the columns in force behind the low 16 bits of their number.
 fn add_columns(columns: &[Column], to: &mut Bytes) -> Result<(), AllocError>
-    requires few { length columns.now ≤ 1024 }
-    requires short { All (λ name. length name < 2 ^ 32) columns.now }
     ensures ok { OnOk result (to.new ≡ to.old ++ names_layout.spell columns.now) }
     ensures err { OnErr result (GrowsIn to.old to.new (names_layout.spell columns.now)) }
 {
-    let count = columns.len() as u16;
+    let count = (columns.len() as u64 % (1 << 16)) as u16;
     to.add(&count.to_le_bytes())?;
     add_names(columns, to)
 }
 
 // Adds the columns in force, or their absence.
 fn add_in_force(columns: &Option<Columns>, to: &mut Bytes) -> Result<(), AllocError>
-    requires few { AreFew columns.now }
     ensures ok { OnOk result (to.new ≡ to.old ++ columns_bytes columns.now) }
     ensures err { OnErr result (GrowsIn to.old to.new (columns_bytes columns.now)) }
 {
@@ -194,7 +189,6 @@ fn take_columns(alloc: Global, bytes: &[u8]) -> Result<Option<(Option<Columns>, 
 impl Standing {
     /// Adds the bytes of the standing; after an `Err` some of them may be added.
     pub fn to_bytes(&self, to: &mut Bytes) -> Result<(), AllocError>
-        requires few { AreFew self.now.columns }
         ensures ok { OnOk result (to.new ≡ to.old ++ any_standing.spell self.now) }
         ensures err { OnErr result (GrowsIn to.old to.new (any_standing.spell self.now)) }
     {

@@ -86,16 +86,16 @@ unlisted_answers old new template spec moment q (ParseErrors log row) is same ro
 
 -- a query was run over whole logs
 pub whole : (old new : World) (mid : Option Folder) (template : Sections) (spec : Spec) (moment : ℤ) (q : model.Query) (spans : List Span) (counts : Counts) → AreSpans old.folder mid q spans → OnlyGrow mid new.folder
-    → IsExecuted (log_format spec q) new.folder (HasWritten old.held new.held) (asked_in spec template moment q spans) spec moment q spans counts → IsWithin spec.errors counts.bad → Tells old.err new.err (told_statistics spec.stats counts) (Rose old.err_faults new.err_faults) → IsWhole old new template spec moment q
+    → IsExecuted (log_format spec q) false new.folder (HasWritten old.held new.held) (asked_in spec template moment q spans) spec moment q spans counts → IsWithin spec.errors counts.bad → Tells old.err new.err (told_statistics spec.stats counts) (Rose old.err_faults new.err_faults) → IsWhole old new template spec moment q
 whole old new mid template spec moment q spans counts found grow ran within told = record {
   logs = found.logs;
   are_logs = logs_later old.folder mid new.folder q found.logs grow found.are_logs;
   counts = counts;
-  written = on_whole new.folder (log_format spec q) spec.ts_format found.logs spans (WritesSpans (log_format spec q) new.folder (HasWritten old.held new.held) (asked_in spec template moment q spans) spec moment q spans counts) (WritesAll new.folder old.held new.held template spec moment q found.logs counts) found.wholes
+  written = on_whole new.folder (log_format spec q) spec.ts_format found.logs spans (WritesSpans (log_format spec q) false new.folder (HasWritten old.held new.held) (asked_in spec template moment q spans) spec moment q spans counts) (WritesAll new.folder old.held new.held template spec moment q found.logs counts) found.wholes
       (λ table w. record {
         plan = w.plan;
         is_planned = w.is_planned;
-        written = whole_told new.folder (log_format spec q) found.logs spans (λ s folder. Writes (HasWritten old.held new.held) (asked_in spec template moment q s) spec (log_format spec q) w.plan s counts folder) found.wholes w.written;
+        written = whole_told new.folder (log_format spec q) found.logs spans (λ s folder. Writes (HasWritten old.held new.held) (asked_in spec template moment q s) spec (log_format spec q) false w.plan s counts folder) found.wholes w.written;
       })
       ran;
   within = within;
@@ -104,26 +104,26 @@ whole old new mid template spec moment q spans counts found grow ran within told
 
 -- a fact on the rows of a plan over spans
 rows_of : (told : Option Folder) (P : Asked → List Row → Type 0) (template : Sections) (spec : Spec) (moment : ℤ) (q : model.Query) (logs : List NameLength) (spans : List Span) (table : TableColumns) → spans ≡ whole_spans logs
-    → HoldsSpans (log_format spec q) told P (asked_in spec template moment q spans) spec moment q spans table → OnRows told P template spec moment q logs table
+    → HoldsSpans (log_format spec q) false told P (asked_in spec template moment q spans) spec moment q spans table → OnRows told P template spec moment q logs table
 rows_of told P template spec moment q logs spans table wholes h = record {
   plan = h.plan;
   is_planned = h.is_planned;
-  holds = whole_told told (log_format spec q) logs spans (λ s folder. P (asked_in spec template moment q s h.plan) (rows_in (log_format spec q) spec.ts_format h.plan folder s)) wholes h.front;
+  holds = whole_told told (log_format spec q) logs spans (λ s folder. P (asked_in spec template moment q s h.plan) (rows_in (log_format spec q) false spec.ts_format h.plan folder s)) wholes h.front;
 }
 
 -- nothing is written, or some of it
 front_of : (old new : World) (template : Sections) (spec : Spec) (moment : ℤ) (q : model.Query) (logs : List NameLength) (spans : List Span) (table : TableColumns) → spans ≡ whole_spans logs
-    → IsUnwritten old.held new.held ⊎ HoldsSpans (log_format spec q) new.folder (HasFront old.held new.held) (asked_in spec template moment q spans) spec moment q spans table → IsUnwritten old.held new.held ⊎ OnRows new.folder (HasFront old.held new.held) template spec moment q logs table
+    → IsUnwritten old.held new.held ⊎ HoldsSpans (log_format spec q) false new.folder (HasFront old.held new.held) (asked_in spec template moment q spans) spec moment q spans table → IsUnwritten old.held new.held ⊎ OnRows new.folder (HasFront old.held new.held) template spec moment q logs table
 front_of old new template spec moment q logs spans table wholes (inl same) = inl same
 front_of old new template spec moment q logs spans table wholes (inr front) = inr (rows_of new.folder (HasFront old.held new.held) template spec moment q logs spans table wholes front)
 
 -- the run stopped over these spans
 abbrev pub StopsOver : World → World → Sections → Spec → ℤ → model.Query → List Span → Type 0
-StopsOver old new template spec moment q spans = IsStoppedIn (log_format spec q) new.folder (IsUnwritten old.held new.held) (HasFront old.held new.held) (asked_in spec template moment q spans) spec moment q spans
+StopsOver old new template spec moment q spans = IsStoppedIn (log_format spec q) false new.folder (IsUnwritten old.held new.held) (HasFront old.held new.held) (asked_in spec template moment q spans) spec moment q spans
 
 stopped_front : (old new : World) (template : Sections) (spec : Spec) (moment : ℤ) (q : model.Query) (logs : List NameLength) (spans : List Span) → spans ≡ whole_spans logs → StopsOver old new template spec moment q spans → IsFront new.folder old.held new.held template spec moment q logs
 stopped_front old new template spec moment q logs spans wholes stop =
-    on_whole new.folder (log_format spec q) spec.ts_format logs spans (λ table. IsUnwritten old.held new.held ⊎ HoldsSpans (log_format spec q) new.folder (HasFront old.held new.held) (asked_in spec template moment q spans) spec moment q spans table)
+    on_whole new.folder (log_format spec q) spec.ts_format logs spans (λ table. IsUnwritten old.held new.held ⊎ HoldsSpans (log_format spec q) false new.folder (HasFront old.held new.held) (asked_in spec template moment q spans) spec moment q spans table)
     (λ table. IsUnwritten old.held new.held ⊎ OnRows new.folder (HasFront old.held new.held) template spec moment q logs table) wholes (λ table front. front_of old new template spec moment q logs spans table wholes front) stop
 
 -- it stopped
@@ -136,7 +136,7 @@ halted old new mid template spec moment q spans found grow stop = record {
 
 -- a bad line was one too many
 exceeded : (old new : World) (mid : Option Folder) (template : Sections) (spec : Spec) (moment : ℤ) (q : model.Query) (spans : List Span) (line : BadLine) → AreSpans old.folder mid q spans → OnlyGrow mid new.folder
-    → StopsOver old new template spec moment q spans → IsExceeded (log_format spec q) new.folder spec moment q spans line → IsParseError old.folder new.folder old.held new.held template spec moment q line
+    → StopsOver old new template spec moment q spans → IsExceeded (log_format spec q) false new.folder spec moment q spans line → IsParseError old.folder new.folder old.held new.held template spec moment q line
 exceeded old new mid template spec moment q spans line found grow stop e = record {
   logs = found.logs;
   are_logs = logs_later old.folder mid new.folder q found.logs grow found.are_logs;
@@ -147,11 +147,11 @@ exceeded old new mid template spec moment q spans line found grow stop e = recor
 
 -- an output was refused
 unplaced_is : (old new : World) (mid : Option Folder) (template : Sections) (spec : Spec) (moment : ℤ) (q : model.Query) (spans : List Span) (why : Refused) → AreSpans old.folder mid q spans → OnlyGrow mid new.folder
-    → StopsOver old new template spec moment q spans → IsUnplacedIn (log_format spec q) new.folder (asked_in spec template moment q spans) spec moment q spans why → IsUnplaced old.folder new.folder old.held new.held template spec moment q why
+    → StopsOver old new template spec moment q spans → IsUnplacedIn (log_format spec q) false new.folder (asked_in spec template moment q spans) spec moment q spans why → IsUnplaced old.folder new.folder old.held new.held template spec moment q why
 unplaced_is old new mid template spec moment q spans why found grow stop refused = record {
   logs = found.logs;
   are_logs = logs_later old.folder mid new.folder q found.logs grow found.are_logs;
-  refused = on_whole new.folder (log_format spec q) spec.ts_format found.logs spans (HoldsSpans (log_format spec q) new.folder (λ asked rows. IsRefusedRow asked rows why) (asked_in spec template moment q spans) spec moment q spans)
+  refused = on_whole new.folder (log_format spec q) spec.ts_format found.logs spans (HoldsSpans (log_format spec q) false new.folder (λ asked rows. IsRefusedRow asked rows why) (asked_in spec template moment q spans) spec moment q spans)
       (OnRows new.folder (λ asked rows. IsRefusedRow asked rows why) template spec moment q found.logs) found.wholes
       (λ table h. rows_of new.folder (λ asked rows. IsRefusedRow asked rows why) template spec moment q found.logs spans table found.wholes h) refused;
   front = stopped_front old new template spec moment q found.logs spans found.wholes stop;
@@ -170,7 +170,7 @@ failed_answers old new template spec moment q false into stop rose = (into, stop
 
 -- no plan was made
 unplanned : (old new : World) (mid : Option Folder) (spec : Spec) (moment : ℤ) (q : model.Query) (spans : List Span) (fault : TypeFault) → AreSpans old.folder mid q spans → OnlyGrow mid new.folder
-    → IsUnplannedIn (log_format spec q) new.folder spec moment q spans fault → IsUntouched (log_format spec q) new.folder (IsUnwritten old.held new.held) spec spans → IsUnplanned old.folder new.folder old.held new.held spec moment q fault
+    → IsUnplannedIn (log_format spec q) false new.folder spec moment q spans fault → IsUntouched (log_format spec q) false new.folder (IsUnwritten old.held new.held) spec spans → IsUnplanned old.folder new.folder old.held new.held spec moment q fault
 unplanned old new mid spec moment q spans fault found grow plan before = record {
   logs = found.logs;
   are_logs = logs_later old.folder mid new.folder q found.logs grow found.are_logs;
@@ -179,10 +179,10 @@ unplanned old new mid spec moment q spans fault found grow plan before = record 
 }
 
 pub stopped_answers : (old new : World) (mid : Option Folder) (template : Sections) (spec : Spec) (moment : ℤ) (q : model.Query) (spans : List Span) (standard : Bool) (fault : RunFault) → is_standard (into_in q) ≡ standard → AreSpans old.folder mid q spans → OnlyGrow mid new.folder
-    → StopsOver old new template spec moment q spans → IfPlan {T = Unit {0}} (Err fault) (IsUnplannedIn (log_format spec q) new.folder spec moment q spans)
-    → IfPlan {T = Unit {0}} (Err fault) (λ f. IsUntouched (log_format spec q) new.folder (IsUnwritten old.held new.held) spec spans)
-    → IfParse {T = Unit {0}} (Err fault) (IsExceeded (log_format spec q) new.folder spec moment q spans)
-    → IfRefused {T = Unit {0}} (Err fault) (IsUnplacedIn (log_format spec q) new.folder (asked_in spec template moment q spans) spec moment q spans)
+    → StopsOver old new template spec moment q spans → IfPlan {T = Unit {0}} (Err fault) (IsUnplannedIn (log_format spec q) false new.folder spec moment q spans)
+    → IfPlan {T = Unit {0}} (Err fault) (λ f. IsUntouched (log_format spec q) false new.folder (IsUnwritten old.held new.held) spec spans)
+    → IfParse {T = Unit {0}} (Err fault) (IsExceeded (log_format spec q) false new.folder spec moment q spans)
+    → IfRefused {T = Unit {0}} (Err fault) (IsUnplacedIn (log_format spec q) false new.folder (asked_in spec template moment q spans) spec moment q spans)
     → (fault ≡ X.LogsFault → Rose old.logs_faults new.logs_faults) → (fault ≡ X.StageFault → OutputRose standard (Rose old.disk_faults new.disk_faults) (Rose old.out_faults new.out_faults)) → AnswersRun old new template spec moment q (stopped standard fault)
 stopped_answers old new mid template spec moment q spans standard (X.Plan fault) into found grow stop plan before parse refused logs stage = unplanned old new mid spec moment q spans fault found grow plan before
 stopped_answers old new mid template spec moment q spans standard (X.Refused why) into found grow stop plan before parse refused logs stage = unplaced_answers old new template spec moment q why (unplaced_is old new mid template spec moment q spans why found grow stop refused)

@@ -1,5 +1,5 @@
 -- Files that hold the rows of a query, told as what each file holds.
-use Rattle.std.proofs.Common.{◌≡◌, ◌⊎◌, inl, inr, ◌<◌, ◌≤◌, ◌+◌, ◌^◌, ◌==◌, ℕ, Bool, true, false, true≢false, ◌||◌, List, [], ◌∷◌, ◌++◌, length, map, take, drop, All, refl, sym, ◌∙◌, ap, subst, arith, length-append, take-append-drop}
+use Rattle.std.proofs.Common.{◌≡◌, ◌⊎◌, inl, inr, ◌≤◌, ◌+◌, ◌==◌, ℕ, Bool, true, false, true≢false, ◌||◌, List, [], ◌∷◌, ◌++◌, length, map, take, drop, All, refl, sym, ◌∙◌, ap, subst, arith, take-append-drop}
 use Rattle.std.specs.Prelude.{bytes_eq}
 use Rattle.std.proofs.lemmas.List.{append-nil, take_all}
 use Rattle.std.proofs.lemmas.List.Elements.{All-nil, All-cons, All-head, All-tail}
@@ -74,14 +74,12 @@ after_is M.LeaveAlone text rows (byte ∷ old) base is = absurd (omega (arith, i
 
 put_after : {D : Type 0} (state : D → DiskState) (files : Files) (text : OutputText) (count index : ℕ) (start now : FileStage D) (rows : OutputRows) (output : Output) → AlwaysTells state
     → IsPut (file_kind state) files text index start now rows output → Front state count start now (opened_of output) → IsAfter files text (seen_by state start) (seen_by state now) rows
-put_after state files text count index start now rows output always put front short =
+put_after state files text count index start now rows output always put front =
     let old : List ℕ = seen_by state start rows.name in
     let at = begins_at state files.mode start rows.name output.base always put.base in
     let within = within_file files.mode old output.base at in
     let is = after_is files.mode text rows.rows old output.base at in
-    let size = length-append (take output.base old) (text (output.base == 0) rows.rows) in
-    let low : length (text (output.base == 0) rows.rows) < 2 ^ 64 = omega (arith, ap length is, size, short) in
-    let there = put.stands (always start.disk.now) low in
+    let there = put.stands (always start.disk.now) in
     let kept : (name : List ℕ) → output.name ≡ name → output.base ≤ length (seen_by state start name) → IsThere (seen_by state now name) 0 output.base (take output.base (seen_by state start name)) =
     λ name same. subst (λ (n : List ℕ). output.base ≤ length (seen_by state start n) → IsThere (seen_by state now n) 0 output.base (take output.base (seen_by state start n))) same
     (λ most. front (always start.disk.now) count 0 (mark_at output.base) (take output.base (seen_by state start output.name)) (omega arith) (omega arith) (front_is_text (seen_by state start output.name) output.base most)) in
@@ -142,11 +140,11 @@ each_after state files text count index start now [] [] always alone are fronts 
 each_after state files text count index start now [] (output ∷ outputs) always alone are fronts = absurd are
 each_after state files text count index start now (r ∷ rows) [] always alone are fronts =
     All-cons (IsAfter files text (seen_by state start) (seen_by state now)) r rows
-    (λ short. alone_after state files.mode text r.rows start r.name (seen_by state now r.name) always are.0 (alone r.name are.0))
+    (alone_after state files.mode text r.rows start r.name (seen_by state now r.name) always are.0 (alone r.name are.0))
     (each_after state files text count index start now rows [] always alone are.1 fronts)
 each_after state files text count index start now (r ∷ rows) (output ∷ outputs) always alone (inl (left, more)) fronts =
     All-cons (IsAfter files text (seen_by state start) (seen_by state now)) r rows
-    (λ short. alone_after state files.mode text r.rows start r.name (seen_by state now r.name) always left (alone r.name left))
+    (alone_after state files.mode text r.rows start r.name (seen_by state now r.name) always left (alone r.name left))
     (each_after state files text count index start now rows (output ∷ outputs) always alone more fronts)
 each_after state files text count index start now (r ∷ rows) (output ∷ outputs) always alone (inr (put, more)) fronts =
     All-cons (IsAfter files text (seen_by state start) (seen_by state now)) r rows

@@ -1,5 +1,5 @@
 -- What a query writes, told in other words.
-use Rattle.std.proofs.Common.{◌⊎◌, ℕ, ℤ, false, List, Option, Some, None, Result, Ok, Err, IfOk, OnErr, inl, inr}
+use Rattle.std.proofs.Common.{◌⊎◌, ℕ, ℤ, Bool, List, Option, Some, None, Result, Ok, Err, IfOk, OnErr, inl, inr}
 use Rattle.grammar.specs.Trees as model
 use Rattle.lp_model.specs.Outside.{Folder, Told}
 use Rattle.lp_time.specs.declared.piece.Piece.{Piece}
@@ -24,44 +24,44 @@ told_map : (told : Option Folder) (P Q : Folder → Type 0) → ((folder : Folde
 told_map None P Q so p = tt
 told_map (Some folder) P Q so p = so folder p
 
-on_table_map : (format : LogFormat) (pattern : List Piece) (told : Option Folder) (spans : List Span) (P Q : TableColumns → Type 0) → ((table : TableColumns) → P table → Q table) → OnTable format pattern told spans P → OnTable format pattern told spans Q
-on_table_map (F.Tabled format) pattern told spans P Q so p = so _ p
-on_table_map (F.Sampled options limit) pattern None spans P Q so p = tt
-on_table_map (F.Sampled options limit) pattern (Some folder) spans P Q so p = λ kept. so _ (p kept)
+on_table_map : (format : LogFormat) (waits : Bool) (pattern : List Piece) (told : Option Folder) (spans : List Span) (P Q : TableColumns → Type 0) → ((table : TableColumns) → P table → Q table) → OnTable format waits pattern told spans P → OnTable format waits pattern told spans Q
+on_table_map (F.Tabled format) waits pattern told spans P Q so p = so _ p
+on_table_map (F.Sampled options limit) waits pattern None spans P Q so p = tt
+on_table_map (F.Sampled options limit) waits pattern (Some folder) spans P Q so p = λ kept. so _ (p kept)
 
 -- what is so of what is asked of a plan's rows
 abbrev pub Follows : (Asked → List Row → Type 0) → (Asked → List Row → Type 0) → (Planned → Asked) → Type 0
 Follows Has Other asked = (plan : Planned) (rows : List Row) → Has (asked plan) rows → Other (asked plan) rows
 
-pub executed_map : (format : LogFormat) (told : Option Folder) (Has Other : Asked → List Row → Type 0) (asked : Planned → Asked) (spec : Spec) (moment : ℤ) (q : model.Query) (spans : List Span) (counts : Counts) → Follows Has Other asked
-    → IsExecuted format told Has asked spec moment q spans counts → IsExecuted format told Other asked spec moment q spans counts
-executed_map format told Has Other asked spec moment q spans counts so ran =
-    on_table_map format spec.ts_format told spans (WritesAll format told Has asked spec moment q spans counts) (WritesAll format told Other asked spec moment q spans counts)
+pub executed_map : (format : LogFormat) (waits : Bool) (told : Option Folder) (Has Other : Asked → List Row → Type 0) (asked : Planned → Asked) (spec : Spec) (moment : ℤ) (q : model.Query) (spans : List Span) (counts : Counts) → Follows Has Other asked
+    → IsExecuted format waits told Has asked spec moment q spans counts → IsExecuted format waits told Other asked spec moment q spans counts
+executed_map format waits told Has Other asked spec moment q spans counts so ran =
+    on_table_map format waits spec.ts_format told spans (WritesAll format waits told Has asked spec moment q spans counts) (WritesAll format waits told Other asked spec moment q spans counts)
     (λ table w. record {
       plan = w.plan;
       is_planned = w.is_planned;
-      written = told_map told (λ folder. AreKept (lines_in format) false spans folder → Writes Has asked spec format w.plan spans counts folder) (λ folder. AreKept (lines_in format) false spans folder → Writes Other asked spec format w.plan spans counts folder)
-          (λ folder f kept. let r = f kept in record { has = so w.plan (rows_in format spec.ts_format w.plan folder spans) r.has; processed = r.processed; output = r.output; bad = r.bad }) w.written;
+      written = told_map told (λ folder. AreKept (lines_in format) waits spans folder → Writes Has asked spec format waits w.plan spans counts folder) (λ folder. AreKept (lines_in format) waits spans folder → Writes Other asked spec format waits w.plan spans counts folder)
+          (λ folder f kept. let r = f kept in record { has = so w.plan (rows_in format waits spec.ts_format w.plan folder spans) r.has; processed = r.processed; output = r.output; bad = r.bad }) w.written;
     }) ran
 
-front_map : (format : LogFormat) (told : Option Folder) (Nothing None' : Type 0) (Front Other : Asked → List Row → Type 0) (asked : Planned → Asked) (spec : Spec) (moment : ℤ) (q : model.Query) (spans : List Span) (table : TableColumns) → (Nothing → None') → Follows Front Other asked
-    → Nothing ⊎ HoldsFront format told Front asked spec moment q spans table → None' ⊎ HoldsFront format told Other asked spec moment q spans table
-front_map format told Nothing None' Front Other asked spec moment q spans table none so (inl nothing) = inl (none nothing)
-front_map format told Nothing None' Front Other asked spec moment q spans table none so (inr holds) = inr (record {
+front_map : (format : LogFormat) (waits : Bool) (told : Option Folder) (Nothing None' : Type 0) (Front Other : Asked → List Row → Type 0) (asked : Planned → Asked) (spec : Spec) (moment : ℤ) (q : model.Query) (spans : List Span) (table : TableColumns) → (Nothing → None') → Follows Front Other asked
+    → Nothing ⊎ HoldsFront format waits told Front asked spec moment q spans table → None' ⊎ HoldsFront format waits told Other asked spec moment q spans table
+front_map format waits told Nothing None' Front Other asked spec moment q spans table none so (inl nothing) = inl (none nothing)
+front_map format waits told Nothing None' Front Other asked spec moment q spans table none so (inr holds) = inr (record {
   plan = holds.plan;
   is_planned = holds.is_planned;
-  front = told_map told (λ folder. AreKept (lines_in format) false spans folder → Front (asked holds.plan) (rows_in format spec.ts_format holds.plan folder spans)) (λ folder. AreKept (lines_in format) false spans folder → Other (asked holds.plan) (rows_in format spec.ts_format holds.plan folder spans))
-      (λ folder f kept. so holds.plan (rows_in format spec.ts_format holds.plan folder spans) (f kept)) holds.front;
+  front = told_map told (λ folder. AreKept (lines_in format) waits spans folder → Front (asked holds.plan) (rows_in format waits spec.ts_format holds.plan folder spans)) (λ folder. AreKept (lines_in format) waits spans folder → Other (asked holds.plan) (rows_in format waits spec.ts_format holds.plan folder spans))
+      (λ folder f kept. so holds.plan (rows_in format waits spec.ts_format holds.plan folder spans) (f kept)) holds.front;
 })
 
-pub stopped_map : (format : LogFormat) (told : Option Folder) (Nothing None' : Type 0) (Front Other : Asked → List Row → Type 0) (asked : Planned → Asked) (spec : Spec) (moment : ℤ) (q : model.Query) (spans : List Span) → (Nothing → None') → Follows Front Other asked
-    → IsStopped format told Nothing Front asked spec moment q spans → IsStopped format told None' Other asked spec moment q spans
-stopped_map format told Nothing None' Front Other asked spec moment q spans none so stop =
-    on_table_map format spec.ts_format told spans (λ table. Nothing ⊎ HoldsFront format told Front asked spec moment q spans table) (λ table. None' ⊎ HoldsFront format told Other asked spec moment q spans table)
-    (λ table front. front_map format told Nothing None' Front Other asked spec moment q spans table none so front) stop
+pub stopped_map : (format : LogFormat) (waits : Bool) (told : Option Folder) (Nothing None' : Type 0) (Front Other : Asked → List Row → Type 0) (asked : Planned → Asked) (spec : Spec) (moment : ℤ) (q : model.Query) (spans : List Span) → (Nothing → None') → Follows Front Other asked
+    → IsStopped format waits told Nothing Front asked spec moment q spans → IsStopped format waits told None' Other asked spec moment q spans
+stopped_map format waits told Nothing None' Front Other asked spec moment q spans none so stop =
+    on_table_map format waits spec.ts_format told spans (λ table. Nothing ⊎ HoldsFront format waits told Front asked spec moment q spans table) (λ table. None' ⊎ HoldsFront format waits told Other asked spec moment q spans table)
+    (λ table front. front_map format waits told Nothing None' Front Other asked spec moment q spans table none so front) stop
 
-pub untouched_map : (format : LogFormat) (told : Option Folder) (Nothing None' : Type 0) (spec : Spec) (spans : List Span) → (Nothing → None') → IsUntouched format told Nothing spec spans → IsUntouched format told None' spec spans
-untouched_map format told Nothing None' spec spans none is = on_table_map format spec.ts_format told spans (λ table. Nothing) (λ table. None') (λ table nothing. none nothing) is
+pub untouched_map : (format : LogFormat) (waits : Bool) (told : Option Folder) (Nothing None' : Type 0) (spec : Spec) (spans : List Span) → (Nothing → None') → IsUntouched format waits told Nothing spec spans → IsUntouched format waits told None' spec spans
+untouched_map format waits told Nothing None' spec spans none is = on_table_map format waits spec.ts_format told spans (λ table. Nothing) (λ table. None') (λ table nothing. none nothing) is
 
 pub if_plan_map : {T : Type 0} (r : Result T RunFault) (P Q : TypeFault → Type 0) → ((fault : TypeFault) → P fault → Q fault) → IfPlan r P → IfPlan r Q
 if_plan_map (Ok value) P Q so p = tt

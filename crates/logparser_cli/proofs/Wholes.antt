@@ -58,12 +58,12 @@ whole_told (Some folder) format logs spans P wholes h =
 
 -- the same of the table of a run
 pub on_whole : (told : Option Folder) (format : LogFormat) (pattern : List Piece) (logs : List NameLength) (spans : List Span) (P Q : TableColumns → Type 0) → spans ≡ whole_spans logs
-    → ((table : TableColumns) → P table → Q table) → OnTable format pattern told spans P → OnWhole format pattern told logs Q
+    → ((table : TableColumns) → P table → Q table) → OnTable format false pattern told spans P → OnWhole format pattern told logs Q
 on_whole told (F.Tabled format) pattern logs spans P Q wholes so h = so (table_of format) h
 on_whole None (F.Sampled options limit) pattern logs spans P Q wholes so h = tt
 on_whole (Some folder) (F.Sampled options limit) pattern logs spans P Q wholes so h =
-    subst (λ (s : List Span). Q (told_table options limit pattern folder s)) wholes
-    (so (told_table options limit pattern folder spans) (h (kept_of (F.Sampled options limit) folder logs spans wholes)))
+    subst (λ (s : List Span). Q (told_table options false limit pattern folder s)) wholes
+    (so (told_table options false limit pattern folder spans) (h (kept_of (F.Sampled options limit) folder logs spans wholes)))
 
 least_earlier : (before mid : Option Folder) (log : NameLength) → OnlyGrow before mid → Told mid (λ files. length (bytes_in files log.name) ≤ log.length) → Told before (λ files. length (bytes_in files log.name) ≤ log.length)
 least_earlier None mid log grow least = tt

@@ -1,5 +1,5 @@
 -- What the files of outputs hold behind a run, by what they held before.
-use Rattle.std.specs.Prelude.{◌≡◌, ◌<◌, ◌^◌, ℕ, true, false, List, [], ◌∷◌, ◌++◌, ◌==◌, length, All, ⊤}
+use Rattle.std.specs.Prelude.{◌≡◌, ℕ, true, false, List, [], ◌∷◌, ◌++◌, ◌==◌, length, All, ⊤}
 use Rattle.disk_model.specs.Disk.{Files as Contents}
 use Rattle.lp_model.specs.Outside.{Begins}
 use Rattle.command_words.specs.declared.modes.FileMode.{FileMode}
@@ -16,10 +16,9 @@ file_after M.Overwrite text rows old = text true rows
 file_after M.LeaveAlone text rows [] = text true rows
 file_after M.LeaveAlone text rows (byte ∷ old) = byte ∷ old
 
--- that is so of the file of an output, as far as lengths below 2^64 go
+-- that is so of the file of an output
 abbrev pub IsAfter : Files → OutputText → Contents → Contents → OutputRows → Type 0
-IsAfter files text before now output = length (file_after files.mode text output.rows (before output.name)) < 2 ^ 64
-    → now output.name ≡ file_after files.mode text output.rows (before output.name)
+IsAfter files text before now output = now output.name ≡ file_after files.mode text output.rows (before output.name)
 
 -- Each file of an output has the text of its rows, and no other file changed.
 pub record AreWritten (files : Files) (text : OutputText) (rows : List Row) (before now : Contents) : Type 0 where

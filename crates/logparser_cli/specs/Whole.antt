@@ -27,10 +27,12 @@ use Rattle.tpl_output.specs.Sections.{Sections}
 use Rattle.logparser_cli.specs.Logs.{AreLogs}
 use Rattle.logparser_cli.specs.Outputs.{Held, World, IsUnwritten, HasWritten, HasFront}
 
+-- Without a checkpoint a last line without LF is a line too: no line waits, which `false` says below.
+
 -- a fact on the table of a run over whole logs; one that the logs tell is known where these tell their bytes
 abbrev pub OnWhole : LogFormat → List Piece → Option Folder → List NameLength → (TableColumns → Type 0) → Type 0
 OnWhole (F.Tabled format) pattern told logs P = P (table_of format)
-OnWhole (F.Sampled options limit) pattern told logs P = Told told (λ folder. P (told_table options limit pattern folder (whole_spans logs)))
+OnWhole (F.Sampled options limit) pattern told logs P = Told told (λ folder. P (told_table options false limit pattern folder (whole_spans logs)))
 
 -- an output gains a text, or the front of it where its faults rose
 abbrev pub Tells : Option (List ℕ) → Option (List ℕ) → List ℕ → Type 0 → Type 0
@@ -45,7 +47,7 @@ told_statistics false counts = []
 pub record WritesAll (told : Option Folder) (old new : Held) (template : Sections) (spec : Spec) (moment : ℤ) (q : model.Query) (logs : List NameLength) (counts : Counts) (table : TableColumns) : Type 0 where
   pub plan : Planned
   pub is_planned : plan_of table moment q ≡ Ok plan
-  pub written : Told told (Writes (HasWritten old new) (asked_in spec template moment q (whole_spans logs)) spec (log_format spec q) plan (whole_spans logs) counts)
+  pub written : Told told (Writes (HasWritten old new) (asked_in spec template moment q (whole_spans logs)) spec (log_format spec q) false plan (whole_spans logs) counts)
 
 -- a whole run: what the query leaves of its rows over the whole logs is written, and `err` has gained the statistics; of bad
 -- lines there were no more than there may be
@@ -61,7 +63,7 @@ pub record IsWhole (old new : World) (template : Sections) (spec : Spec) (moment
 pub record OnRows (told : Option Folder) (P : Asked → List Row → Type 0) (template : Sections) (spec : Spec) (moment : ℤ) (q : model.Query) (logs : List NameLength) (table : TableColumns) : Type 0 where
   pub plan : Planned
   pub is_planned : plan_of table moment q ≡ Ok plan
-  pub holds : Told told (λ folder. P (asked_in spec template moment q (whole_spans logs) plan) (rows_in (log_format spec q) spec.ts_format plan folder (whole_spans logs)))
+  pub holds : Told told (λ folder. P (asked_in spec template moment q (whole_spans logs) plan) (rows_in (log_format spec q) false spec.ts_format plan folder (whole_spans logs)))
 
 -- nothing was written, or some of it
 abbrev pub IsFront : Option Folder → Held → Held → Sections → Spec → ℤ → model.Query → List NameLength → Type 0

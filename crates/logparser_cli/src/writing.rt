@@ -1,5 +1,5 @@
 // The rows of a query to standard output, or to files.
-ghost use Rattle.std.specs.Prelude.{◌≡◌, ◌≤◌, ◌+◌, true, length, IfOk, IsSome, OnErr, IsErrOf};
+ghost use Rattle.std.specs.Prelude.{◌≡◌, ◌≤◌, ◌+◌, true, false, length, IfOk, IsSome, OnErr, IsErrOf};
 ghost use Rattle.lp_model.specs.Outside.{Rose, OnlyGrow, Told, bytes_in};
 ghost use Rattle.command_words.specs.Table.{IsInRange};
 ghost use Rattle.command_words.specs.declared.formats.OutputFormat.TheVariants as O;
@@ -46,13 +46,13 @@ pub(crate) fn write_rows<L: Logs, D: Disk, I: Source, S: Sink>(
     requires spans { AllSpans spans.now IsSpan }
     requires there { Told (L.folder logs.old) (λ folder. AllSpans spans.now (λ span. span.listed ≤ length (bytes_in folder span.name))) }
     ensures grows { OnlyGrow (L.folder logs.old) (L.folder logs.new) }
-    ensures ran { IfOk result (λ ran. IsExecuted (log_format spec.now (query_of query.now)) (L.folder logs.new) (HasWritten (held (AlwaysTells D.state) (D.state disk.old).seen (S.written out.old)) (held (AlwaysTells D.state) (D.state disk.new).seen (S.written out.new))) (asked_in spec.now (sections_in (λ t. t.value) template) moment (query_of query.now) spans.now) spec.now moment (query_of query.now) spans.now ran.counts) }
+    ensures ran { IfOk result (λ ran. IsExecuted (log_format spec.now (query_of query.now)) false (L.folder logs.new) (HasWritten (held (AlwaysTells D.state) (D.state disk.old).seen (S.written out.old)) (held (AlwaysTells D.state) (D.state disk.new).seen (S.written out.new))) (asked_in spec.now (sections_in (λ t. t.value) template) moment (query_of query.now) spans.now) spec.now moment (query_of query.now) spans.now ran.counts) }
     ensures within { IfOk result (λ ran. IsWithin spec.now.errors ran.counts.bad) }
-    ensures stopped { OnErr result (IsStopped (log_format spec.now (query_of query.now)) (L.folder logs.new) (IsUnwritten (held (AlwaysTells D.state) (D.state disk.old).seen (S.written out.old)) (held (AlwaysTells D.state) (D.state disk.new).seen (S.written out.new))) (HasFront (held (AlwaysTells D.state) (D.state disk.old).seen (S.written out.old)) (held (AlwaysTells D.state) (D.state disk.new).seen (S.written out.new))) (asked_in spec.now (sections_in (λ t. t.value) template) moment (query_of query.now) spans.now) spec.now moment (query_of query.now) spans.now) }
-    ensures refused { IfRefused result (IsUnplaced (log_format spec.now (query_of query.now)) (L.folder logs.new) (asked_in spec.now (sections_in (λ t. t.value) template) moment (query_of query.now) spans.now) spec.now moment (query_of query.now) spans.now) }
-    ensures plan { IfPlan result (IsUnplanned (log_format spec.now (query_of query.now)) (L.folder logs.new) spec.now moment (query_of query.now) spans.now) }
-    ensures before { IfPlan result (λ fault. IsUntouched (log_format spec.now (query_of query.now)) (L.folder logs.new) (IsUnwritten (held (AlwaysTells D.state) (D.state disk.old).seen (S.written out.old)) (held (AlwaysTells D.state) (D.state disk.new).seen (S.written out.new))) spec.now spans.now) }
-    ensures parse { IfParse result (IsParseError (log_format spec.now (query_of query.now)) (L.folder logs.new) spec.now moment (query_of query.now) spans.now) }
+    ensures stopped { OnErr result (IsStopped (log_format spec.now (query_of query.now)) false (L.folder logs.new) (IsUnwritten (held (AlwaysTells D.state) (D.state disk.old).seen (S.written out.old)) (held (AlwaysTells D.state) (D.state disk.new).seen (S.written out.new))) (HasFront (held (AlwaysTells D.state) (D.state disk.old).seen (S.written out.old)) (held (AlwaysTells D.state) (D.state disk.new).seen (S.written out.new))) (asked_in spec.now (sections_in (λ t. t.value) template) moment (query_of query.now) spans.now) spec.now moment (query_of query.now) spans.now) }
+    ensures refused { IfRefused result (IsUnplaced (log_format spec.now (query_of query.now)) false (L.folder logs.new) (asked_in spec.now (sections_in (λ t. t.value) template) moment (query_of query.now) spans.now) spec.now moment (query_of query.now) spans.now) }
+    ensures plan { IfPlan result (IsUnplanned (log_format spec.now (query_of query.now)) false (L.folder logs.new) spec.now moment (query_of query.now) spans.now) }
+    ensures before { IfPlan result (λ fault. IsUntouched (log_format spec.now (query_of query.now)) false (L.folder logs.new) (IsUnwritten (held (AlwaysTells D.state) (D.state disk.old).seen (S.written out.old)) (held (AlwaysTells D.state) (D.state disk.new).seen (S.written out.new))) spec.now spans.now) }
+    ensures parse { IfParse result (IsParseError (log_format spec.now (query_of query.now)) false (L.folder logs.new) spec.now moment (query_of query.now) spans.now) }
     ensures input { input.new ≡ input.old }
     ensures given { L.given logs.new ≤ L.given logs.old + spans_size spans.now }
     ensures later_logs { L.faults logs.old ≤ L.faults logs.new }
@@ -62,13 +62,14 @@ pub(crate) fn write_rows<L: Logs, D: Disk, I: Source, S: Sink>(
     ensures later_out { S.faults out.old ≤ S.faults out.new }
     ensures failed { IsErrOf result RunFault.StageFault → OutputRose (is_standard (into_in (query_of query.now))) (Rose (D.faults disk.old) (D.faults disk.new)) (Rose (S.faults out.old) (S.faults out.new)) }
 {
+    // without a checkpoint a last line without LF is a line too, so none waits
     if is_standard(query) {
         return execute(
-            alloc, spec, query, template, moment, logs, input, spans, out,
+            alloc, spec, query, template, moment, logs, input, spans, false, out,
         );
     }
     let mut stage = FileStage::new(disk);
     execute(
-        alloc, spec, query, template, moment, logs, input, spans, &mut stage,
+        alloc, spec, query, template, moment, logs, input, spans, false, &mut stage,
     )
 }

@@ -22,26 +22,19 @@ gained_on a b c output name base from at to one two f s =
     let both = length-append one two in
     record {
       tells = λ tells. s.tells (f.tells tells);
-      staged = λ tells less was is.
-          let low : from.length + length one < 2 ^ 64 = omega (arith, less, both) in
-          let mid : at.length ≡ from.length + length one = f.length_is ∙ small (from.length + length one) low in
-          subst (λ (t : List ℕ). c.is_text output name base to t) (append_assoc was one two)
-          (s.staged (f.tells tells) (omega (arith, mid, less, both)) (was ++ one) (f.staged tells low was is));
+      staged = λ tells was is. subst (λ (t : List ℕ). c.is_text output name base to t) (append_assoc was one two) (s.staged (f.tells tells) (was ++ one) (f.staged tells was is));
       streamed = λ standard. Gains_trans a.written b.written c.written one two (f.streamed standard) (s.streamed standard);
       counted = counts_on a.taken b.taken c.taken one two f.counted s.counted;
       length_is =
           s.length_is ∙ ap (λ (n : ℕ). (n + length two) % 2 ^ 64) f.length_is ∙ mod_twice (from.length + length one) (length two)
           ∙ ap (λ (n : ℕ). n % 2 ^ 64) (omega (arith, both));
     }
-  where
-    small : (n : ℕ) → n < 2 ^ 64 → n % 2 ^ 64 ≡ n
-    small n less = omega (arith, less)
 
 -- nothing is gained over no calls
 pub gained_nothing : (a : StageState) (output : ℕ) (name : List ℕ) (base : ℕ) (mark : Mark) → mark.length < 2 ^ 64 → Gained output name base mark mark [] a a
 gained_nothing a output name base mark fits = record {
   tells = λ tells. tells;
-  staged = λ tells less was is. subst (λ (t : List ℕ). a.is_text output name base mark t) (append-nil was) is;
+  staged = λ tells was is. subst (λ (t : List ℕ). a.is_text output name base mark t) (append-nil was) is;
   streamed = λ standard. Gains_nothing a.written;
   counted = counts_nothing a.taken;
   length_is = omega (arith, fits);

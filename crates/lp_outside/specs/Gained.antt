@@ -10,9 +10,9 @@ standard_output = codes "STDOUT"
 
 -- The output of this index, name and base has gained this text since before, from one mark up to another.
 pub record Gained (output : ℕ) (name : List ℕ) (base : ℕ) (from to : Mark) (text : List ℕ) (before now : StageState) : Type 0 where
-  -- A stage has it behind what stood up to the first mark, as far as lengths below 2^64 go.
+  -- A stage has it behind what stood up to the first mark.
   pub tells : before.tells → now.tells
-  pub staged : before.tells → from.length + length text < 2 ^ 64 → (was : List ℕ) → before.is_text output name base from was → now.is_text output name base to (was ++ text)
+  pub staged : before.tells → (was : List ℕ) → before.is_text output name base from was → now.is_text output name base to (was ++ text)
   -- A stream has written it, and nothing else; its one output has the name of standard output.
   pub streamed : name ≡ standard_output → Gains before.written now.written text
   pub counted : now.taken ≡ option_map (λ count. count + length text) before.taken

@@ -29,11 +29,6 @@ abbrev pub KeepsOthers : ℕ → List ℕ → StageState → StageState → Type
 KeepsOthers index called before now = (output : ℕ) (name : List ℕ) (base : ℕ) (mark : Mark) (text : List ℕ) → output ≢ index → name ≢ called
     → before.is_text output name base mark text → now.is_text output name base mark text
 
--- the text at the new mark is the one at the old mark with these bytes behind it, as far as lengths below 2^64 go
-pub record AddsText (output : ℕ) (name : List ℕ) (base : ℕ) (old new : Mark) (bytes : List ℕ) (before now : StageState) : Type 0 where
-  pub tells : now.tells
-  pub added : old.length + length bytes < 2 ^ 64 → (text : List ℕ) → before.is_text output name base old text → now.is_text output name base new (text ++ bytes)
-
 -- the text at the mark, and all texts of another name, stay
 pub record KeepsClosed (called : List ℕ) (base : ℕ) (mark : Mark) (before now : StageState) : Type 0 where
   pub closed : (output : ℕ) (text : List ℕ) → before.is_text output called base mark text → now.is_text output called base mark text

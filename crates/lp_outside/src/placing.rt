@@ -1,5 +1,5 @@
 // A whole text to an output.
-ghost use Rattle.std.specs.Prelude.{◌≡◌, ◌≢◌, ◌+◌, ◌<◌, ◌≤◌, ◌^◌, ℕ, List, length, OnErr, IfOk};
+ghost use Rattle.std.specs.Prelude.{◌≡◌, ◌≢◌, ◌≤◌, ◌^◌, OnErr, IfOk};
 ghost use Rattle.lp_model.specs.Outside.{HasCause};
 ghost use Rattle.lp_outside.specs.declared.stage.Mark.{Mark};
 ghost use Rattle.lp_outside.specs.Stages.{no_mark};
@@ -26,7 +26,7 @@ pub fn place_text<G: Stage>(
     ensures low { IfOk result (λ placed. placed.base ≤ 2 ^ 62) }
     // The output has gained the text from its first byte on, and has it.
     ensures written { IfOk result (λ placed. Gained output name.now placed.base no_mark placed.mark text.now (G.state stage.old) (G.state stage.new)) }
-    ensures has { IfOk result (λ placed. (G.state stage.old).tells → length text.now < 2 ^ 64 → HasText output name.now placed.base placed.mark text.now (G.state stage.new)) }
+    ensures has { IfOk result (λ placed. (G.state stage.old).tells → HasText output name.now placed.base placed.mark text.now (G.state stage.new)) }
     ensures ended { IfOk result (λ placed. G.ended stage.new name.now placed.base placed.mark) }
     ensures others_ended { SparesEnded G.ended name.now stage.old stage.new }
     ensures others { IfOk result (λ placed. SparesOthers output name.now (G.state stage.old) (G.state stage.new)) }

@@ -31,20 +31,14 @@ fn show(alloc: Global, standing: &Standing) -> Result<String, Fail> {
     Ok(to)
 }
 
-// Whether a standing without columns is written as these bytes.
+// Whether a standing is written as these bytes.
 fn is_written_as(alloc: Global, standing: &Standing, bytes: &Bytes) -> Result<bool, AllocError> {
-    match standing.columns() {
-        Some(_) => Ok(true),
-        None => {
-            let mut written = Bytes::new(alloc);
-            standing.to_bytes(&mut written)?;
-            Ok(written.as_slice() == bytes.as_slice())
-        }
-    }
+    let mut written = Bytes::new(alloc);
+    standing.to_bytes(&mut written)?;
+    Ok(written.as_slice() == bytes.as_slice())
 }
 
-// What bytes stand for, or the place of the field that doesn't fit. What is read, and has no columns, is written as the same
-// bytes.
+// What bytes stand for, or the place of the field that doesn't fit. What is read is written as the same bytes.
 fn shown(alloc: Global, digits: &str) -> Result<String, Fail> {
     let bytes = bytes_of(alloc, digits)?;
     match Standing::from_bytes(alloc, bytes.as_slice()) {

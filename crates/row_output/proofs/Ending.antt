@@ -50,8 +50,8 @@ put_spared : {S : Type 0} (kind : StageKind S) (files : Files) (text : OutputTex
 put_spared kind files text start a b index rows output other another place still on calls off differ is = record {
   name = is.name;
   base = is.base;
-  stands = λ tells low.
-      let stood = is.stands tells low in
+  stands = λ tells.
+      let stood = is.stands tells in
       (on (still tells), calls.others (still tells) index rows.name output.base output.mark _ off differ stood.1);
   size = is.size;
   ended = calls.ended rows.name output.base output.mark differ is.ended;

@@ -31,7 +31,7 @@ file_kept kind making start a b index name rows (O.Text text) still keeps is = r
   format = is.format;
   done = is.done;
   size = is.size;
-  stands = λ tells low. let kept = keeps.texts (still tells) in (kept.tells, kept.all index name text.target.base text.target.mark is.done (is.stands tells low).1);
+  stands = λ tells. let kept = keeps.texts (still tells) in (kept.tells, kept.all index name text.target.base text.target.mark is.done (is.stands tells).1);
   so_far = is.so_far;
 }
 
@@ -48,7 +48,7 @@ file_spared kind making start a b index name rows (O.Text text) other another pl
       format = is.format;
       done = is.done;
       size = is.size;
-      stands = λ tells low. (on (still tells), calls.others (still tells) index name text.target.base text.target.mark is.done (off one) differ (is.stands tells low).1);
+      stands = λ tells. (on (still tells), calls.others (still tells) index name text.target.base text.target.mark is.done (off one) differ (is.stands tells).1);
       so_far = is.so_far;
     }
 

@@ -46,7 +46,7 @@ text_opens kind making a b index name base target text empty keeps is_base outpu
       format = format;
       done = [];
       size = ap (λ (m : Mark). m.length) of_mark;
-      stands = λ tells low.
+      stands = λ tells.
           let still = (keeps.texts tells).tells in
           (still, subst (λ (m : Mark). (kind.state b).is_text index name text.target.base m []) (sym of_mark) (empty b still index name text.target.base));
       so_far = subst (λ (n : ℕ). IsSoFar text.shape (n == 0) making.columns [] text.held) (sym (ap (λ (t : Target). t.base) same)) so_far;
@@ -58,9 +58,6 @@ mod_twice a b = omega arith
 below : (a b : ℕ) → a ≡ b % 2 ^ 64 → a < 2 ^ 64
 below a b is = omega (arith, is)
 
-exact : (a b : ℕ) → a ≡ b % 2 ^ 64 → b < 2 ^ 64 → a ≡ b
-exact a b is less = omega (arith, is, less)
-
 -- the length behind more bytes
 length_on : (mark to : ℕ) (done moved : List ℕ) → mark ≡ length done % 2 ^ 64 → to ≡ (mark + length moved) % 2 ^ 64 → to ≡ length (done ++ moved) % 2 ^ 64
 length_on mark to done moved was is =
@@ -69,18 +66,14 @@ length_on mark to done moved was is =
 -- what stands after some bytes went to the output
 stands_on : {S : Type 0} (kind : StageKind S) (a b : S) (index : ℕ) (name : List ℕ) (base : ℕ) (target : Target) (output : ℕ) (another : List ℕ) (place : ℕ) (to : Mark) (done moved : List ℕ)
     → GainsText (reached kind target a) (record { output = output; name = another; base = place; mark = to; stage = b }) moved → target.output ≡ index → target.name ≡ name → target.base ≡ base → target.mark.length ≡ length done % 2 ^ 64
-    → (length done < 2 ^ 64 → HasText index name base target.mark done (kind.state a)) → length (done ++ moved) < 2 ^ 64 → HasText index name base to (done ++ moved) (kind.state b)
-stands_on kind a b index name base target output another place to done moved gains numbered named based was stands low =
-    let long = length-append done moved in
-    let less : length done < 2 ^ 64 = omega (arith, long, low) in
-    let stood = stands less in
-    let at = exact target.mark.length (length done) was less in
+    → HasText index name base target.mark done (kind.state a) → HasText index name base to (done ++ moved) (kind.state b)
+stands_on kind a b index name base target output another place to done moved gains numbered named based was stood =
     let gained = gains.gained (below target.mark.length (length done) was) in
     let Was : ℕ → List ℕ → ℕ → Type 0 = λ o n p. (kind.state a).is_text o n p target.mark done in
     let Is : ℕ → List ℕ → ℕ → Type 0 = λ o n p. (kind.state b).is_text o n p to (done ++ moved) in
     let own : Was target.output target.name target.base =
     subst (λ (o : ℕ). Was o target.name target.base) (sym numbered) (subst (λ (n : List ℕ). Was index n target.base) (sym named) (subst (λ (p : ℕ). Was index name p) (sym based) stood.1)) in
-    let now : Is target.output target.name target.base = gained.staged stood.0 (omega (arith, long, low, at)) done own in
+    let now : Is target.output target.name target.base = gained.staged stood.0 done own in
     (gained.tells stood.0, subst (λ (o : ℕ). Is o name base) numbered (subst (λ (n : List ℕ). Is target.output n base) named (subst (λ (p : ℕ). Is target.output target.name p) based now)))
 
 -- it takes a row
@@ -100,9 +93,9 @@ text_takes kind making start a b index name rows row old new added moved parts g
       format = format ∙ is.format;
       done = is.done ++ moved;
       size = length_on old.target.mark.length new.target.mark.length is.done moved is.size gained.length_is;
-      stands = λ tells low.
+      stands = λ tells.
           subst (λ (n : ℕ). HasText index name n new.target.mark (is.done ++ moved) (kind.state b)) (sym based)
-          (stands_on kind a b index name old.target.base old.target new.target.output new.target.name new.target.base new.target.mark is.done moved gains is.output is.called refl is.size (λ less. is.stands tells less) low);
+          (stands_on kind a b index name old.target.base old.target new.target.output new.target.name new.target.base new.target.mark is.done moved gains is.output is.called refl is.size (is.stands tells));
       so_far = subst (λ (n : ℕ). IsSoFar new.shape (n == 0) making.columns (rows ++ row ∷ []) ((is.done ++ moved) ++ new.held)) (sym based) so_far;
     }
 
@@ -119,13 +112,13 @@ text_ends kind files making start a b index name rows text output added mode gai
     ap (λ (n : ℕ). wanted_text making.wanted making.moment (n == 0) making.columns rows) based
     ∙ (ap (λ t. t (text.target.base == 0) making.columns rows) (sym is.format)
     ∙ (last (text.target.base == 0) making.columns rows (is.done ++ text.held) is.so_far ∙ append_assoc is.done text.held added)) in
-    let Stands : List ℕ → Type 0 = λ t. length t < 2 ^ 64 → HasText index name output.base output.mark t (kind.state b) in
+    let Stands : List ℕ → Type 0 = λ t. HasText index name output.base output.mark t (kind.state b) in
     record {
       name = named ∙ is.called;
       base = subst (λ (m : FileMode). IsBase kind m start name output.base) (sym mode) (subst (λ (n : ℕ). IsBase kind making.mode start name n) (sym based) is.base);
-      stands = λ tells. subst Stands (sym whole) (λ low.
-          subst (λ (n : ℕ). HasText index name n output.mark (is.done ++ (text.held ++ added)) (kind.state b)) (sym based)
-          (stands_on kind a b index name text.target.base text.target text.target.output output.name output.base output.mark is.done (text.held ++ added) gains is.output is.called refl is.size (λ less. is.stands tells less) low));
+      stands = λ tells. subst Stands (sym whole)
+          (subst (λ (n : ℕ). HasText index name n output.mark (is.done ++ (text.held ++ added)) (kind.state b)) (sym based)
+          (stands_on kind a b index name text.target.base text.target text.target.output output.name output.base output.mark is.done (text.held ++ added) gains is.output is.called refl is.size (is.stands tells)));
       size = length_on text.target.mark.length output.mark.length is.done (text.held ++ added) is.size gained.length_is ∙ ap (λ (t : List ℕ). length t % 2 ^ 64) (sym whole);
       ended = subst (λ (n : List ℕ). kind.ended b n output.base output.mark) (named ∙ is.called) ended;
     }

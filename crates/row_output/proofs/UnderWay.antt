@@ -91,7 +91,7 @@ file_from kind making start a b index name rows (O.Text text) still had is = rec
   format = is.format;
   done = is.done;
   size = is.size;
-  stands = λ tells low. is.stands (still tells) low;
+  stands = λ tells. is.stands (still tells);
   so_far = is.so_far;
 }
 

@@ -39,7 +39,7 @@ pub record IsOnItsWay {S : Type 0} (kind : StageKind S) (making : Making) (start
   pub format : text_of text.shape ≡ wanted_text making.wanted making.moment
   pub done : List ℕ
   pub size : text.target.mark.length ≡ length done % 2 ^ 64
-  pub stands : (kind.state start).tells → length done < 2 ^ 64 → HasText index name text.target.base text.target.mark done (kind.state now)
+  pub stands : (kind.state start).tells → HasText index name text.target.base text.target.mark done (kind.state now)
   pub so_far : IsSoFar text.shape (text.target.base == 0) making.columns rows (done ++ text.held)
 
 -- the output of a name

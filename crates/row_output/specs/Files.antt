@@ -31,8 +31,7 @@ IsLeftAlone kind M.LeaveAlone start name = (bytes : ℕ) × (0 < bytes) × HadLe
 pub record IsPut {S : Type 0} (kind : StageKind S) (files : Files) (text : OutputText) (index : ℕ) (start now : S) (rows : OutputRows) (output : Output) : Type 0 where
   pub name : output.name ≡ rows.name
   pub base : IsBase kind files.mode start rows.name output.base
-  pub stands : (kind.state start).tells → length (text (output.base == 0) rows.rows) < 2 ^ 64
-      → HasText index rows.name output.base output.mark (text (output.base == 0) rows.rows) (kind.state now)
+  pub stands : (kind.state start).tells → HasText index rows.name output.base output.mark (text (output.base == 0) rows.rows) (kind.state now)
   pub size : output.mark.length ≡ length (text (output.base == 0) rows.rows) % 2 ^ 64
   pub ended : kind.ended now rows.name output.base output.mark
 

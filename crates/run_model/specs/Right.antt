@@ -73,7 +73,7 @@ AreOutputs mode files splits outputs = AllZip (IsOutput mode files) (filter (tak
 -- what an entry reads: its words and input text, and spans that go on
 pub record Reads (meaning : Meaning) (written : Written) (before : List Entry) (entry : Entry) : Type 0 where
   pub words : meaning.are_words entry.words
-  pub input_is : entry.input ≡ meaning.input entry.words
+  pub input_is : meaning.is_input (asked_of entry) entry.input
   pub same_input : AllByRecursion (λ other. other.input ≡ entry.input) before
   pub apart : AreApart entry.spans
   pub go_on : AllByRecursion (GoesOn (meaning.format entry.input) written before) entry.spans

@@ -48,7 +48,7 @@ input = input_text (record { format = textline; header_row = true; separator = t
 abbrev meaning : Meaning
 meaning = record {
   are_words = λ words. ⊤;
-  input = λ words. input;
+  is_input = λ asked text. text ≡ input;
   rotation = λ words. numbers;
   format = λ text. text_lines;
   mode = λ words. append;

@@ -51,7 +51,7 @@ b2 = 98 ∷ 46 ∷ 50 ∷ []
 abbrev meaning : Meaning
 meaning = record {
   are_words = λ words. ⊤;
-  input = λ words. input;
+  is_input = λ asked text. text ≡ input;
   rotation = λ words. numbers;
   format = λ text. text_lines;
   mode = λ words. append;

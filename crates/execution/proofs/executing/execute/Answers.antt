@@ -1,8 +1,9 @@
-use Rattle.std.proofs.Common.{◌≡◌, IfOk, OnErr, refl, sym, ◌∙◌, subst, FitsSigned, w64}
+use Rattle.std.proofs.Common.{◌≡◌, true, map, IfOk, OnErr, refl, sym, ◌∙◌, subst, FitsSigned, w64}
 use Rattle.std.proofs.lemmas.Int.{to_z-of_z}
 use Rattle.lp_model.proofs.Growing.{OnlyGrow-refl}
 use Rattle.any_format.specs.Wanted.{wanted_text}
-use Rattle.log_reading.specs.Spans.{BadLine}
+use Rattle.lp_model.specs.Outside.{Told}
+use Rattle.log_reading.specs.Spans.{AreKept, BadLine, took_of}
 use Rattle.text_output.specs.Output.{kind_of}
 use Rattle.query_tree.specs.Views.{query_of}
 use Rattle.query_types.specs.Planned.{Planned}
@@ -17,7 +18,7 @@ use Rattle.execution.specs.declared.formats.LogFormat.{LogFormat}
 use Rattle.execution.specs.declared.formats.LogFormat.TheVariants as F
 use Rattle.execution.specs.Executed.{IsExecuted, IsParseError, IsStopped, IsUnplaced, IsUnplanned, IsUntouched}
 use Rattle.execution.specs.Faults.{IfParse, IfPlan, IfRefused}
-use Rattle.execution.specs.Formats.{input_of, log_format}
+use Rattle.execution.specs.Formats.{input_of, lines_in, log_format}
 use Rattle.execution.proofs.Asking.{as_asked, stopped_at_once}
 use Rattle.execution.proofs.FormatLemmas.{built_query, separated}
 use Rattle.execution.proofs.executing.execute.Goals as goal
@@ -36,7 +37,7 @@ pub returns-in_default-clause-grows : goal.returns-in_default-clause-grows
 returns-in_default-clause-grows g c = OnlyGrow-refl _
 
 pub returns-in_default-clause-stopped : goal.returns-in_default-clause-stopped
-returns-in_default-clause-stopped g c = stopped_at_once (log_format c.args.spec.now (query_of c.args.query.now)) _ _ _ _ c.args.spec.now c.args.moment (query_of c.args.query.now) c.args.spans.now refl
+returns-in_default-clause-stopped g c = stopped_at_once (log_format c.args.spec.now (query_of c.args.query.now)) c.args.waits _ _ _ _ c.args.spec.now c.args.moment (query_of c.args.query.now) c.args.spans.now refl
 
 pub returns-in-Tabled-clause-ran : goal.returns-in-Tabled-clause-ran
 returns-in-Tabled-clause-ran g c =
@@ -46,7 +47,7 @@ returns-in-Tabled-clause-ran g c =
     let u = c.args.stage.now in
     let v = c.execute_tabled.new.stage in
     let q = query_of c.args.query.now in
-    let Of : LogFormat → (Planned → Asked) → Type 0 = λ f a. IfOk c.execute_tabled.result (λ (ran : Ran). IsExecuted f told (λ asked rows. Holds kind asked u rows ran.outputs v) a c.args.spec.now c.args.moment q c.args.spans.now ran.counts) in
+    let Of : LogFormat → (Planned → Asked) → Type 0 = λ f a. IfOk c.execute_tabled.result (λ (ran : Ran). IsExecuted f c.args.waits told (λ asked rows. Holds kind asked u rows ran.outputs v) a c.args.spec.now c.args.moment q c.args.spans.now ran.counts) in
     let asked = as_asked c.args.spec.now q c.args.spans.now c.output_of.result _ c.args.moment (files_for c.in-Ok.into) (wanted_text c.wanted_as-wanted.result c.args.moment) c.in-Ok.ensures.files c.output_of.ensures (c.wanted_as-wanted.ensures c.args.moment) in
     subst (λ (a : Planned → Asked). Of (log_format c.args.spec.now q) a) asked
     (subst (λ (f : LogFormat). Of f (asked_by (files_for c.in-Ok.into) (wanted_text c.wanted_as-wanted.result c.args.moment) q)) (sym c.in-Tabled.is ∙ c.log_format.ensures) (simp to_z-of_z at c.execute_tabled.ensures.ran))
@@ -59,7 +60,7 @@ returns-in-Tabled-clause-stopped g c =
     let u = c.args.stage.now in
     let v = c.execute_tabled.new.stage in
     let q = query_of c.args.query.now in
-    let Of : LogFormat → (Planned → Asked) → Type 0 = λ f a. OnErr c.execute_tabled.result (IsStopped f told (v ≡ u) (λ asked rows. Stops kind asked u rows v) a c.args.spec.now c.args.moment q c.args.spans.now) in
+    let Of : LogFormat → (Planned → Asked) → Type 0 = λ f a. OnErr c.execute_tabled.result (IsStopped f c.args.waits told (v ≡ u) (λ asked rows. Stops kind asked u rows v) a c.args.spec.now c.args.moment q c.args.spans.now) in
     let asked = as_asked c.args.spec.now q c.args.spans.now c.output_of.result _ c.args.moment (files_for c.in-Ok.into) (wanted_text c.wanted_as-wanted.result c.args.moment) c.in-Ok.ensures.files c.output_of.ensures (c.wanted_as-wanted.ensures c.args.moment) in
     subst (λ (a : Planned → Asked). Of (log_format c.args.spec.now q) a) asked
     (subst (λ (f : LogFormat). Of f (asked_by (files_for c.in-Ok.into) (wanted_text c.wanted_as-wanted.result c.args.moment) q)) (sym c.in-Tabled.is ∙ c.log_format.ensures) (simp to_z-of_z at c.execute_tabled.ensures.stopped))
@@ -69,7 +70,7 @@ returns-in-Tabled-clause-refused g c =
     let range : FitsSigned w64 c.args.moment = c.ranges.moment in
     let told = g.L.Logs.folder c.execute_tabled.new.logs in
     let q = query_of c.args.query.now in
-    let Of : LogFormat → (Planned → Asked) → Type 0 = λ f a. IfRefused c.execute_tabled.result (λ (why : Refused). IsUnplaced f told a c.args.spec.now c.args.moment q c.args.spans.now why) in
+    let Of : LogFormat → (Planned → Asked) → Type 0 = λ f a. IfRefused c.execute_tabled.result (λ (why : Refused). IsUnplaced f c.args.waits told a c.args.spec.now c.args.moment q c.args.spans.now why) in
     let asked = as_asked c.args.spec.now q c.args.spans.now c.output_of.result _ c.args.moment (files_for c.in-Ok.into) (wanted_text c.wanted_as-wanted.result c.args.moment) c.in-Ok.ensures.files c.output_of.ensures (c.wanted_as-wanted.ensures c.args.moment) in
     subst (λ (a : Planned → Asked). Of (log_format c.args.spec.now q) a) asked
     (subst (λ (f : LogFormat). Of f (asked_by (files_for c.in-Ok.into) (wanted_text c.wanted_as-wanted.result c.args.moment) q)) (sym c.in-Tabled.is ∙ c.log_format.ensures) (simp to_z-of_z at c.execute_tabled.ensures.refused))
@@ -78,18 +79,23 @@ pub returns-in-Tabled-clause-plan : goal.returns-in-Tabled-clause-plan
 returns-in-Tabled-clause-plan g c =
     let range : FitsSigned w64 c.args.moment = c.ranges.moment in
     let told = g.L.Logs.folder c.execute_tabled.new.logs in
-    subst (λ (f : LogFormat). IfPlan c.execute_tabled.result (λ (fault : TypeFault). IsUnplanned f told c.args.spec.now c.args.moment (query_of c.args.query.now) c.args.spans.now fault)) (sym c.in-Tabled.is ∙ c.log_format.ensures) (simp to_z-of_z at c.execute_tabled.ensures.plan)
+    subst (λ (f : LogFormat). IfPlan c.execute_tabled.result (λ (fault : TypeFault). IsUnplanned f c.args.waits told c.args.spec.now c.args.moment (query_of c.args.query.now) c.args.spans.now fault)) (sym c.in-Tabled.is ∙ c.log_format.ensures) (simp to_z-of_z at c.execute_tabled.ensures.plan)
 
 pub returns-in-Tabled-clause-before : goal.returns-in-Tabled-clause-before
 returns-in-Tabled-clause-before g c =
     let told = g.L.Logs.folder c.execute_tabled.new.logs in
-    subst (λ (f : LogFormat). IfPlan c.execute_tabled.result (λ (fault : TypeFault). IsUntouched f told (c.execute_tabled.new.stage ≡ c.args.stage.now) c.args.spec.now c.args.spans.now)) (sym c.in-Tabled.is ∙ c.log_format.ensures) c.execute_tabled.ensures.before
+    subst (λ (f : LogFormat). IfPlan c.execute_tabled.result (λ (fault : TypeFault). IsUntouched f c.args.waits told (c.execute_tabled.new.stage ≡ c.args.stage.now) c.args.spec.now c.args.spans.now)) (sym c.in-Tabled.is ∙ c.log_format.ensures) c.execute_tabled.ensures.before
 
 pub returns-in-Tabled-clause-parse : goal.returns-in-Tabled-clause-parse
 returns-in-Tabled-clause-parse g c =
     let range : FitsSigned w64 c.args.moment = c.ranges.moment in
     let told = g.L.Logs.folder c.execute_tabled.new.logs in
-    subst (λ (f : LogFormat). IfParse c.execute_tabled.result (λ (line : BadLine). IsParseError f told c.args.spec.now c.args.moment (query_of c.args.query.now) c.args.spans.now line)) (sym c.in-Tabled.is ∙ c.log_format.ensures) (simp to_z-of_z at c.execute_tabled.ensures.parse)
+    subst (λ (f : LogFormat). IfParse c.execute_tabled.result (λ (line : BadLine). IsParseError f c.args.waits told c.args.spec.now c.args.moment (query_of c.args.query.now) c.args.spans.now line)) (sym c.in-Tabled.is ∙ c.log_format.ensures) (simp to_z-of_z at c.execute_tabled.ensures.parse)
+
+pub returns-in-Tabled-clause-took : goal.returns-in-Tabled-clause-took
+returns-in-Tabled-clause-took g c =
+    let told = g.L.Logs.folder c.execute_tabled.new.logs in
+    subst (λ (f : LogFormat). IfOk c.execute_tabled.result (λ (ran : Ran). c.args.waits ≡ true → Told told (λ folder. AreKept (lines_in f) true c.args.spans.now folder → ran.took ≡ map (took_of (lines_in f) folder) c.args.spans.now))) (sym c.in-Tabled.is ∙ c.log_format.ensures) c.execute_tabled.ensures.took
 
 pub returns-in-Sampled-clause-ran : goal.returns-in-Sampled-clause-ran
 returns-in-Sampled-clause-ran g c =
@@ -99,7 +105,7 @@ returns-in-Sampled-clause-ran g c =
     let u = c.args.stage.now in
     let v = c.execute_sampled.new.stage in
     let q = query_of c.args.query.now in
-    let Of : LogFormat → (Planned → Asked) → Type 0 = λ f a. IfOk c.execute_sampled.result (λ (ran : Ran). IsExecuted f told (λ asked rows. Holds kind asked u rows ran.outputs v) a c.args.spec.now c.args.moment q c.args.spans.now ran.counts) in
+    let Of : LogFormat → (Planned → Asked) → Type 0 = λ f a. IfOk c.execute_sampled.result (λ (ran : Ran). IsExecuted f c.args.waits told (λ asked rows. Holds kind asked u rows ran.outputs v) a c.args.spec.now c.args.moment q c.args.spans.now ran.counts) in
     let asked = as_asked c.args.spec.now q c.args.spans.now c.output_of.result _ c.args.moment (files_for c.in-Ok.into) (wanted_text c.wanted_as-wanted.result c.args.moment) c.in-Ok.ensures.files c.output_of.ensures (c.wanted_as-wanted.ensures c.args.moment) in
     subst (λ (a : Planned → Asked). Of (log_format c.args.spec.now q) a) asked
     (subst (λ (f : LogFormat). Of f (asked_by (files_for c.in-Ok.into) (wanted_text c.wanted_as-wanted.result c.args.moment) q)) (sym c.in-Sampled.is ∙ c.log_format.ensures) (simp to_z-of_z at c.execute_sampled.ensures.ran))
@@ -112,7 +118,7 @@ returns-in-Sampled-clause-stopped g c =
     let u = c.args.stage.now in
     let v = c.execute_sampled.new.stage in
     let q = query_of c.args.query.now in
-    let Of : LogFormat → (Planned → Asked) → Type 0 = λ f a. OnErr c.execute_sampled.result (IsStopped f told (v ≡ u) (λ asked rows. Stops kind asked u rows v) a c.args.spec.now c.args.moment q c.args.spans.now) in
+    let Of : LogFormat → (Planned → Asked) → Type 0 = λ f a. OnErr c.execute_sampled.result (IsStopped f c.args.waits told (v ≡ u) (λ asked rows. Stops kind asked u rows v) a c.args.spec.now c.args.moment q c.args.spans.now) in
     let asked = as_asked c.args.spec.now q c.args.spans.now c.output_of.result _ c.args.moment (files_for c.in-Ok.into) (wanted_text c.wanted_as-wanted.result c.args.moment) c.in-Ok.ensures.files c.output_of.ensures (c.wanted_as-wanted.ensures c.args.moment) in
     subst (λ (a : Planned → Asked). Of (log_format c.args.spec.now q) a) asked
     (subst (λ (f : LogFormat). Of f (asked_by (files_for c.in-Ok.into) (wanted_text c.wanted_as-wanted.result c.args.moment) q)) (sym c.in-Sampled.is ∙ c.log_format.ensures) (simp to_z-of_z at c.execute_sampled.ensures.stopped))
@@ -122,7 +128,7 @@ returns-in-Sampled-clause-refused g c =
     let range : FitsSigned w64 c.args.moment = c.ranges.moment in
     let told = g.L.Logs.folder c.execute_sampled.new.logs in
     let q = query_of c.args.query.now in
-    let Of : LogFormat → (Planned → Asked) → Type 0 = λ f a. IfRefused c.execute_sampled.result (λ (why : Refused). IsUnplaced f told a c.args.spec.now c.args.moment q c.args.spans.now why) in
+    let Of : LogFormat → (Planned → Asked) → Type 0 = λ f a. IfRefused c.execute_sampled.result (λ (why : Refused). IsUnplaced f c.args.waits told a c.args.spec.now c.args.moment q c.args.spans.now why) in
     let asked = as_asked c.args.spec.now q c.args.spans.now c.output_of.result _ c.args.moment (files_for c.in-Ok.into) (wanted_text c.wanted_as-wanted.result c.args.moment) c.in-Ok.ensures.files c.output_of.ensures (c.wanted_as-wanted.ensures c.args.moment) in
     subst (λ (a : Planned → Asked). Of (log_format c.args.spec.now q) a) asked
     (subst (λ (f : LogFormat). Of f (asked_by (files_for c.in-Ok.into) (wanted_text c.wanted_as-wanted.result c.args.moment) q)) (sym c.in-Sampled.is ∙ c.log_format.ensures) (simp to_z-of_z at c.execute_sampled.ensures.refused))
@@ -131,15 +137,20 @@ pub returns-in-Sampled-clause-plan : goal.returns-in-Sampled-clause-plan
 returns-in-Sampled-clause-plan g c =
     let range : FitsSigned w64 c.args.moment = c.ranges.moment in
     let told = g.L.Logs.folder c.execute_sampled.new.logs in
-    subst (λ (f : LogFormat). IfPlan c.execute_sampled.result (λ (fault : TypeFault). IsUnplanned f told c.args.spec.now c.args.moment (query_of c.args.query.now) c.args.spans.now fault)) (sym c.in-Sampled.is ∙ c.log_format.ensures) (simp to_z-of_z at c.execute_sampled.ensures.plan)
+    subst (λ (f : LogFormat). IfPlan c.execute_sampled.result (λ (fault : TypeFault). IsUnplanned f c.args.waits told c.args.spec.now c.args.moment (query_of c.args.query.now) c.args.spans.now fault)) (sym c.in-Sampled.is ∙ c.log_format.ensures) (simp to_z-of_z at c.execute_sampled.ensures.plan)
 
 pub returns-in-Sampled-clause-before : goal.returns-in-Sampled-clause-before
 returns-in-Sampled-clause-before g c =
     let told = g.L.Logs.folder c.execute_sampled.new.logs in
-    subst (λ (f : LogFormat). IfPlan c.execute_sampled.result (λ (fault : TypeFault). IsUntouched f told (c.execute_sampled.new.stage ≡ c.args.stage.now) c.args.spec.now c.args.spans.now)) (sym c.in-Sampled.is ∙ c.log_format.ensures) c.execute_sampled.ensures.before
+    subst (λ (f : LogFormat). IfPlan c.execute_sampled.result (λ (fault : TypeFault). IsUntouched f c.args.waits told (c.execute_sampled.new.stage ≡ c.args.stage.now) c.args.spec.now c.args.spans.now)) (sym c.in-Sampled.is ∙ c.log_format.ensures) c.execute_sampled.ensures.before
 
 pub returns-in-Sampled-clause-parse : goal.returns-in-Sampled-clause-parse
 returns-in-Sampled-clause-parse g c =
     let range : FitsSigned w64 c.args.moment = c.ranges.moment in
     let told = g.L.Logs.folder c.execute_sampled.new.logs in
-    subst (λ (f : LogFormat). IfParse c.execute_sampled.result (λ (line : BadLine). IsParseError f told c.args.spec.now c.args.moment (query_of c.args.query.now) c.args.spans.now line)) (sym c.in-Sampled.is ∙ c.log_format.ensures) (simp to_z-of_z at c.execute_sampled.ensures.parse)
+    subst (λ (f : LogFormat). IfParse c.execute_sampled.result (λ (line : BadLine). IsParseError f c.args.waits told c.args.spec.now c.args.moment (query_of c.args.query.now) c.args.spans.now line)) (sym c.in-Sampled.is ∙ c.log_format.ensures) (simp to_z-of_z at c.execute_sampled.ensures.parse)
+
+pub returns-in-Sampled-clause-took : goal.returns-in-Sampled-clause-took
+returns-in-Sampled-clause-took g c =
+    let told = g.L.Logs.folder c.execute_sampled.new.logs in
+    subst (λ (f : LogFormat). IfOk c.execute_sampled.result (λ (ran : Ran). c.args.waits ≡ true → Told told (λ folder. AreKept (lines_in f) true c.args.spans.now folder → ran.took ≡ map (took_of (lines_in f) folder) c.args.spans.now))) (sym c.in-Sampled.is ∙ c.log_format.ensures) c.execute_sampled.ensures.took

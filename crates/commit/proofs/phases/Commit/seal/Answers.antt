@@ -1,4 +1,4 @@
-use Rattle.std.proofs.Common.{length}
+use Rattle.std.proofs.Common.{arith, length}
 use Rattle.ledger_model.specs.Grammar.{payload_of}
 use Rattle.ledger.specs.Written.{entry_of}
 use Rattle.commit.proofs.Places.{place_behind}
@@ -6,3 +6,8 @@ use Rattle.commit.proofs.phases.Commit.seal.Goals as goal
 
 pub returns-clause-sealed : goal.returns-clause-sealed
 returns-clause-sealed g c = λ entries before after settled staged. (c.in_ok-seal.ensures.sealed entries before after settled staged, place_behind c.args.self.now.place (length (payload_of (entry_of c.args.entry.now))) _ c.size-size.ensures staged.good.size)
+
+pub returns-clause-small : goal.returns-clause-small
+returns-clause-small g c =
+    let bound = c.in_ok-seal.ensures.bound in
+    omega (arith, bound)

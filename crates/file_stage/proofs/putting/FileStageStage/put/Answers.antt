@@ -14,10 +14,10 @@ returns-in-Ok-clause-gained g c =
     let place : c.saturating_add-place.result ≡ base + size = omega (arith, c.saturating_add-place.ensures, c.in-Ok.ensures.bound) in
     record {
       tells = λ tells. (c.write_at.ensures.shows tells).tells;
-      staged = λ tells fits was there.
+      staged = λ tells was there.
           let added = overwrite_behind old base size was bytes there in
           let written : new ≡ overwritten old (base + size) bytes = c.in-Ok.ensures.written tells ∙ ap (λ (n : ℕ). overwritten old n bytes) place in
-          let length_is : (size + length bytes) % 2 ^ 64 ≡ size + length bytes = omega (arith, fits) in
+          let length_is : (size + length bytes) % 2 ^ 64 ≡ size + length bytes = omega (arith, place, c.in-Ok.ensures.bound) in
           record { whole = added.whole ∙ sym length_is; same = added.same ∙ ap (λ (l : List ℕ). take (size + length bytes) (drop base l)) (sym written) ∙ ap (λ (n : ℕ). take n (drop base new)) (sym length_is) };
       streamed = λ standard. refl;
       counted = refl;

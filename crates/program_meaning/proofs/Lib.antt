@@ -1,0 +1,4 @@
+pub mod Ends
+pub mod Meant
+pub mod Options
+pub mod OneMeaning

@@ -1,0 +1,4 @@
+pub mod Inputs
+pub mod Asked
+pub mod Gives
+pub mod Meaning
