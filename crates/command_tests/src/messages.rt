@@ -1,6 +1,7 @@
 // Messages and statistics over an output in memory.
 use command_words::{UsageFault, UsageKind};
 use lp_outside::Name;
+use lp_values::Text;
 use memory_outside::MemorySink;
 use query_lexer::LexFault;
 use query_text::QueryFault;
@@ -14,7 +15,7 @@ fn parse_errors() -> Result<Status, Fail> {
     Ok(Status::ParseErrors { log, row: 4096 })
 }
 
-fn status(word: &str) -> Result<Status, Fail> {
+fn status(alloc: Global, word: &str) -> Result<Status, Fail> {
     Ok(match word {
         "memory" => Status::Memory,
         "clock" => Status::Clock(-1),
@@ -26,7 +27,7 @@ fn status(word: &str) -> Result<Status, Fail> {
         "few" => Status::Query(QueryFault::Plan(TypeFault::TooFewColumns { at: 21 })),
         "select" => Status::Query(QueryFault::Plan(TypeFault::NotInSelect { at: 33 })),
         "logs" => Status::LogsFault,
-        "clash" => Status::NameClash(Name::read("logs/a.log").map_err(|_| "no name")?),
+        "clash" => Status::NameClash(Text::from_str(alloc, "logs/a.log")?),
         "outputs" => Status::TooManyOutputs,
         "disk" => Status::DiskFault,
         _ => parse_errors()?,
@@ -57,7 +58,10 @@ row => 8 Some(\"logparser: parse errors: logs/ex 1.log row 4096\\n\")";
 fn each_refusal_has_its_code_and_its_line(rt: HostRuntime) -> Result<(), Fail> {
     for row in ROWS.lines() {
         let (word, want) = row.split_once(" => ").ok_or("no message")?;
-        assert!(rt; told(rt.alloc(), &status(word)?)?.as_str() == want, "{row}");
+        assert!(rt;
+            told(rt.alloc(), &status(rt.alloc(), word)?)?.as_str() == want,
+            "{row}"
+        );
     }
     Ok(())
 }

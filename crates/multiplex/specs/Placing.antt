@@ -58,3 +58,10 @@ IsNoName name TooManyOutputs = ⊥
 IsNoName name (BadName fault) = name_fault name ≡ Some fault
 IsNoName name (NameClash clash) = ⊥
 IsNoName name Memory = ⊤
+
+-- no output may have this name
+abbrev pub IsTaken : List (List ℕ) → List ℕ → PlaceFault → Type 0
+IsTaken forbidden name TooManyOutputs = ⊥
+IsTaken forbidden name (BadName fault) = ⊥
+IsTaken forbidden name (NameClash clash) = (is_among forbidden name ≡ true) × (clash ≡ name)
+IsTaken forbidden name Memory = ⊤

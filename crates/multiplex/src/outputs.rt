@@ -6,7 +6,7 @@ ghost use Rattle.indexmap.specs.IndexMap.{keys, values};
 ghost use Rattle.log_listing.specs.Firsts.{is_among, with_name};
 ghost use Rattle.multiplex.specs.Naming.{filled, stars};
 ghost use Rattle.multiplex.specs.declared.place_fault.PlaceFault.TheVariants.{Memory};
-ghost use Rattle.multiplex.specs.Placing.{index_among, after_row, IsNewName, CanBeAdded, IsReason, HasNoOutput, IsNoName, StandFor, indices_of};
+ghost use Rattle.multiplex.specs.Placing.{index_among, after_row, IsNewName, CanBeAdded, IsReason, HasNoOutput, IsNoName, IsTaken, StandFor, indices_of};
 
 use crate::PlaceFault;
 use crate::output_name::OutputName;
@@ -45,12 +45,18 @@ impl Model for Outputs {
     ghost invariant = { λ o. (length (keys o.names) ≤ 10_000) × (values o.names ≡ keys o.names) };
 }
 
-// Whether a name is one that no output may have.
-fn is_forbidden(alloc: Global, forbidden: &IndexSet<Text>, name: &str) -> Result<bool, AllocError>
-    ensures { IfOk result (λ found. found ≡ is_among forbidden.now.keys name.now) }
+// Whether an output may have a name.
+fn check_free(alloc: Global, forbidden: &IndexSet<Text>, name: &str) -> Result<(), PlaceFault>
+    ensures ok { OnOk result (is_among forbidden.now.keys name.now ≡ false) }
+    ensures err { IfErr result (IsTaken forbidden.now.keys name.now) }
 {
-    let name = Text::from_str(alloc, name)?;
-    Ok(forbidden.contains(&name))
+    let Ok(name) = Text::from_str(alloc, name) else {
+        return Err(PlaceFault::Memory);
+    };
+    if forbidden.contains(&name) {
+        return Err(PlaceFault::NameClash(name));
+    }
+    Ok(())
 }
 
 // How many values a pattern takes.
@@ -110,11 +116,7 @@ fn add_name(
         return Err(PlaceFault::TooManyOutputs);
     }
     let name = read_name(key.as_slice())?;
-    match is_forbidden(alloc, forbidden, name.as_str()) {
-        Ok(false) => {}
-        Ok(true) => return Err(PlaceFault::NameClash(name)),
-        Err(_) => return Err(PlaceFault::Memory),
-    }
+    check_free(alloc, forbidden, name.as_str())?;
     match add_last(alloc, names, key, name) {
         Ok(index) => Ok(index),
         Err(_) => Err(PlaceFault::Memory),

@@ -3,6 +3,7 @@ ghost use Rattle.std.specs.Prelude.{◌≡◌};
 
 use command_words::UsageFault;
 use lp_outside::{Name, NameFault};
+use lp_values::Text;
 use query_text::QueryFault;
 use tpl_output::TemplateFault;
 
@@ -26,7 +27,7 @@ pub enum Status {
     /// A name is no name of a file.
     BadName(NameFault),
     /// An output has the name of a log that is read.
-    NameClash(Name),
+    NameClash(Text),
     /// The rows name more than 10,000 outputs.
     TooManyOutputs,
     /// More than 100,000 logs are named.

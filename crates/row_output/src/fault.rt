@@ -2,7 +2,8 @@
 ghost use Rattle.std.specs.Prelude.{◌≡◌};
 ghost use Rattle.row_output.specs.Faults.{place_fault, put_fault};
 
-use lp_outside::{Name, NameFault};
+use lp_outside::NameFault;
+use lp_values::Text;
 use multiplex::PlaceFault;
 use text_output::PutFault;
 
@@ -14,7 +15,7 @@ pub enum Refused {
     /// Its values make no name of a file.
     BadName(NameFault),
     /// Its name is one that no output may have.
-    NameClash(Name),
+    NameClash(Text),
 }
 
 /// Why rows aren't written.
