@@ -16,3 +16,4 @@ pub mod KnownPlaces
 pub mod Listings
 pub mod KnownMore
 pub mod ReadTo
+pub mod ReadableSpans

@@ -7,3 +7,4 @@ pub mod Spans
 pub mod Spanning
 pub mod SpanSteps
 pub mod Listing
+pub mod Readable

@@ -2,6 +2,7 @@
 use Rattle.std.specs.Prelude.{◌≡◌, ℕ, ◌<◌, ◌≤◌, List, ◌++◌, Option, Some, None}
 use Rattle.std.specs.Bool.{⊤}
 use Rattle.std.specs.List.{AllZip}
+use Rattle.std.proofs.Math.Nat.{le_refl}
 use Rattle.lp_model.specs.Outside.{Folder, Told}
 use Rattle.run_model.specs.Listed.{Listed}
 use Rattle.log_listing.specs.Lengths.{IsLength, IsLengthNow}
@@ -14,7 +15,7 @@ use Rattle.positions.specs.Places.{Places, place_in}
 
 -- where a log is read from: its place, or its start
 abbrev pub start_of : Option Place → Place
-start_of None = record { to = 0; standing = record { lines = 0; columns = None } }
+start_of None = record { to = 0; standing = record { lines = 0; columns = None }; low = le_refl 0 }
 start_of (Some place) = place
 
 -- a span of a file: from its log's place, with the standing there, up to the file's length at some moment

@@ -6,6 +6,7 @@ ghost use Rattle.log_listing.specs.Listed.{Adds, Lists};
 ghost use Rattle.positions.specs.Spans.{StopsFile};
 ghost use Rattle.positions.specs.Spanning.{plain_file, StopsName};
 ghost use Rattle.positions.specs.SpanSteps.{identities_of, ArePlain, AddsPlain, StopsAmong, StopsNames};
+ghost use Rattle.positions.specs.Readable.{AreReadable};
 ghost use Rattle.positions.specs.declared.spans.SpanFault.TheVariants as F;
 
 use crate::places::Places;
@@ -129,6 +130,7 @@ pub(crate) fn spans_of_names<L: Logs>(
     ensures steady { OnOk result (L.faults logs.new ≡ L.faults logs.old) }
     ensures lists { IfOk result (λ spans. Lists (L.folder logs.old) texts.now (identities_of spans)) }
     ensures plain { IfOk result (ArePlain places.now.entries (L.folder logs.old) (L.folder logs.new)) }
+    ensures readable { IfOk result (AreReadable (L.folder logs.new)) }
     ensures few { IfOk result (λ spans. length spans ≤ 100000) }
     ensures stopped { IfErr result (StopsNames places.now.entries (L.folder logs.old) (L.folder logs.new) texts.now) }
     ensures failed { IsErrOf result F.LogsFault → Rose (L.faults logs.old) (L.faults logs.new) }

@@ -10,6 +10,7 @@ ghost use Rattle.log_listing.specs.Firsts.{Knows, firsts, is_among};
 ghost use Rattle.positions.specs.Spans.{AddsSpans};
 ghost use Rattle.positions.specs.Spanning.{has_stars, IsListable, IsStem, IsBadStem, StopsStem};
 ghost use Rattle.positions.specs.SpanSteps.{Tells, AddsSpan, StopsNumber, StopsListed, StopsRotated, AddsStem, AddsFiles, StopsStemOf, AddsText, AreStemSpans, StopsStems, IsOther, file_of, live_file};
+ghost use Rattle.positions.specs.Readable.{AreReadable, StayReadable};
 ghost use Rattle.positions.specs.declared.spans.SpanFault.TheVariants as F;
 
 use crate::known::known_of;
@@ -261,6 +262,7 @@ fn add_text<L: Logs>(
     ensures later { L.faults logs.old ≤ L.faults logs.new }
     ensures steady { OnOk result (L.faults logs.new ≡ L.faults logs.old) }
     ensures adds { OnOk result (AddsText places.now.entries (L.folder logs.old) (L.folder logs.new) text.now seen.old spans.old spans.new) }
+    ensures readable { OnOk result (StayReadable (L.folder logs.old) (L.folder logs.new) spans.old spans.new) }
     ensures knows { OnOk result ((texts : List (List ℕ)) → Knows seen.old (firsts texts) → Knows seen.new (firsts (texts ++ text.now ∷ []))) }
     ensures few { OnOk result (length spans.new ≤ 100000) }
     ensures stopped { IfErr result (λ fault. (start : Option Folder) (entries : List Entry) (texts : List (List ℕ)) → OnlyGrow start (L.folder logs.old) → Tells entries places.now.entries → Knows seen.old (firsts texts) → StopsStem places.now.entries entries start (L.folder logs.new) (firsts texts) (length spans.old) text.now fault) }
@@ -290,6 +292,7 @@ pub(crate) fn spans_of_stems<L: Logs>(
     ensures later { L.faults logs.old ≤ L.faults logs.new }
     ensures steady { OnOk result (L.faults logs.new ≡ L.faults logs.old) }
     ensures spans { IfOk result (λ spans. (entries : List Entry) → Tells entries places.now.entries → AreStemSpans places.now.entries entries texts.now (L.folder logs.old) (L.folder logs.new) spans) }
+    ensures readable { IfOk result (AreReadable (L.folder logs.new)) }
     ensures few { IfOk result (λ spans. length spans ≤ 100000) }
     ensures stopped { IfErr result (StopsStems places.now.entries (L.folder logs.old) (L.folder logs.new) texts.now) }
     ensures other { IfErr result IsOther }

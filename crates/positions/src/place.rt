@@ -1,4 +1,6 @@
 // Where a log was left.
+ghost use Rattle.std.specs.Prelude.{◌≤◌};
+
 use line_input::Standing;
 use lp_outside::Name;
 
@@ -7,6 +9,7 @@ use lp_outside::Name;
 pub struct Place {
     pub to: u64,
     pub standing: Standing,
+    pub ghost low: { standing.lines ≤ to },
 }
 
 /// A log, and where it was left.

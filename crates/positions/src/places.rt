@@ -20,10 +20,16 @@ pub(crate) fn place_of(alloc: Global, span: &EntrySpan) -> Result<Place, Standin
     ensures { IsStanding span.now.to span.now.standing → MatchResult result (IsEndOf (span_of span.now)) (λ fault. fault ≡ F.Memory) }
 {
     match Standing::from_bytes(alloc, span.standing.as_slice()) {
-        Ok(standing) => Ok(Place {
-            to: span.to,
-            standing,
-        }),
+        Ok(standing) => {
+            // A line has a byte at least, so no span in its form has more lines.
+            if standing.lines() > span.to {
+                return Err(StandingFault::Malformed { at: 0 });
+            }
+            Ok(Place {
+                to: span.to,
+                standing,
+            })
+        }
         Err(fault) => Err(fault),
     }
 }

@@ -1,6 +1,7 @@
 // What a run reads of the logs behind FROM.
-ghost use Rattle.std.specs.Prelude.{◌≡◌, ◌≤◌, List, OnOk, IfOk, IfErr, IsErrOf};
-ghost use Rattle.lp_model.specs.Outside.{OnlyGrow, Rose};
+ghost use Rattle.std.specs.Prelude.{◌≡◌, ◌≤◌, List, length, OnOk, IfOk, IfErr, IsErrOf};
+ghost use Rattle.lp_model.specs.Outside.{OnlyGrow, Rose, Told, bytes_in};
+ghost use Rattle.log_reading.specs.Spans.{AllSpans, IsSpan};
 ghost use Rattle.ledger_model.specs.Entries.{Entry};
 ghost use Rattle.positions.specs.Spans.{Agrees};
 ghost use Rattle.positions.specs.Spanning.{rule_of, AreOf, AreSpansOf, IsStopped, IsJudged};
@@ -34,6 +35,10 @@ impl Positions {
             → AreSpansOf (rule_of sources.now.rotation) self.now.places entries sources.now.names (L.folder logs.old) (L.folder logs.new) spans) }
         ensures stopped { IfErr result (λ fault. (entries : List Entry) → AreOf (rule_of sources.now.rotation) entries self.now
             → IsStopped (rule_of sources.now.rotation) self.now.places entries sources.now.names (L.folder logs.old) (L.folder logs.new) fault) }
+        // Whatever the ledger's entries are, these are spans that may be read, up to where the logs reach.
+        ensures low { IfOk result (λ spans. AllSpans spans IsSpan) }
+        ensures few { IfOk result (λ spans. length spans ≤ 100_000) }
+        ensures there { IfOk result (λ spans. Told (L.folder logs.new) (λ folder. AllSpans spans (λ span. span.listed ≤ length (bytes_in folder span.name)))) }
         ensures failed { IsErrOf result F.LogsFault → Rose (L.faults logs.old) (L.faults logs.new) }
         ensures wants { IsErrOf result F.Memory → L.faults logs.new ≡ L.faults logs.old }
     {

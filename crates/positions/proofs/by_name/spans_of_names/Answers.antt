@@ -3,6 +3,7 @@ use Rattle.lp_model.proofs.Growing.{OnlyGrow-trans}
 use Rattle.positions.specs.SpanSteps.{identities_of, StopsNames}
 use Rattle.positions.proofs.Adding.{handed_on}
 use Rattle.positions.proofs.Listings.{names_turn, stops_at_name}
+use Rattle.positions.proofs.ReadableSpans.{plain_readable}
 use Rattle.positions.proofs.by_name.spans_of_names.Goals as goal
 
 pub returns-in_err-add_name-clause-stopped : goal.returns-in_err-add_name-clause-stopped
@@ -36,3 +37,6 @@ loop-text-preserved g c =
       knows = here.knows;
       few = here.few;
     }
+
+pub returns-clause-readable : goal.returns-clause-readable
+returns-clause-readable g c = plain_readable c.args.places.now.entries (g.L.Logs.folder c.args.logs.now) (g.L.Logs.folder c.loop-text.logs) c.loop-text.spans c.loop-text.invariant.plain

@@ -3,6 +3,7 @@ use Rattle.lp_model.specs.Outside.{OnlyGrow}
 use Rattle.ledger_model.specs.Entries.{Entry}
 use Rattle.log_listing.specs.Firsts.{Knows, firsts}
 use Rattle.positions.specs.SpanSteps.{Tells, AreStemSpans}
+use Rattle.positions.specs.Readable.{AreReadable}
 use Rattle.positions.proofs.by_number.spans_of_stems.Given as goal
 
 -- the stems of the texts so far have their spans
@@ -14,6 +15,7 @@ invariant-loop-text g l = record {
   steady : g.L.Logs.faults l.logs ≡ g.L.Logs.faults l.fn.logs;
   items : l.text-items ≡ l.texts;
   spans : (entries : List Entry) → Tells entries l.places.entries → AreStemSpans l.places.entries entries (take l.text-index l.text-items) (g.L.Logs.folder l.fn.logs) (g.L.Logs.folder l.logs) l.spans;
+  readable : AreReadable (g.L.Logs.folder l.logs) l.spans;
   knows : Knows l.seen (firsts (take l.text-index l.text-items));
   few : length l.spans ≤ 100000;
 }
