@@ -49,8 +49,8 @@ returns-in-Err-Refused-clause-stopped g c =
 
 pub returns-in-Err-Refused-clause-refused : goal.returns-in-Err-Refused-clause-refused
 returns-in-Err-Refused-clause-refused g c =
-    unplaced (kind_of g.G.Stage.state g.G.Stage.ended) (g.L.Logs.folder c.run_sampled.new.logs) c.args.stage.now c.run_sampled.new.stage (asked_by (files_for c.args.into) (wanted_text c.args.wanted c.args.moment.seconds) (query_of c.args.query.now)) c.args.spec.now c.args.moment.seconds (query_of c.args.query.now) c.args.options c.args.limit c.args.waits
-    c.as_slice.result.now c.args.spans.now _ c.as_slice.ensures (rw c.in-Err-Refused.field-0-is at c.in-Err-Refused.ensures.stopped)
+    rw c.in-Err-Refused.field-0-is (unplaced (kind_of g.G.Stage.state g.G.Stage.ended) (g.L.Logs.folder c.run_sampled.new.logs) c.args.stage.now c.run_sampled.new.stage (asked_by (files_for c.args.into) (wanted_text c.args.wanted c.args.moment.seconds) (query_of c.args.query.now)) c.args.spec.now c.args.moment.seconds (query_of c.args.query.now) c.args.options c.args.limit c.args.waits
+    c.as_slice.result.now c.args.spans.now _ c.as_slice.ensures (rw c.in-Err-Refused.field-0-is at c.in-Err-Refused.ensures.stopped))
 
 pub returns-in-Err-Plan-clause-stopped : goal.returns-in-Err-Plan-clause-stopped
 returns-in-Err-Plan-clause-stopped g c =
@@ -59,8 +59,8 @@ returns-in-Err-Plan-clause-stopped g c =
 
 pub returns-in-Err-Plan-clause-plan : goal.returns-in-Err-Plan-clause-plan
 returns-in-Err-Plan-clause-plan g c =
-    unplanned (kind_of g.G.Stage.state g.G.Stage.ended) (g.L.Logs.folder c.run_sampled.new.logs) c.args.stage.now c.run_sampled.new.stage (asked_by (files_for c.args.into) (wanted_text c.args.wanted c.args.moment.seconds) (query_of c.args.query.now)) c.args.spec.now c.args.moment.seconds (query_of c.args.query.now) c.args.options c.args.limit c.args.waits
-    c.as_slice.result.now c.args.spans.now _ c.as_slice.ensures (rw c.in-Err-Plan.field-0-is at c.in-Err-Plan.ensures.stopped)
+    rw c.in-Err-Plan.field-0-is (unplanned (kind_of g.G.Stage.state g.G.Stage.ended) (g.L.Logs.folder c.run_sampled.new.logs) c.args.stage.now c.run_sampled.new.stage (asked_by (files_for c.args.into) (wanted_text c.args.wanted c.args.moment.seconds) (query_of c.args.query.now)) c.args.spec.now c.args.moment.seconds (query_of c.args.query.now) c.args.options c.args.limit c.args.waits
+    c.as_slice.result.now c.args.spans.now _ c.as_slice.ensures (rw c.in-Err-Plan.field-0-is at c.in-Err-Plan.ensures.stopped))
 
 pub returns-in-Err-Plan-clause-before : goal.returns-in-Err-Plan-clause-before
 returns-in-Err-Plan-clause-before g c =
@@ -69,5 +69,5 @@ returns-in-Err-Plan-clause-before g c =
 
 pub returns-in-Err-Bad-clause-parse : goal.returns-in-Err-Bad-clause-parse
 returns-in-Err-Bad-clause-parse g c =
-    parse_error (g.L.Logs.folder c.run_sampled.new.logs) c.args.spec.now c.args.moment.seconds (query_of c.args.query.now)
-    c.args.options c.args.limit c.args.waits c.as_slice.result.now c.args.spans.now c.most_bad.result _ c.as_slice.ensures c.most_bad.ensures (rw c.in-Err-Bad.field-0-is at c.in-Err-Bad.ensures.too_many)
+    rw c.in-Err-Bad.field-0-is (parse_error (g.L.Logs.folder c.run_sampled.new.logs) c.args.spec.now c.args.moment.seconds (query_of c.args.query.now)
+    c.args.options c.args.limit c.args.waits c.as_slice.result.now c.args.spans.now c.most_bad.result _ c.as_slice.ensures c.most_bad.ensures (rw c.in-Err-Bad.field-0-is at c.in-Err-Bad.ensures.too_many))

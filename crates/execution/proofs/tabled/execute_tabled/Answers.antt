@@ -70,10 +70,10 @@ returns-clause-stopped g c = inr
 
 pub returns-in-Err-Refused-clause-refused : goal.returns-in-Err-Refused-clause-refused
 returns-in-Err-Refused-clause-refused g c =
-    front (g.L.Logs.folder c.run_plan.new.logs) (λ asked rows. IsRefused asked rows c.in-Err-Refused.why) (asked_with c.args.into c.args.wanted c.args.moment.seconds (query_of c.args.query.now)) c.args.spec.now c.args.moment.seconds (query_of c.args.query.now)
-    c.args.format c.args.waits (planned_in c.in-Ok.plan) c.as_slice.result.now c.args.spans.now (asked_of c.in-Ok-output_of_rows.output) c.as_slice.ensures c.in-Ok.ensures.plan c.in-Ok-output_of_rows.ensures.asked (rw c.in-Err-Refused.field-0-is at c.in-Err-Refused.ensures.refused)
+    rw c.in-Err-Refused.field-0-is (front (g.L.Logs.folder c.run_plan.new.logs) (λ asked rows. IsRefused asked rows c.in-Err-Refused.why) (asked_with c.args.into c.args.wanted c.args.moment.seconds (query_of c.args.query.now)) c.args.spec.now c.args.moment.seconds (query_of c.args.query.now)
+    c.args.format c.args.waits (planned_in c.in-Ok.plan) c.as_slice.result.now c.args.spans.now (asked_of c.in-Ok-output_of_rows.output) c.as_slice.ensures c.in-Ok.ensures.plan c.in-Ok-output_of_rows.ensures.asked (rw c.in-Err-Refused.field-0-is at c.in-Err-Refused.ensures.refused))
 
 pub returns-clause-parse : goal.returns-clause-parse
 returns-clause-parse g c =
-    parse_error (g.L.Logs.folder c.run_plan.new.logs) c.args.spec.now c.args.moment.seconds (query_of c.args.query.now)
-    c.args.format c.args.waits (planned_in c.in-Ok.plan) c.as_slice.result.now c.args.spans.now c.most_bad.result _ c.as_slice.ensures c.in-Ok.ensures.plan c.most_bad.ensures (rw c.in-Err-Bad.field-0-is at c.in-Err-Bad.ensures.too_many)
+    rw c.in-Err-Bad.field-0-is (parse_error (g.L.Logs.folder c.run_plan.new.logs) c.args.spec.now c.args.moment.seconds (query_of c.args.query.now)
+    c.args.format c.args.waits (planned_in c.in-Ok.plan) c.as_slice.result.now c.args.spans.now c.most_bad.result _ c.as_slice.ensures c.in-Ok.ensures.plan c.most_bad.ensures (rw c.in-Err-Bad.field-0-is at c.in-Err-Bad.ensures.too_many))
