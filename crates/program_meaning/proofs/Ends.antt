@@ -80,11 +80,11 @@ module _ (bytes : List ℕ) (end : ℕ) (last : IsLastEnd bytes end) where
   same_between : (from : ℕ) → lines_between bytes true from (length bytes) ≡ lines_between bytes true from end
   same_between from = each_filter (is_between from (length bytes)) (is_between from end) (lines_of bytes true)
       (λ line among.
-          let e = ends_within line among in
-          let order = line_order bytes line among in
-          let one = starts_before line (length bytes) (omega (arith, e, order, within)) in
-          let two = starts_before line end (omega (arith, e, order)) in
-          rw (one, two) refl)
+      let e = ends_within line among in
+      let order = line_order bytes line among in
+      let one = starts_before line (length bytes) (omega (arith, e, order, within)) in
+      let two = starts_before line end (omega (arith, e, order)) in
+      rw (one, two) refl)
 
   pub standing_to_end : (format : Format) → standing_at format bytes true (length bytes) ≡ standing_at format bytes true end
   standing_to_end format = ap (standing_behind format) same_before

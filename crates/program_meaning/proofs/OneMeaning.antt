@@ -144,14 +144,14 @@ one_given asked past x y a b =
     let formats : log_format a.spec a.q ≡ log_format b.spec b.q = sym (format_bare a.spec (input_of a.spec a.q)) ∙ ((λ i. log_format (specs i) (queries i)) ∙ format_bare b.spec (input_of b.spec b.q)) in
     let patterns : a.spec.ts_format ≡ b.spec.ts_format = λ i. (specs i).ts_format in
     let plans : a.plan ≡ b.plan = same_plan a.plan b.plan (plan_of (table_over (log_format a.spec a.q) a.spec.ts_format past) asked.moment a.q) a.is_planned
-        ((λ i. plan_of (table_over (formats i) (patterns i) past) asked.moment (queries i)) ∙ b.is_planned) in
+    ((λ i. plan_of (table_over (formats i) (patterns i) past) asked.moment (queries i)) ∙ b.is_planned) in
     let names : files_named a.spec [] (into_in a.q) ≡ files_named b.spec [] (into_in b.q) = sym (files_bare a.spec (into_in a.q)) ∙ ((λ i. files_named (specs i) [] (into_in (queries i))) ∙ files_bare b.spec (into_in b.q)) in
     let files : a.files ≡ b.files = same_files a.files b.files (files_named a.spec [] (into_in a.q)) a.are_files (names ∙ b.are_files) in
     let outputs : output_of a.spec a.q ≡ output_of b.spec b.q = λ i. output_of (specs i) (queries i) in
     let templates : output_of a.spec a.q ≡ O.Tpl → a.template ≡ b.template = λ is. (a.is_template is).1 ∙ sym (b.is_template (sym outputs ∙ is)).1 in
     let texts : run_text a.spec a.template asked.moment a.q ≡ run_text b.spec b.template asked.moment b.q =
     text_same a.spec (output_of a.spec a.q) a.template b.template asked.moment templates
-        ∙ (sym (text_bare a.spec (output_of a.spec a.q) b.template asked.moment) ∙ ((λ i. text_as (specs i) (outputs i) b.template asked.moment) ∙ text_bare b.spec (output_of b.spec b.q) b.template asked.moment)) in
+    ∙ (sym (text_bare a.spec (output_of a.spec a.q) b.template asked.moment) ∙ ((λ i. text_as (specs i) (outputs i) b.template asked.moment) ∙ text_bare b.spec (output_of b.spec b.q) b.template asked.moment)) in
     let rows_asked : asked_by (Some a.files) (run_text a.spec a.template asked.moment a.q) a.q a.plan ≡ asked_by (Some b.files) (run_text b.spec b.template asked.moment b.q) b.q b.plan =
     λ i. asked_by (Some (files i)) (texts i) (queries i) (plans i) in
     let rows : rows_over (log_format a.spec a.q) a.spec.ts_format a.plan past ≡ rows_over (log_format b.spec b.q) b.spec.ts_format b.plan past = λ i. rows_over (formats i) (patterns i) (plans i) past in

@@ -69,7 +69,7 @@ find_filter : (p q : List ℕ → Bool) → ((x : List ℕ) → p x ≡ true →
 find_filter p q only [] = refl
 find_filter p q only (x ∷ xs) = elim (cases_Bool (q x)) [
   | inl kept ↦ rw kept (ap (λ (r : Option (List ℕ)). cond (p x) (Some x) r) (find_filter p q only xs))
-  | inr left ↦ elim (cases_Bool (p x)) [ | inl is ↦ absurd (true≢false (sym (only x is) ∙ left)) | inr fails ↦ rw (left, fails) (find_filter p q only xs) ]
+  | inr left ↦ elim (cases_Bool (p x)) [ inl is ↦ absurd (true≢false (sym (only x is) ∙ left)) | inr fails ↦ rw (left, fails) (find_filter p q only xs) ]
 ]
 
 pub given_by_options : (setting : Setting) (words : List (List ℕ)) → given setting (options_in words) ≡ given setting words
