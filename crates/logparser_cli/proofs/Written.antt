@@ -6,7 +6,6 @@ use Rattle.grammar.specs.Trees as model
 use Rattle.command_words.specs.declared.spec.Spec.{Spec}
 use Rattle.file_stage.specs.FileTexts.{AlwaysTells}
 use Rattle.file_stage.specs.declared.putting.FileStage.{FileStage}
-use Rattle.log_listing.specs.Firsts.{with_names}
 use Rattle.log_reading.specs.declared.span.Span.{Span}
 use Rattle.lp_outside.specs.declared.stage.Mark.{Mark}
 use Rattle.lp_outside.specs.Streams.{stream_state}
@@ -18,7 +17,7 @@ use Rattle.row_output.specs.Rows.{Holds, HoldsAt, Stops, StopsAt}
 use Rattle.text_output.specs.Output.{kind_of}
 use Rattle.text_output.specs.declared.target.Output.{Output}
 use Rattle.tpl_output.specs.Sections.{Sections}
-use Rattle.execution.specs.Outputs.{asked_in, files_named, files_of, is_standard, is_stdout}
+use Rattle.execution.specs.Outputs.{asked_in, files_named, files_of, forbidden_by, is_standard, is_stdout}
 use Rattle.execution.specs.Texts.{into_in}
 use Rattle.logparser_cli.specs.Outputs.{AreCut, AreOut, HasFront, HasWritten, IsUnwritten, held}
 use Rattle.logparser_cli.proofs.Filed.{are_left, are_written, file_kind, names_split, seen_by}
@@ -29,7 +28,7 @@ some_unless false files = refl
 
 named_standard : (spec : Spec) (logs : List (List ℕ)) (into : Option model.Placed) → is_some (files_named spec logs into) ≡ not (is_standard into)
 named_standard spec logs None = refl
-named_standard spec logs (Some name) = some_unless (is_stdout name.text) (record { pattern = name.text; forbidden = with_names [] logs; mode = spec.file_mode })
+named_standard spec logs (Some name) = some_unless (is_stdout name.text) (record { pattern = name.text; forbidden = forbidden_by spec logs; mode = spec.file_mode })
 
 -- whether a query's rows go to files
 pub goes_to_files : (spec : Spec) (template : Sections) (moment : ℤ) (q : model.Query) (spans : List Span) (plan : Planned) (standard : Bool) → is_standard (into_in q) ≡ standard → is_some (asked_in spec template moment q spans plan).files ≡ not standard
