@@ -1,0 +1,51 @@
+-- Why a run was refused, and which damage stopped it, from what its calls tell.
+use Rattle.std.proofs.Common.{◌≡◌, ℕ, true, List, Option, Err, refl, sym, subst}
+use Rattle.std.specs.Result.{IsErrOf}
+use Rattle.commit.specs.Faults.{BreaksAt, IsApart}
+use Rattle.disk_model.specs.Disk.{DiskState, Files}
+use Rattle.execution.specs.Executed.{IsParseError, IsUnplaced, IsUnplanned}
+use Rattle.execution.specs.Faults.{IfParse, IfPlan, IfRefused}
+use Rattle.execution.specs.Formats.{log_format}
+use Rattle.execution.specs.Outputs.{asked_in}
+use Rattle.lp_model.specs.Outside.{Folder}
+use Rattle.tpl_output.specs.Sections.{Sections}
+use Rattle.run_entry.specs.Entries.{Request}
+use Rattle.execution.specs.declared.fault.RunFault.{RunFault}
+use Rattle.execution.specs.declared.fault.RunFault.TheVariants as X
+use Rattle.ledger.specs.Reader.{Rests}
+use Rattle.ledger.specs.declared.refused.LedgerRefused.{LedgerRefused}
+use Rattle.ledger.specs.declared.refused.LedgerRefused.TheVariants as C
+use Rattle.ledger.specs.declared.refused.Part2.{Part2}
+use Rattle.log_reading.specs.declared.span.Span.{Span}
+use Rattle.checkpointed_run.specs.Reasons.{IsDamage, RefusedFor, StopsAtDamage}
+use Rattle.checkpointed_run.specs.declared.staging.StagedRun.{StagedRun}
+use Rattle.checkpointed_run.specs.declared.running.RunStop.{RunStop}
+use Rattle.checkpointed_run.specs.declared.running.RunStop.TheVariants as R
+
+-- why a run is refused, as it was told
+pub refused_for : (request : Request) (template : Sections) (told : Option Folder) (spans : List Span) (fault : RunFault)
+    → IfRefused {T = StagedRun} (Err fault) (IsUnplaced (log_format request.spec request.q) true told (asked_in request.spec template request.moment request.q spans) request.spec request.moment request.q spans)
+    → IfPlan {T = StagedRun} (Err fault) (IsUnplanned (log_format request.spec request.q) true told request.spec request.moment request.q spans)
+    → IfParse {T = StagedRun} (Err fault) (IsParseError (log_format request.spec request.q) true told request.spec request.moment request.q spans) → RefusedFor request template told spans fault
+refused_for request template told spans (X.Plan fault) refused plan parse = plan
+refused_for request template told spans (X.Refused why) refused plan parse = refused
+refused_for request template told spans X.LogsFault refused plan parse = tt
+refused_for request template told spans X.StageFault refused plan parse = tt
+refused_for request template told spans (X.ParseErrors log row) refused plan parse = parse
+refused_for request template told spans X.Memory refused plan parse = tt
+
+-- what breaks when it is settled
+pub damage_is : {T : Type 0} (disk : DiskState) (ledger stage : List ℕ) (fault : LedgerRefused)
+    → ((part : Part2) (p : ℕ) → IsErrOf {T = T} {E = LedgerRefused} (Err fault) (C.LedgerFault part p) → disk.tells → IsApart ledger stage disk.seen → BreaksAt ledger stage disk.seen part p) → IsDamage disk ledger stage fault
+damage_is disk ledger stage C.DiskFault breaks = tt
+damage_is disk ledger stage (C.LedgerFault part at) breaks = breaks part at refl
+
+-- was broken before some reads
+pub damage_rested : (a b : DiskState) (ledger stage : List ℕ) → Rests a b → (stop : RunStop) → StopsAtDamage b ledger stage stop → StopsAtDamage a ledger stage stop
+damage_rested a b ledger stage rests (R.Refused fault) is = tt
+damage_rested a b ledger stage rests (R.BeforeGate C.DiskFault) is = tt
+damage_rested a b ledger stage rests (R.BeforeGate (C.LedgerFault part at)) is = λ tells apart.
+    let shows = rests.shows tells in
+    let same : b.seen ≡ a.seen = λ i name. shows.seen name i in
+    subst (λ (seen : Files). BreaksAt ledger stage seen part at) same (is shows.tells (subst (λ (seen : Files). IsApart ledger stage seen) (sym same) apart))
+damage_rested a b ledger stage rests (R.FromGate fault) is = tt

@@ -1,0 +1,143 @@
+-- Reads in front of a run leave its disk as it was: what holds of the run from then on holds from before them.
+use Rattle.std.proofs.Common.{◌≡◌, ◌⊎◌, ⊎_elim, ℕ, ◌≤◌, List, Option, inl, inr, refl, sym, ◌∙◌, ap, subst, arith}
+use Rattle.disk_model.specs.Disk.{DiskState, Files, IsImage, LeavesOnly, Nothing, Works}
+use Rattle.ledger_model.specs.Entries.{Entry}
+use Rattle.ledger.specs.Reader.{Rests}
+use Rattle.recovery_model.specs.Recovered.{IsOther, Recovers, Recoverable, RecoversAsBefore}
+use Rattle.recovery_model.proofs.OneState.{one_state, alike}
+use Rattle.commit.specs.Resume.{CanSettle, Settles}
+use Rattle.commit.specs.declared.phases.Commit.{Commit}
+use Rattle.commit.specs.declared.phases.CommitFiles.{CommitFiles}
+use Rattle.commit.specs.Phases.{disk_of, ledger_of, stage_of, Same, Unsettled, SettlesHeld}
+use Rattle.commit.specs.States.{ShowsFiles}
+use Rattle.commit.proofs.Composing.{same_on}
+use Rattle.lp_model.specs.Outside.{Folder}
+use Rattle.log_reading.specs.declared.span.Span.{Span}
+use Rattle.query_run.specs.declared.executing.Counts.{Counts}
+use Rattle.tpl_output.specs.Sections.{Sections}
+use Rattle.run_entry.specs.Entries.{Request}
+use Rattle.checkpointed_run.specs.Committed.{ComesToGate, IsCommitted, StopsAtGate}
+use Rattle.checkpointed_run.specs.Phases.{IsSettledFrom}
+
+-- the images are the same
+image_before : (a b : DiskState) (image : Files) → Works Nothing a b → IsImage b image → IsImage a image
+image_before a b image works is name = let l = works.leaves name (image name) (is name) in subst (a.may_leave name) (sym l.2) l.1
+
+-- what is read is the same
+seen_same : (a b : DiskState) → Works Nothing a b → b.seen ≡ a.seen
+seen_same a b works = λ i name. works.seen name i
+
+-- what a read gives stands for the same
+recovers_on : (a b : DiskState) (ledger stage : List ℕ) (entries : List Entry) (files : Files) → Works Nothing a b → Recovers ledger stage entries files a.seen → Recovers ledger stage entries files b.seen
+recovers_on a b ledger stage entries files works r = subst (Recovers ledger stage entries files) (sym (seen_same a b works)) r
+
+module _ (a b : DiskState) (ledger stage : List ℕ)
+    (only_now : (image : Files) → a.honest → a.left_since a.moment image → IsImage a image) (can : CanSettle a ledger stage) (works : Works Nothing a b) where
+  as_before : (image : Files) → IsImage a image → RecoversAsBefore a ledger stage image
+  as_before image is = let r = can.images.each image is in (r.0, r.1, image, is, r.2, r.2)
+
+  of_changed : (image : Files) → ((name : List ℕ) → (d : List ℕ) × a.may_leave name d × Nothing name d (image name)) → RecoversAsBefore a ledger stage image
+  of_changed image each = as_before image (λ name. let d = each name in subst (a.may_leave name) (sym d.2) d.1)
+
+  -- reads alone settle nothing, and spoil nothing
+  pub rested : Settles a b ledger stage
+  rested = record {
+    each_moment = record {
+      later = works.later;
+      each = λ image left. ⊎_elim (λ early. as_before image (only_now image can.honest early)) (λ each. of_changed image each) (works.meanwhile a.moment image (omega arith) left);
+      before = λ t image le left. ⊎_elim (λ early. inl early) (λ each. inr (of_changed image each)) (works.meanwhile t image le left);
+    };
+    seen = λ entries files r. recovers_on a b ledger stage entries files works r;
+    again = record {
+      honest = works.honest;
+      differ = can.differ;
+      images = record {
+        each = λ image is. can.images.each image (image_before a b image works is);
+        agree = λ one two entries files others first second r s. can.images.agree one two entries files others (image_before a b one works first) (image_before a b two works second) r s;
+      };
+    };
+  }
+
+module _ (a b c : DiskState) (ledger stage : List ℕ)
+    (counts_now : (t : ℕ) (image : Files) → b.honest → t ≤ b.moment → IsImage b image → b.left_since t image) (first : Settles a b ledger stage) (second : Settles b c ledger stage) where
+  -- what an image of the disk in between stood for an image stood for before
+  on_before : (image : Files) → RecoversAsBefore b ledger stage image → RecoversAsBefore a ledger stage image
+  on_before image r =
+      let entries = r.0 in
+      let files = r.1 in
+      let middle = r.2 in
+      let was = first.each_moment.each middle (counts_now a.moment middle first.again.honest first.each_moment.later r.3) in
+      let one = one_state ledger stage entries was.0 files was.1 middle r.4 was.5 in
+      (was.0, was.1, was.2, was.3, was.4, alike ledger stage entries was.0 files was.1 image one.0 one.1 r.5)
+
+  pub settles_then : Settles a c ledger stage
+  settles_then = record {
+    each_moment = record {
+      later = omega (arith, first.each_moment.later, second.each_moment.later);
+      each = λ image left. ⊎_elim (λ early. first.each_moment.each image early) (λ r. on_before image r) (second.each_moment.before a.moment image first.each_moment.later left);
+      before = λ t image le left.
+          let late : t ≤ b.moment = omega (arith, le, first.each_moment.later) in
+          ⊎_elim (λ early. first.each_moment.before t image le early) (λ r. inr (on_before image r)) (second.each_moment.before t image late left);
+    };
+    seen = λ entries files r. second.seen entries files (first.seen entries files r);
+    again = second.again;
+  }
+
+module _ {D : Type 0} (state : D → DiskState)
+    (only_now : (disk : D) (image : Files) → (state disk).honest → (state disk).left_since (state disk).moment image → IsImage (state disk) image)
+    (counts_now : (disk : D) (t : ℕ) (image : Files) → (state disk).honest → t ≤ (state disk).moment → IsImage (state disk) image → (state disk).left_since t image)
+    (first old : Commit D) (same : Same first old) (rests : Rests (disk_of state first) (disk_of state old)) where
+  -- nothing but reads
+  pub only_rested : Unsettled state first → SettlesHeld state first old
+  only_rested can = rested (disk_of state first) (disk_of state old) (ledger_of first) (stage_of first) (λ image honest left. only_now first.disk.now image honest left) can (rests.crash can.honest)
+
+  -- and then some of a run
+  pub settles_behind : (new : Commit D) → (Unsettled state old → SettlesHeld state old new) → Unsettled state first → SettlesHeld state first new
+  settles_behind new settles can =
+      let front = only_rested can in
+      let here : Unsettled state old = subst (λ (f : CommitFiles). CanSettle (disk_of state old) f.ledger f.stage) (sym same.files) front.again in
+      settles_then (disk_of state first) (disk_of state old) (disk_of state new) (ledger_of first) (stage_of first) (λ t image honest le is. counts_now old.disk.now t image honest le is) front
+      (subst (λ (f : CommitFiles). Settles (disk_of state old) (disk_of state new) f.ledger f.stage) same.files (settles here))
+
+  -- and then a disk that is settled
+  pub settled_behind : (new : Commit D) → IsSettledFrom state old new → IsSettledFrom state first new
+  settled_behind new is = record {
+    same = same_on first old new same is.same;
+    any_moment = settles_behind new is.any_moment;
+    settled = λ can entries files r.
+        let works = rests.crash can.honest in
+        let front = only_rested can in
+        let here : Unsettled state old = subst (λ (f : CommitFiles). CanSettle (disk_of state old) f.ledger f.stage) (sym same.files) front.again in
+        let found = is.settled here entries files (subst (λ (f : CommitFiles). Recovers f.ledger f.stage entries files (disk_of state old).seen) (sym same.files) (recovers_on (disk_of state first) (disk_of state old) (ledger_of first) (stage_of first) entries files works r)) in
+        (found.0, subst (λ (f : CommitFiles). ShowsFiles (disk_of state new) f.ledger f.stage files) same.files found.1);
+  }
+
+  -- a run that came to its gate
+  pub comes_behind : (request : Request) (template : Sections) (told : Option Folder) (spans : List Span) (gate : Commit D) (entry : Entry) (counts : Counts) → ComesToGate state request template told spans old gate entry counts → ComesToGate state request template told spans first gate entry counts
+  comes_behind request template told spans gate entry counts comes = record {
+    settled = comes.settled;
+    settles = settled_behind comes.settled comes.settles;
+    staged = comes.staged;
+    stages = comes.stages;
+    seals = comes.seals;
+  }
+
+  -- was whole
+  abbrev pub committed_behind : (request : Request) (template : Sections) (told : Option Folder) (spans : List Span) (new : Commit D) (counts : Counts) → IsCommitted state request template told spans old new counts → IsCommitted state request template told spans first new counts
+  committed_behind request template told spans new counts is = record {
+    entry = is.entry;
+    gate = is.gate;
+    comes = comes_behind request template told spans is.gate is.entry counts is.comes;
+    opens = is.opens;
+    done = is.done;
+  }
+
+  -- or was stopped there
+  abbrev pub stopped_behind : (request : Request) (template : Sections) (told : Option Folder) (spans : List Span) (new : Commit D) → StopsAtGate state request template told spans old new → StopsAtGate state request template told spans first new
+  stopped_behind request template told spans new is = record {
+    entry = is.entry;
+    counts = is.counts;
+    gate = is.gate;
+    comes = comes_behind request template told spans is.gate is.entry is.counts is.comes;
+    opens = is.opens;
+  }

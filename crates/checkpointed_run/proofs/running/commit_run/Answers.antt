@@ -1,0 +1,92 @@
+use Rattle.std.proofs.Common.{[], ◌∷◌, ◌++◌, FitsSigned, w64}
+use Rattle.std.proofs.lemmas.Int.{to_z-of_z}
+use Rattle.ledger.specs.Written.{entry_of}
+use Rattle.execution.specs.Texts.{sections_in}
+use Rattle.query_tree.specs.Views.{query_of}
+use Rattle.checkpointed_run.specs.Staged.{request_of}
+use Rattle.checkpointed_run.proofs.Causes.{damage_is, refused_for}
+use Rattle.commit.proofs.Composing.{either_on, goes_keeps, preserves_on, same_on, settles_on}
+use Rattle.checkpointed_run.proofs.running.commit_run.Goals as goal
+
+pub returns-in-Err-stage_run-clause-before : goal.returns-in-Err-stage_run-clause-before
+returns-in-Err-stage_run-clause-before g c = λ is can.
+    settles_on g.D.Disk.state g.met.D.Disk.only_now g.met.D.Disk.seen_left c.args.commit.now c.settle.new.self c.stage_run.new.commit c.settle.ensures.same can (c.settle.ensures.any_moment can)
+    (λ entries files r. (goes_keeps g.D.Disk.state g.met.D.Disk.only_now g.met.D.Disk.seen_left c.settle.new.self c.stage_run.new.commit entries files c.stage_run.ensures.goes (c.in-Ok.ensures.settled can entries files r).0).0)
+
+pub returns-in-Err-seal-clause-before : goal.returns-in-Err-seal-clause-before
+returns-in-Err-seal-clause-before g c = λ is can.
+    settles_on g.D.Disk.state g.met.D.Disk.only_now g.met.D.Disk.seen_left c.args.commit.now c.settle.new.self c.seal.new.self c.settle.ensures.same can (c.settle.ensures.any_moment can)
+    (λ entries files r.
+    let kept = goes_keeps g.D.Disk.state g.met.D.Disk.only_now g.met.D.Disk.seen_left c.settle.new.self c.stage_run.new.commit entries files c.stage_run.ensures.goes (c.in-Ok.ensures.settled can entries files r).0 in
+    preserves_on g.D.Disk.state g.met.D.Disk.only_now g.met.D.Disk.seen_left c.settle.new.self c.stage_run.new.commit c.seal.new.self entries files c.stage_run.ensures.goes.same kept.0 (c.seal.ensures.any_moment entries files kept.1))
+
+pub returns-in-Err-open_gate-clause-behind : goal.returns-in-Err-open_gate-clause-behind
+returns-in-Err-open_gate-clause-behind g c = λ is.
+    let range : FitsSigned w64 c.args.moment = c.ranges.moment in
+    record {
+      entry = entry_of c.in-Ok-stage_run.run'.entry;
+      counts = c.in-Ok-stage_run.run'.counts;
+      gate = c.seal.new.self;
+      comes = record {
+        settled = c.settle.new.self;
+        settles = record { same = c.settle.ensures.same; any_moment = c.settle.ensures.any_moment; settled = c.in-Ok.ensures.settled };
+        staged = c.stage_run.new.commit;
+        stages = simp to_z-of_z at c.in-Ok-stage_run.ensures.staged;
+        seals = record { same = c.seal.ensures.same; any_moment = c.seal.ensures.any_moment; small = c.in-Ok-seal.ensures.small; sealed = c.in-Ok-seal.ensures.sealed };
+      };
+      opens = record { same = c.open_gate.ensures.same; any_moment = c.open_gate.ensures.any_moment };
+    }
+
+pub returns-in-Ok-finish-clause-committed : goal.returns-in-Ok-finish-clause-committed
+returns-in-Ok-finish-clause-committed g c =
+    let range : FitsSigned w64 c.args.moment = c.ranges.moment in
+    record {
+      entry = entry_of c.in-Ok-stage_run.run'.entry;
+      gate = c.seal.new.self;
+      comes = record {
+        settled = c.settle.new.self;
+        settles = record { same = c.settle.ensures.same; any_moment = c.settle.ensures.any_moment; settled = c.in-Ok.ensures.settled };
+        staged = c.stage_run.new.commit;
+        stages = simp to_z-of_z at c.in-Ok-stage_run.ensures.staged;
+        seals = record { same = c.seal.ensures.same; any_moment = c.seal.ensures.any_moment; small = c.in-Ok-seal.ensures.small; sealed = c.in-Ok-seal.ensures.sealed };
+      };
+      opens = record {
+        same = same_on c.seal.new.self c.open_gate.new.self c.finish.new.self c.open_gate.ensures.same c.finish.ensures.same;
+        any_moment = λ entry entries before after is.
+            either_on g.D.Disk.state g.met.D.Disk.only_now g.met.D.Disk.seen_left c.seal.new.self c.open_gate.new.self c.finish.new.self entries entry before after c.open_gate.ensures.same
+            (c.open_gate.ensures.any_moment entry entries before after is) (c.finish.ensures.any_moment entry (entries ++ entry ∷ []) after (c.in-Ok-open_gate.ensures.opened entry entries before after is));
+      };
+      done = λ entries before after is. c.in-Ok-finish.ensures.done (entry_of c.in-Ok-stage_run.run'.entry) (entries ++ entry_of c.in-Ok-stage_run.run'.entry ∷ []) after
+          (c.in-Ok-open_gate.ensures.opened (entry_of c.in-Ok-stage_run.run'.entry) entries before after is);
+    }
+
+pub returns-clause-behind : goal.returns-clause-behind
+returns-clause-behind g c = λ is.
+    let range : FitsSigned w64 c.args.moment = c.ranges.moment in
+    record {
+      entry = entry_of c.in-Ok-stage_run.run'.entry;
+      counts = c.in-Ok-stage_run.run'.counts;
+      gate = c.seal.new.self;
+      comes = record {
+        settled = c.settle.new.self;
+        settles = record { same = c.settle.ensures.same; any_moment = c.settle.ensures.any_moment; settled = c.in-Ok.ensures.settled };
+        staged = c.stage_run.new.commit;
+        stages = simp to_z-of_z at c.in-Ok-stage_run.ensures.staged;
+        seals = record { same = c.seal.ensures.same; any_moment = c.seal.ensures.any_moment; small = c.in-Ok-seal.ensures.small; sealed = c.in-Ok-seal.ensures.sealed };
+      };
+      opens = record {
+        same = same_on c.seal.new.self c.open_gate.new.self c.finish.new.self c.open_gate.ensures.same c.finish.ensures.same;
+        any_moment = λ entry entries before after is.
+            either_on g.D.Disk.state g.met.D.Disk.only_now g.met.D.Disk.seen_left c.seal.new.self c.open_gate.new.self c.finish.new.self entries entry before after c.open_gate.ensures.same
+            (c.open_gate.ensures.any_moment entry entries before after is) (c.finish.ensures.any_moment entry (entries ++ entry ∷ []) after (c.in-Ok-open_gate.ensures.opened entry entries before after is));
+      };
+    }
+
+pub returns-in-Err-clause-damaged : goal.returns-in-Err-clause-damaged
+returns-in-Err-clause-damaged g c = damage_is (g.D.Disk.state c.args.commit.now.disk.now) c.args.commit.now.files.ledger c.args.commit.now.files.stage c.in-Err.fault c.in-Err.ensures.fault
+
+pub returns-in-Err-stage_run-clause-refused : goal.returns-in-Err-stage_run-clause-refused
+returns-in-Err-stage_run-clause-refused g c =
+    let range : FitsSigned w64 c.args.moment = c.ranges.moment in
+    refused_for (request_of c.args.spec.now (query_of c.args.query.now) c.args.text c.args.bytes c.args.moment) (sections_in (λ t. t.value) c.args.template) _ _ c.in-Err-stage_run.fault
+    (simp to_z-of_z at c.in-Err-stage_run.ensures.refused) (simp to_z-of_z at c.in-Err-stage_run.ensures.plan) (simp to_z-of_z at c.in-Err-stage_run.ensures.parse)

@@ -1,0 +1,37 @@
+-- A run over a ledger, from the disk that it found to the one that it leaves: each phase, in the words of the commit.
+use Rattle.std.specs.Prelude.{◌≡◌, ◌++◌, [], ◌∷◌, List, Option}
+use Rattle.lp_model.specs.Outside.{Folder}
+use Rattle.disk_model.specs.Disk.{DiskState, Files}
+use Rattle.ledger_model.specs.Entries.{Entry}
+use Rattle.log_reading.specs.declared.span.Span.{Span}
+use Rattle.query_run.specs.declared.executing.Counts.{Counts}
+use Rattle.tpl_output.specs.Sections.{Sections}
+use Rattle.commit.specs.declared.phases.Commit.{Commit}
+use Rattle.commit.specs.Phases.{Settled, Sealed}
+use Rattle.run_entry.specs.Entries.{Request}
+use Rattle.checkpointed_run.specs.Phases.{IsSettledFrom, IsSealedFrom, IsOpenedFrom}
+use Rattle.checkpointed_run.specs.Staged.{HasStagedRun}
+
+-- A run came to its gate: the disk was settled, the run staged, and its entry sealed.
+pub record ComesToGate {D : Type 0} (state : D → DiskState) (request : Request) (template : Sections) (told : Option Folder) (spans : List Span) (old gate : Commit D) (entry : Entry) (counts : Counts) : Type 0 where
+  pub settled : Commit D
+  pub settles : IsSettledFrom state old settled
+  pub staged : Commit D
+  pub stages : HasStagedRun state request template told spans settled staged entry counts
+  pub seals : IsSealedFrom state entry staged gate
+
+-- and was whole: the gate was opened, and the outputs were written
+pub record IsCommitted {D : Type 0} (state : D → DiskState) (request : Request) (template : Sections) (told : Option Folder) (spans : List Span) (old new : Commit D) (counts : Counts) : Type 0 where
+  pub entry : Entry
+  pub gate : Commit D
+  pub comes : ComesToGate state request template told spans old gate entry counts
+  pub opens : IsOpenedFrom state gate new
+  pub done : (entries : List Entry) (before after : Files) → Sealed state gate entry entries before after → Settled state new (entries ++ entry ∷ []) after
+
+-- it stopped at its gate or behind it
+pub record StopsAtGate {D : Type 0} (state : D → DiskState) (request : Request) (template : Sections) (told : Option Folder) (spans : List Span) (old new : Commit D) : Type 0 where
+  pub entry : Entry
+  pub counts : Counts
+  pub gate : Commit D
+  pub comes : ComesToGate state request template told spans old gate entry counts
+  pub opens : IsOpenedFrom state gate new

@@ -1,0 +1,13 @@
+pub mod Files
+pub mod Carried
+pub mod Sound
+pub mod Grounds
+pub mod Staged
+pub mod Phases
+pub mod Committed
+pub mod Stops
+pub mod Reasons
+pub mod Runs
+pub mod Begun
+pub mod Steps
+pub mod Refusals

@@ -1,0 +1,43 @@
+-- Why a run over spans is refused before its gate.
+use Rattle.std.specs.Prelude.{ℕ, true, List, Option}
+use Rattle.std.specs.Bool.{⊤}
+use Rattle.commit.specs.Faults.{BreaksAt, IsApart}
+use Rattle.disk_model.specs.Disk.{DiskState}
+use Rattle.execution.specs.Executed.{IsParseError, IsUnplaced, IsUnplanned}
+use Rattle.execution.specs.Formats.{log_format}
+use Rattle.execution.specs.Outputs.{asked_in}
+use Rattle.execution.specs.declared.fault.RunFault.{RunFault}
+use Rattle.execution.specs.declared.fault.RunFault.TheVariants as X
+use Rattle.ledger.specs.declared.refused.LedgerRefused.{LedgerRefused}
+use Rattle.ledger.specs.declared.refused.LedgerRefused.TheVariants as C
+use Rattle.log_reading.specs.Spans.{bad_line}
+use Rattle.log_reading.specs.declared.span.Span.{Span}
+use Rattle.lp_model.specs.Outside.{Folder}
+use Rattle.tpl_output.specs.Sections.{Sections}
+use Rattle.run_entry.specs.Entries.{Request}
+use Rattle.checkpointed_run.specs.declared.running.RunStop.{RunStop}
+use Rattle.checkpointed_run.specs.declared.running.RunStop.TheVariants as R
+
+-- the query has no plan, an output has no place, or a bad line of the spans is one too many
+abbrev pub RefusedFor : Request → Sections → Option Folder → List Span → RunFault → Type 0
+RefusedFor request template told spans (X.Plan fault) = IsUnplanned (log_format request.spec request.q) true told request.spec request.moment request.q spans fault
+RefusedFor request template told spans (X.Refused why) = IsUnplaced (log_format request.spec request.q) true told (asked_in request.spec template request.moment request.q spans) request.spec request.moment request.q spans why
+RefusedFor request template told spans X.LogsFault = ⊤
+RefusedFor request template told spans X.StageFault = ⊤
+RefusedFor request template told spans (X.ParseErrors log row) = IsParseError (log_format request.spec request.q) true told request.spec request.moment request.q spans (bad_line log row)
+RefusedFor request template told spans X.Memory = ⊤
+
+abbrev pub StopsFor : Request → Sections → Option Folder → List Span → RunStop → Type 0
+StopsFor request template told spans (R.Refused fault) = RefusedFor request template told spans fault
+StopsFor request template told spans (R.BeforeGate fault) = ⊤
+StopsFor request template told spans (R.FromGate fault) = ⊤
+
+-- a damage that a run is told is one of what a read gave before it, where no output of a run that isn't done is the ledger or the stage
+abbrev pub IsDamage : DiskState → List ℕ → List ℕ → LedgerRefused → Type 0
+IsDamage disk ledger stage C.DiskFault = ⊤
+IsDamage disk ledger stage (C.LedgerFault part at) = disk.tells → IsApart ledger stage disk.seen → BreaksAt ledger stage disk.seen part at
+
+abbrev pub StopsAtDamage : DiskState → List ℕ → List ℕ → RunStop → Type 0
+StopsAtDamage disk ledger stage (R.Refused fault) = ⊤
+StopsAtDamage disk ledger stage (R.BeforeGate fault) = IsDamage disk ledger stage fault
+StopsAtDamage disk ledger stage (R.FromGate fault) = ⊤

@@ -1,0 +1,72 @@
+-- Why a run over a ledger gives no counts, and for what cause.
+use Rattle.std.specs.Prelude.{ℕ, List, Option}
+use Rattle.std.specs.Bool.{⊤}
+use Rattle.disk_model.specs.Disk.{DiskState}
+use Rattle.ledger.specs.Reader.{Holds}
+use Rattle.log_reading.specs.declared.span.Span.{Span}
+use Rattle.lp_model.specs.Outside.{Folder, OnlyGrow}
+use Rattle.positions.specs.Loads.{RefusedLoad}
+use Rattle.positions.specs.declared.fault.LoadFault.{LoadFault}
+use Rattle.positions.specs.declared.fault.LoadFault.TheVariants as P
+use Rattle.positions.specs.declared.spans.SpanFault.{SpanFault}
+use Rattle.positions.specs.declared.spans.SpanFault.TheVariants as F
+use Rattle.run_model.specs.Logs.{Rotation}
+use Rattle.tpl_output.specs.Sections.{Sections}
+use Rattle.run_entry.specs.Entries.{Request}
+use Rattle.checkpointed_run.specs.Begun.{HasNoSpans, HasSpans}
+use Rattle.checkpointed_run.specs.Reasons.{StopsAtDamage, StopsFor}
+use Rattle.checkpointed_run.specs.Stops.{HasReason}
+use Rattle.checkpointed_run.specs.declared.running.RunStop.{RunStop}
+use Rattle.checkpointed_run.specs.declared.over.LedgerStop.{LedgerStop}
+use Rattle.checkpointed_run.specs.declared.over.LedgerStop.TheVariants as L
+
+-- a call failed only where its object counted a fault
+abbrev pub LoadReason : Type 0 → LoadFault → Type 0
+LoadReason disk P.DiskFault = disk
+LoadReason disk (P.LedgerFault part at) = ⊤
+LoadReason disk P.Memory = ⊤
+
+abbrev pub SpanReason : Type 0 → SpanFault → Type 0
+SpanReason logs (F.NoSuchLog name) = ⊤
+SpanReason logs (F.LostLog stem number) = ⊤
+SpanReason logs (F.Shrunk name kept found) = ⊤
+SpanReason logs (F.InputChanged kept given) = ⊤
+SpanReason logs F.TooManyLogs = ⊤
+SpanReason logs F.LogsFault = logs
+SpanReason logs (F.BadName fault) = ⊤
+SpanReason logs F.Memory = ⊤
+
+abbrev pub HasCauses : Type 0 → Type 0 → LedgerStop → Type 0
+HasCauses logs disk (L.Ledger fault) = LoadReason disk fault
+HasCauses logs disk (L.Logs fault) = SpanReason logs fault
+HasCauses logs disk (L.Run stop) = HasReason logs disk stop
+HasCauses logs disk L.Memory = ⊤
+
+-- a run over the spans that the logs have was stopped
+pub record HasStopped (disk : DiskState) (ledger : List ℕ) (rotation : Rotation) (input : List ℕ) (texts : List (List ℕ)) (request : Request) (template : Sections) (before now : Option Folder) (stop : RunStop) : Type 0 where
+  pub listed : Option Folder
+  pub grows : OnlyGrow listed now
+  pub spans : List Span
+  pub has : HasSpans disk ledger rotation input texts before listed spans
+  pub stops : StopsFor request template now spans stop
+
+-- why there are no counts: the ledger that a read gives is damaged, the logs behind FROM have no spans from where its runs left them, or the run over them is stopped
+abbrev pub IsWithoutCounts : DiskState → List ℕ → Rotation → List ℕ → List (List ℕ) → Request → Sections → Option Folder → Option Folder → LedgerStop → Type 0
+IsWithoutCounts disk ledger rotation input texts request template before now (L.Ledger fault) = (file : List ℕ) → Holds disk ledger file → RefusedLoad file fault
+IsWithoutCounts disk ledger rotation input texts request template before now (L.Logs fault) = HasNoSpans disk ledger rotation input texts before now fault
+IsWithoutCounts disk ledger rotation input texts request template before now (L.Run stop) = HasStopped disk ledger rotation input texts request template before now stop
+IsWithoutCounts disk ledger rotation input texts request template before now L.Memory = ⊤
+
+-- a damage that the run is told behind the load of the ledger
+abbrev pub IsAtDamage : DiskState → List ℕ → List ℕ → LedgerStop → Type 0
+IsAtDamage disk ledger stage (L.Ledger fault) = ⊤
+IsAtDamage disk ledger stage (L.Logs fault) = ⊤
+IsAtDamage disk ledger stage (L.Run stop) = StopsAtDamage disk ledger stage stop
+IsAtDamage disk ledger stage L.Memory = ⊤
+
+-- why there are none before the run
+abbrev pub IsNotBegun : DiskState → List ℕ → Rotation → List ℕ → List (List ℕ) → Option Folder → Option Folder → LedgerStop → Type 0
+IsNotBegun disk ledger rotation input texts before now (L.Ledger fault) = (file : List ℕ) → Holds disk ledger file → RefusedLoad file fault
+IsNotBegun disk ledger rotation input texts before now (L.Logs fault) = HasNoSpans disk ledger rotation input texts before now fault
+IsNotBegun disk ledger rotation input texts before now (L.Run stop) = ⊥
+IsNotBegun disk ledger rotation input texts before now L.Memory = ⊤

@@ -1,0 +1,200 @@
+// A run over the logs behind FROM, from where the runs of a ledger left them.
+ghost use Rattle.std.specs.Prelude.{◌≡◌, ◌≤◌, ◌+◌, ◌++◌, true, length, map, codes, None, Some, IfOk, IfErr, IsSome};
+ghost use Rattle.lp_model.specs.Outside.{Rose, OnlyGrow, Told, bytes_in};
+ghost use Rattle.command_words.specs.Table.{IsInRange};
+ghost use Rattle.command_words.specs.declared.formats.OutputFormat.TheVariants as O;
+ghost use Rattle.execution.specs.Built.{is_run_built};
+ghost use Rattle.execution.specs.Executed.{IsMoment};
+ghost use Rattle.execution.specs.Texts.{output_of, sections_in};
+ghost use Rattle.ledger.specs.Reader.{Rests};
+ghost use Rattle.ledger_model.specs.Inputs.{input_text};
+ghost use Rattle.log_reading.specs.Spans.{AllSpans, IsSpan, spans_size};
+ghost use Rattle.lp_outside.specs.NameFault.{name_fault};
+ghost use Rattle.positions.specs.Spanning.{rule_of};
+ghost use Rattle.program_meaning.specs.Gives.{HasTemplate};
+ghost use Rattle.program_meaning.specs.Inputs.{input_for};
+ghost use Rattle.query_text.specs.Stdin.{names_in};
+ghost use Rattle.query_tree.specs.Views.{query_of};
+ghost use Rattle.checkpointed_run.specs.Begun.{GivesSpans, HasSpans};
+ghost use Rattle.checkpointed_run.specs.Reasons.{StopsAtDamage, StopsFor};
+ghost use Rattle.checkpointed_run.specs.Refusals.{HasCauses, IsAtDamage, IsNotBegun, IsWithoutCounts};
+ghost use Rattle.checkpointed_run.specs.Runs.{RunsOver};
+ghost use Rattle.checkpointed_run.specs.Staged.{request_of};
+ghost use Rattle.checkpointed_run.specs.Steps.{TakesStep, ending_of};
+ghost use Rattle.checkpointed_run.specs.Stops.{HasReason};
+
+use crate::{RunStop, commit_run};
+use checkpoint::{Sources, Spans};
+use command_words::Spec;
+use commit::{Commit, CommitFiles};
+use lp_outside::{Disk, Logs, Name, Source};
+use lp_values::{Bytes, Text};
+use positions::{LoadFault, Positions, SpanFault};
+use query_run::Counts;
+use query_tree::Query;
+use run_entry::{input_text, input_texts_tell_their_format};
+use std::alloc::Global;
+use std::rc::Rc;
+use tpl_output::Template;
+
+/// Why a run over the logs behind FROM gives no counts.
+#[derive(Drop)]
+pub enum LedgerStop {
+    /// The ledger isn't loaded.
+    Ledger(LoadFault),
+    /// The logs have no spans, or the ledger's runs read them otherwise.
+    Logs(SpanFault),
+    /// The run was stopped.
+    Run(RunStop),
+    /// Want of memory.
+    Memory,
+}
+
+// What a run reads of each log behind FROM. The disk is only read.
+fn spans_over<L: Logs, D: Disk>(
+    alloc: Global,
+    spec: &Spec,
+    query: &Query,
+    logs: &mut L,
+    sources: &Sources,
+    ledger: &Name,
+    disk: &mut D,
+) -> Result<Spans, LedgerStop>
+    requires range { IsInRange spec.now }
+    ensures grows { OnlyGrow (L.folder logs.old) (L.folder logs.new) }
+    ensures rests { Rests (D.state disk.old) (D.state disk.new) }
+    ensures spans { IfOk result (HasSpans (D.state disk.old) ledger.now (rule_of sources.now.rotation) (input_text (input_for spec.now (query_of query.now))) sources.now.names (L.folder logs.old) (L.folder logs.new)) }
+    ensures low { IfOk result (λ spans. AllSpans spans IsSpan) }
+    ensures few { IfOk result (λ spans. length spans ≤ 100_000) }
+    ensures there { IfOk result (λ spans. Told (L.folder logs.new) (λ folder. AllSpans spans (λ span. span.listed ≤ length (bytes_in folder span.name)))) }
+    ensures not_begun { IfErr result (IsNotBegun (D.state disk.old) ledger.now (rule_of sources.now.rotation) (input_text (input_for spec.now (query_of query.now))) sources.now.names (L.folder logs.old) (L.folder logs.new)) }
+    ensures given { L.given logs.new ≡ L.given logs.old }
+    ensures later_logs { L.faults logs.old ≤ L.faults logs.new }
+    ensures later { D.faults disk.old ≤ D.faults disk.new }
+    ensures reason { IfErr result (HasCauses (Rose (L.faults logs.old) (L.faults logs.new)) (Rose (D.faults disk.old) (D.faults disk.new))) }
+{
+    let kept = match Positions::load(alloc, disk, ledger) {
+        Ok(kept) => kept,
+        Err(fault) => return Err(LedgerStop::Ledger(fault)),
+    };
+    let read_by = match input_text(alloc, spec, query) {
+        Ok(read_by) => read_by,
+        Err(_) => return Err(LedgerStop::Memory),
+    };
+    match kept.span(alloc, logs, sources, &read_by) {
+        Ok(spans) => Ok(spans),
+        Err(fault) => Err(LedgerStop::Logs(fault)),
+    }
+}
+
+// A name has no fault.
+fn name_is_good(name: &Name)
+    ensures { name_fault name.now ≡ None }
+{
+    let _text = name.as_str();
+}
+
+// Runs a query over spans, over the two files of a disk.
+fn run_over_spans<L: Logs, D: Disk, I: Source>(
+    alloc: Global,
+    spec: &Spec,
+    query: &Query,
+    text: Text,
+    template: Option<Rc<Template>>,
+    bytes: Bytes,
+    moment: i64,
+    logs: &mut L,
+    input: &mut I,
+    spans: &Spans,
+    files: CommitFiles,
+    disk: &mut D,
+) -> Result<Counts, RunStop>
+    requires moment { IsMoment moment }
+    requires range { IsInRange spec.now }
+    requires template { output_of spec.now (query_of query.now) ≡ O.Tpl → IsSome template }
+    requires built { is_run_built spec.now (query_of query.now) ≡ true }
+    requires ledger { spec.now.checkpoint ≡ Some files.ledger }
+    requires stage { files.stage ≡ files.ledger ++ codes ".stage" }
+    requires few { length spans.now ≤ 100_000 }
+    requires low { AllSpans spans.now IsSpan }
+    requires there { Told (L.folder logs.old) (λ folder. AllSpans spans.now (λ span. span.listed ≤ length (bytes_in folder span.name))) }
+    ensures grows { OnlyGrow (L.folder logs.old) (L.folder logs.new) }
+    ensures runs { RunsOver D.state (request_of spec.now (query_of query.now) text bytes moment) (sections_in (λ t. t.value) template) (L.folder logs.new) spans.now files disk.old disk.new result }
+    ensures refused { IfErr result (StopsFor (request_of spec.now (query_of query.now) text bytes moment) (sections_in (λ t. t.value) template) (L.folder logs.new) spans.now) }
+    ensures damaged { IfErr result (StopsAtDamage (D.state disk.old) files.ledger files.stage) }
+    ensures input { input.new ≡ input.old }
+    ensures given { L.given logs.new ≤ L.given logs.old + spans_size spans.now }
+    ensures later_logs { L.faults logs.old ≤ L.faults logs.new }
+    ensures later { D.faults disk.old ≤ D.faults disk.new }
+    ensures reason { IfErr result (HasReason (Rose (L.faults logs.old) (L.faults logs.new)) (Rose (D.faults disk.old) (D.faults disk.new))) }
+{
+    name_is_good(&files.stage);
+    let mut commit = Commit::new(disk, files);
+    commit_run(
+        alloc,
+        spec,
+        query,
+        text,
+        template,
+        bytes,
+        moment,
+        logs,
+        input,
+        spans,
+        &mut commit,
+    )
+}
+
+/// Runs a query over the logs behind FROM, of each the complete lines behind its kept place, and commits its outputs and its
+/// entry together.
+pub fn run_over_ledger<L: Logs, D: Disk, I: Source>(
+    alloc: Global,
+    spec: &Spec,
+    query: &Query,
+    text: Text,
+    template: Option<Rc<Template>>,
+    bytes: Bytes,
+    moment: i64,
+    logs: &mut L,
+    input: &mut I,
+    sources: &Sources,
+    files: CommitFiles,
+    disk: &mut D,
+) -> Result<Counts, LedgerStop>
+    requires moment { IsMoment moment }
+    requires range { IsInRange spec.now }
+    requires template { output_of spec.now (query_of query.now) ≡ O.Tpl → IsSome template }
+    // The bytes are those of the template.
+    requires sections { HasTemplate spec.now (query_of query.now) bytes (sections_in (λ t. t.value) template) }
+    requires built { is_run_built spec.now (query_of query.now) ≡ true }
+    requires names { sources.now.names ≡ map (λ name. name.text) (names_in (query_of query.now)) }
+    requires rotation { sources.now.rotation ≡ spec.now.rotation }
+    requires ledger { spec.now.checkpoint ≡ Some files.ledger }
+    requires stage { files.stage ≡ files.ledger ++ codes ".stage" }
+    ensures grows { OnlyGrow (L.folder logs.old) (L.folder logs.new) }
+    ensures step { TakesStep (ending_of result) (request_of spec.now (query_of query.now) text bytes moment) files.ledger files.stage (L.folder logs.old) (L.folder logs.new) (D.state disk.old) (D.state disk.new) }
+    // Why there are no counts.
+    ensures refused { IfErr result (IsWithoutCounts (D.state disk.old) files.ledger (rule_of sources.now.rotation) (input_text (input_for spec.now (query_of query.now))) sources.now.names (request_of spec.now (query_of query.now) text bytes moment) (sections_in (λ t. t.value) template) (L.folder logs.old) (L.folder logs.new)) }
+    // A damage that settling the disk finds is that of the stage or of the ledger.
+    ensures damaged { IfErr result (IsAtDamage (D.state disk.old) files.ledger files.stage) }
+    // A fault of the disk or of the logs is one that was counted in the call.
+    ensures reason { IfErr result (HasCauses (Rose (L.faults logs.old) (L.faults logs.new)) (Rose (D.faults disk.old) (D.faults disk.new))) }
+    ensures input { input.new ≡ input.old }
+    // What the logs gave lies in the spans.
+    ensures given { GivesSpans (D.state disk.old) files.ledger (rule_of sources.now.rotation) (input_text (input_for spec.now (query_of query.now))) sources.now.names (L.folder logs.old) (L.folder logs.new) (L.given logs.old) (L.given logs.new) }
+    ensures later_logs { L.faults logs.old ≤ L.faults logs.new }
+    ensures later { D.faults disk.old ≤ D.faults disk.new }
+{
+    // A law, which costs nothing: the logs are read in the format that the ledger's text of them tells.
+    input_texts_tell_their_format();
+    let spans = match spans_over(alloc, spec, query, logs, sources, &files.ledger, disk) {
+        Ok(spans) => spans,
+        Err(stop) => return Err(stop),
+    };
+    match run_over_spans(
+        alloc, spec, query, text, template, bytes, moment, logs, input, &spans, files, disk,
+    ) {
+        Ok(counts) => Ok(counts),
+        Err(stop) => Err(LedgerStop::Run(stop)),
+    }
+}
