@@ -28,7 +28,7 @@ use Rattle.row_output.specs.declared.fault.Refused.{Refused}
 use Rattle.row_output.specs.declared.fault.Refused.TheVariants as W
 use Rattle.log_listing.specs.declared.lengths.NameLength.{NameLength}
 use Rattle.reports.specs.declared.status.Status.{Status}
-use Rattle.reports.specs.declared.status.Status.TheVariants.{Done, Memory, Clock, Usage, Query, NotBuilt, NoSuchLog, BadName, NameClash, TooManyOutputs, TooManyLogs, Template, LogsFault, DiskFault, SinkFault, ParseErrors}
+use Rattle.reports.specs.declared.status.Status.TheVariants.{Done, Memory, Clock, Usage, Query, NotBuilt, NoSuchLog, BadName, NameClash, TooManyOutputs, TooManyLogs, Template, LogsFault, DiskFault, SinkFault, ParseErrors, LostLog, Shrunk, InputChanged, IntoNeeded, LedgerFault}
 use Rattle.reports.specs.Status.{OnRefused}
 use Rattle.requests.specs.Requests.{Asks, IsRefused}
 use Rattle.requests.specs.declared.fault.RequestFault.{RequestFault}
@@ -60,6 +60,11 @@ on_refused LogsFault P p = p
 on_refused DiskFault P p = p
 on_refused SinkFault P p = p
 on_refused (ParseErrors log row) P p = p
+on_refused (LostLog stem number) P p = p
+on_refused (Shrunk lost kept found) P p = p
+on_refused (InputChanged kept given) P p = p
+on_refused IntoNeeded P p = p
+on_refused (LedgerFault part place) P p = p
 
 -- a count that rose since a later moment has risen since an earlier one
 pub rose_since : (a b c : ℕ) → a ≤ b → Rose b c → Rose a c
@@ -83,6 +88,11 @@ unlisted_answers old new template spec moment q LogsFault is same rose = (inl sa
 unlisted_answers old new template spec moment q DiskFault is same rose = absurd is
 unlisted_answers old new template spec moment q SinkFault is same rose = absurd is
 unlisted_answers old new template spec moment q (ParseErrors log row) is same rose = absurd is
+unlisted_answers old new template spec moment q (LostLog stem number) is same rose = absurd is
+unlisted_answers old new template spec moment q (Shrunk lost kept found) is same rose = absurd is
+unlisted_answers old new template spec moment q (InputChanged kept given) is same rose = absurd is
+unlisted_answers old new template spec moment q IntoNeeded is same rose = absurd is
+unlisted_answers old new template spec moment q (LedgerFault part place) is same rose = absurd is
 
 -- a query was run over whole logs
 pub whole : (old new : World) (mid : Option Folder) (template : Sections) (spec : Spec) (moment : ℤ) (q : model.Query) (spans : List Span) (counts : Counts) → AreSpans old.folder mid q spans → OnlyGrow mid new.folder
@@ -230,6 +240,11 @@ run_earlier mid new before faults template spec moment q LogsFault grow later s 
 run_earlier mid new before faults template spec moment q DiskFault grow later s = (s.0, stop_earlier mid new before faults template spec moment q grow s.1, s.2)
 run_earlier mid new before faults template spec moment q SinkFault grow later s = (s.0, stop_earlier mid new before faults template spec moment q grow s.1, s.2)
 run_earlier mid new before faults template spec moment q (ParseErrors log row) grow later s = record { logs = s.logs; are_logs = logs_earlier before mid.folder new.folder q s.logs grow s.are_logs; typed = s.typed; exceeds = s.exceeds; front = s.front }
+run_earlier mid new before faults template spec moment q (LostLog stem number) grow later s = absurd s
+run_earlier mid new before faults template spec moment q (Shrunk lost kept found) grow later s = absurd s
+run_earlier mid new before faults template spec moment q (InputChanged kept given) grow later s = absurd s
+run_earlier mid new before faults template spec moment q IntoNeeded grow later s = absurd s
+run_earlier mid new before faults template spec moment q (LedgerFault part place) grow later s = absurd s
 
 untemplated_since : (before mid now : Option Folder) (name : List ℕ) (status : Status) → OnlyGrow before mid → IsUntemplated mid now name status → IsUntemplated before now name status
 untemplated_since before mid now name Done grow s = s
@@ -248,6 +263,11 @@ untemplated_since before mid now name LogsFault grow s = s
 untemplated_since before mid now name DiskFault grow s = s
 untemplated_since before mid now name SinkFault grow s = s
 untemplated_since before mid now name (ParseErrors log row) grow s = s
+untemplated_since before mid now name (LostLog stem number) grow s = s
+untemplated_since before mid now name (Shrunk lost kept found) grow s = s
+untemplated_since before mid now name (InputChanged kept given) grow s = s
+untemplated_since before mid now name IntoNeeded grow s = s
+untemplated_since before mid now name (LedgerFault part place) grow s = s
 
 built_earlier : (mid new : World) (before : Option Folder) (faults : ℕ) (spec : Spec) (moment : ℤ) (q : model.Query) (status : Status) → OnlyGrow before mid.folder → faults ≤ mid.logs_faults
     → AnswersBuilt mid new spec moment q status → AnswersBuilt (with_logs mid before faults) new spec moment q status
@@ -325,6 +345,11 @@ run_told old new err faults template spec moment q LogsFault refused s = s
 run_told old new err faults template spec moment q DiskFault refused s = s
 run_told old new err faults template spec moment q SinkFault refused s = s
 run_told old new err faults template spec moment q (ParseErrors log row) refused s = s
+run_told old new err faults template spec moment q (LostLog stem number) refused s = s
+run_told old new err faults template spec moment q (Shrunk lost kept found) refused s = s
+run_told old new err faults template spec moment q (InputChanged kept given) refused s = s
+run_told old new err faults template spec moment q IntoNeeded refused s = s
+run_told old new err faults template spec moment q (LedgerFault part place) refused s = s
 
 built_told : (old new : World) (err : Option (List ℕ)) (faults : ℕ) (spec : Spec) (moment : ℤ) (q : model.Query) (status : Status) → (status ≡ Done → ⊥) → AnswersBuilt old new spec moment q status → AnswersBuilt old (with_err new err faults) spec moment q status
 built_told old new err faults spec moment q status refused (inl none) = inl (record { refused = none.refused; unwritten = none.unwritten; rose = none.rose })
@@ -352,6 +377,11 @@ unasked_told old new err faults words LogsFault s = s
 unasked_told old new err faults words DiskFault s = s
 unasked_told old new err faults words SinkFault s = s
 unasked_told old new err faults words (ParseErrors log row) s = s
+unasked_told old new err faults words (LostLog stem number) s = s
+unasked_told old new err faults words (Shrunk lost kept found) s = s
+unasked_told old new err faults words (InputChanged kept given) s = s
+unasked_told old new err faults words IntoNeeded s = s
+unasked_told old new err faults words (LedgerFault part place) s = s
 
 -- a refusal says the same once it is told
 pub told_answers : (old new : World) (err : Option (List ℕ)) (faults : ℕ) (moment : ℤ) (words : List (List ℕ)) (status : Status) → (status ≡ Done → ⊥) → Answers moment words old new status → Answers moment words old (with_err new err faults) status
@@ -378,3 +408,8 @@ refused_is LogsFault P refused p = p
 refused_is DiskFault P refused p = p
 refused_is SinkFault P refused p = p
 refused_is (ParseErrors log row) P refused p = p
+refused_is (LostLog stem number) P refused p = p
+refused_is (Shrunk lost kept found) P refused p = p
+refused_is (InputChanged kept given) P refused p = p
+refused_is IntoNeeded P refused p = p
+refused_is (LedgerFault part place) P refused p = p

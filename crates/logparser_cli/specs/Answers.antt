@@ -11,7 +11,7 @@ use Rattle.log_reading.specs.Spans.{bad_line}
 use Rattle.query_text.specs.declared.fault.QueryFault.{QueryFault}
 use Rattle.query_text.specs.declared.fault.QueryFault.TheVariants as Q
 use Rattle.reports.specs.declared.status.Status.{Status}
-use Rattle.reports.specs.declared.status.Status.TheVariants.{Done, Memory, Clock, Usage, Query, NotBuilt, NoSuchLog, BadName, NameClash, TooManyOutputs, TooManyLogs, Template, LogsFault, DiskFault, SinkFault, ParseErrors}
+use Rattle.reports.specs.declared.status.Status.TheVariants.{Done, Memory, Clock, Usage, Query, NotBuilt, NoSuchLog, BadName, NameClash, TooManyOutputs, TooManyLogs, Template, LogsFault, DiskFault, SinkFault, ParseErrors, LostLog, Shrunk, InputChanged, IntoNeeded, LedgerFault}
 use Rattle.requests.specs.Requests.{Asks, IsRefused}
 use Rattle.requests.specs.declared.fault.RequestFault.{RequestFault}
 use Rattle.requests.specs.declared.fault.RequestFault.TheVariants as R
@@ -60,6 +60,11 @@ AnswersRun old new template spec moment q LogsFault = IsStopped old new template
 AnswersRun old new template spec moment q DiskFault = (is_standard (into_in q) ≡ false) × IsStopped old new template spec moment q × Rose old.disk_faults new.disk_faults
 AnswersRun old new template spec moment q SinkFault = (is_standard (into_in q) ≡ true) × IsStopped old new template spec moment q × Rose old.out_faults new.out_faults
 AnswersRun old new template spec moment q (ParseErrors log row) = IsParseError old.folder new.folder old.held new.held template spec moment q (bad_line log row)
+AnswersRun old new template spec moment q (LostLog stem number) = ⊥
+AnswersRun old new template spec moment q (Shrunk lost kept found) = ⊥
+AnswersRun old new template spec moment q (InputChanged kept given) = ⊥
+AnswersRun old new template spec moment q IntoNeeded = ⊥
+AnswersRun old new template spec moment q (LedgerFault part place) = ⊥
 
 -- the template isn't read, and nothing was written
 pub record IsUnread (old new : World) (spec : Spec) (q : model.Query) (status : Status) : Type 0 where
@@ -106,6 +111,11 @@ IsUnasked old new words LogsFault = Rose old.logs_faults new.logs_faults × IsUn
 IsUnasked old new words DiskFault = ⊥
 IsUnasked old new words SinkFault = ⊥
 IsUnasked old new words (ParseErrors log row) = ⊥
+IsUnasked old new words (LostLog stem number) = ⊥
+IsUnasked old new words (Shrunk lost kept found) = ⊥
+IsUnasked old new words (InputChanged kept given) = ⊥
+IsUnasked old new words IntoNeeded = ⊥
+IsUnasked old new words (LedgerFault part place) = ⊥
 
 -- the clock gives no moment
 pub record IsClock (moment : ℤ) (old new : World) (status : Status) : Type 0 where

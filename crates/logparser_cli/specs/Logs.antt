@@ -12,7 +12,7 @@ use Rattle.log_listing.specs.Listed.{Lists, IsRefused}
 use Rattle.log_reading.specs.declared.span.Span.{Span}
 use Rattle.query_text.specs.Stdin.{names_in}
 use Rattle.reports.specs.declared.status.Status.{Status}
-use Rattle.reports.specs.declared.status.Status.TheVariants.{Done, Memory, Clock, Usage, Query, NotBuilt, NoSuchLog, BadName, NameClash, TooManyOutputs, TooManyLogs, Template, LogsFault, DiskFault, SinkFault, ParseErrors}
+use Rattle.reports.specs.declared.status.Status.TheVariants.{Done, Memory, Clock, Usage, Query, NotBuilt, NoSuchLog, BadName, NameClash, TooManyOutputs, TooManyLogs, Template, LogsFault, DiskFault, SinkFault, ParseErrors, LostLog, Shrunk, InputChanged, IntoNeeded, LedgerFault}
 
 -- the names behind FROM
 abbrev pub from_names : model.Query → List (List ℕ)
@@ -48,6 +48,11 @@ IsUnlisted now q LogsFault = ⊤
 IsUnlisted now q DiskFault = ⊥
 IsUnlisted now q SinkFault = ⊥
 IsUnlisted now q (ParseErrors log row) = ⊥
+IsUnlisted now q (LostLog stem number) = ⊥
+IsUnlisted now q (Shrunk lost kept found) = ⊥
+IsUnlisted now q (InputChanged kept given) = ⊥
+IsUnlisted now q IntoNeeded = ⊥
+IsUnlisted now q (LedgerFault part place) = ⊥
 
 -- what a refusal of the list of logs is
 abbrev pub unlisted : ListFault → Status

@@ -9,7 +9,7 @@ use Rattle.requests.specs.Templates.{HoldsTemplate, HoldsFault}
 use Rattle.requests.specs.declared.fault.NoTemplate.{NoTemplate}
 use Rattle.requests.specs.declared.fault.NoTemplate.TheVariants as N
 use Rattle.reports.specs.declared.status.Status.{Status}
-use Rattle.reports.specs.declared.status.Status.TheVariants.{Done, Memory, Clock, Usage, Query, NotBuilt, NoSuchLog, BadName, NameClash, TooManyOutputs, TooManyLogs, Template, LogsFault, DiskFault, SinkFault, ParseErrors}
+use Rattle.reports.specs.declared.status.Status.TheVariants.{Done, Memory, Clock, Usage, Query, NotBuilt, NoSuchLog, BadName, NameClash, TooManyOutputs, TooManyLogs, Template, LogsFault, DiskFault, SinkFault, ParseErrors, LostLog, Shrunk, InputChanged, IntoNeeded, LedgerFault}
 use Rattle.tpl_output.specs.Sections.{Sections}
 
 -- the file that `-tpl` names holds a template of these sections
@@ -40,6 +40,11 @@ IsUntemplated before now name LogsFault = ⊤
 IsUntemplated before now name DiskFault = ⊥
 IsUntemplated before now name SinkFault = ⊥
 IsUntemplated before now name (ParseErrors log row) = ⊥
+IsUntemplated before now name (LostLog stem number) = ⊥
+IsUntemplated before now name (Shrunk lost kept found) = ⊥
+IsUntemplated before now name (InputChanged kept given) = ⊥
+IsUntemplated before now name IntoNeeded = ⊥
+IsUntemplated before now name (LedgerFault part place) = ⊥
 
 -- a run whose output is by a template has none
 pub record IsWithoutTemplate (before now : Option Folder) (spec : Spec) (q : model.Query) (status : Status) : Type 0 where

@@ -2,8 +2,9 @@
 ghost use Rattle.std.specs.Prelude.{◌≡◌};
 
 use command_words::UsageFault;
+use ledger::Part2;
 use lp_outside::{Name, NameFault};
-use lp_values::Text;
+use lp_values::{Bytes, Text};
 use query_text::QueryFault;
 use tpl_output::TemplateFault;
 
@@ -42,6 +43,16 @@ pub enum Status {
     SinkFault,
     /// A bad line is one too many: the log's identity, and the line's number.
     ParseErrors { log: Name, row: u64 },
+    /// A rotated log isn't there: its stem and its number.
+    LostLog { stem: Name, number: u64 },
+    /// A log is shorter than what was read of it: its bytes that were read, and those that are there.
+    Shrunk { name: Name, kept: u64, found: u64 },
+    /// The ledger was begun with another input: the ledger's, and the one that is given.
+    InputChanged { kept: Bytes, given: Bytes },
+    /// A query over a ledger names no output.
+    IntoNeeded,
+    /// The ledger or its stage is damaged: which of them, and at which byte.
+    LedgerFault { part: Part2, at: u64 },
 }
 
 impl Status {
@@ -55,17 +66,21 @@ impl Status {
             Status::Done => 0,
             Status::Memory => 1,
             Status::Clock(_) | Status::Usage(_) | Status::NotBuilt => 2,
-            Status::Query(_) => 3,
+            Status::Query(_) | Status::IntoNeeded => 3,
             Status::NoSuchLog(_)
             | Status::BadName(_)
             | Status::NameClash(_)
             | Status::TooManyOutputs
             | Status::TooManyLogs
-            | Status::Template(_) => 4,
+            | Status::Template(_)
+            | Status::LostLog { .. }
+            | Status::Shrunk { .. }
+            | Status::InputChanged { .. } => 4,
             Status::LogsFault => 5,
             Status::DiskFault => 6,
             Status::SinkFault => 7,
             Status::ParseErrors { .. } => 8,
+            Status::LedgerFault { .. } => 9,
         }
     }
 }
