@@ -16,7 +16,7 @@ use execution::output_of;
 use lp_outside::{Logs, Name};
 use query_tree::Query;
 use reports::Status;
-use requests::{NoTemplate, read_template};
+use requests::{NoTemplate, WrittenTemplate, read_template};
 use std::alloc::Global;
 use std::rc::Rc;
 use tpl_output::Template;
@@ -43,7 +43,7 @@ fn named_template<L: Logs>(alloc: Global, logs: &mut L, name: &Name) -> Result<R
     ensures failed { IsErrOf result S.LogsFault → Rose (L.faults logs.old) (L.faults logs.new) }
 {
     let template = match read_template(alloc, logs, name) {
-        Ok(template) => template,
+        Ok(WrittenTemplate { template, bytes: _ }) => template,
         Err(fault) => return Err(untemplated(fault)),
     };
     match Rc::new(alloc, template) {
