@@ -1,8 +1,9 @@
--- Why a run was refused, and which damage stopped it, from what its calls tell.
+-- Why a run was refused, and which damage stopped it or that none did, from what its calls tell.
 use Rattle.std.proofs.Common.{◌≡◌, ℕ, true, List, Option, Err, refl, sym, subst}
 use Rattle.std.specs.Result.{IsErrOf}
 use Rattle.commit.specs.Faults.{BreaksAt, IsApart}
-use Rattle.disk_model.specs.Disk.{DiskState, Files}
+use Rattle.commit.specs.Resume.{CanSettle}
+use Rattle.disk_model.specs.Disk.{DiskState, Files, IsImage}
 use Rattle.execution.specs.Executed.{IsParseError, IsUnplaced, IsUnplanned}
 use Rattle.execution.specs.Faults.{IfParse, IfPlan, IfRefused}
 use Rattle.execution.specs.Formats.{log_format}
@@ -13,11 +14,19 @@ use Rattle.run_entry.specs.Entries.{Request}
 use Rattle.execution.specs.declared.fault.RunFault.{RunFault}
 use Rattle.execution.specs.declared.fault.RunFault.TheVariants as X
 use Rattle.ledger.specs.Reader.{Rests}
+use Rattle.ledger_model.proofs.Reading.{ledger_apart}
+use Rattle.positions.specs.declared.fault.LoadFault.TheVariants as P
+use Rattle.run_model.specs.Logs.{Rotation}
 use Rattle.ledger.specs.declared.refused.LedgerRefused.{LedgerRefused}
 use Rattle.ledger.specs.declared.refused.LedgerRefused.TheVariants as C
 use Rattle.ledger.specs.declared.refused.Part2.{Part2}
 use Rattle.log_reading.specs.declared.span.Span.{Span}
 use Rattle.checkpointed_run.specs.Reasons.{IsDamage, RefusedFor, StopsAtDamage}
+use Rattle.checkpointed_run.specs.Refusals.{IsNotBegun}
+use Rattle.checkpointed_run.specs.Steps.{IsDamaged}
+use Rattle.checkpointed_run.specs.Stops.{IsFaultDamage}
+use Rattle.checkpointed_run.specs.declared.over.LedgerStop.{LedgerStop}
+use Rattle.checkpointed_run.specs.declared.over.LedgerStop.TheVariants as L
 use Rattle.checkpointed_run.specs.declared.staging.StagedRun.{StagedRun}
 use Rattle.checkpointed_run.specs.declared.running.RunStop.{RunStop}
 use Rattle.checkpointed_run.specs.declared.running.RunStop.TheVariants as R
@@ -49,3 +58,21 @@ damage_rested a b ledger stage rests (R.BeforeGate (C.LedgerFault part at)) is =
     let same : b.seen ≡ a.seen = λ i name. shows.seen name i in
     subst (λ (seen : Files). BreaksAt ledger stage seen part at) same (is shows.tells (subst (λ (seen : Files). IsApart ledger stage seen) (sym same) apart))
 damage_rested a b ledger stage rests (R.FromGate fault) is = tt
+
+-- no damage was told where each was ruled out
+pub none_told : {T : Type 0} (fault : LedgerRefused) → ((part : Part2) (p : ℕ) → IsErrOf {T = T} {E = LedgerRefused} (Err fault) (C.LedgerFault part p) → ⊥) → IsFaultDamage fault → ⊥
+none_told C.DiskFault none told = told
+none_told (C.LedgerFault part at) none told = none part at refl
+
+-- a ledger that can be settled breaks nowhere
+pub none_loaded : (disk : DiskState) (ledger stage : List ℕ) (rotation : Rotation) (input : List ℕ) (texts : List (List ℕ)) (before now : Option Folder) (stop : LedgerStop)
+    → disk.tells → IsImage disk disk.seen → CanSettle disk ledger stage → IsNotBegun disk ledger rotation input texts before now stop → IsDamaged stop → ⊥
+none_loaded disk ledger stage rotation input texts before now (L.Ledger P.DiskFault) tells is can not_begun told = told
+none_loaded disk ledger stage rotation input texts before now (L.Ledger (P.LedgerFault part at)) tells is can not_begun told =
+    let state = can.images.each disk.seen is in
+    ledger_apart (disk.seen ledger) state.2.pairs at state.2.is_ledger (not_begun (disk.seen ledger) (record { tells = tells; seen = refl })).1
+none_loaded disk ledger stage rotation input texts before now (L.Ledger P.Memory) tells is can not_begun told = told
+none_loaded disk ledger stage rotation input texts before now (L.Logs fault) tells is can not_begun told = told
+none_loaded disk ledger stage rotation input texts before now (L.Clash name) tells is can not_begun told = told
+none_loaded disk ledger stage rotation input texts before now (L.Run stop) tells is can not_begun told = not_begun
+none_loaded disk ledger stage rotation input texts before now L.Memory tells is can not_begun told = told

@@ -1,19 +1,17 @@
 -- What is listed in a folder is listed in what the folder was before it grew.
-use Rattle.std.proofs.Common.{◌≡◌, ◌⊎◌, ⊎_elim, ℕ, ◌+◌, ◌≤◌, List, [], ◌∷◌, ◌++◌, length, Option, Some, None, refl, sym, ◌∙◌, ap, subst, arith, inl, inr, length-append}
-use Rattle.std.specs.Prelude.{◌-◌, max, IsSome, IsSomeAnd, Contains, MatchOption, unwrap_or, ◌↔◌}
+use Rattle.std.proofs.Common.{◌≡◌, ⊎_elim, ℕ, ◌+◌, ◌≤◌, List, [], ◌∷◌, ◌++◌, length, Option, Some, None, refl, ◌∙◌, ap, subst, arith, inl, inr, length-append}
+use Rattle.std.specs.Prelude.{◌-◌, max, IsSome, IsSomeAnd, MatchOption, unwrap_or}
 use Rattle.std.specs.List.{AllZip}
 use Rattle.std.proofs.lemmas.Bool.{false≢true}
 use Rattle.ledger_model.specs.Entries.{Entry}
 use Rattle.ledger_model.specs.Entries.{Span as EntrySpan}
 use Rattle.lp_model.specs.Outside.{Folder, Grows, Begins, bytes_in}
-use Rattle.lp_outside.specs.Matching.{AreMatches}
 use Rattle.log_listing.specs.Listed.{Gives}
-use Rattle.log_listing.specs.Listed.{Lists as ListsNames}
 use Rattle.log_reading.specs.declared.span.Span.{Span}
 use Rattle.positions.specs.Places.{Places}
 use Rattle.positions.specs.Spanning.{Reaches, AreSpansOf}
 use Rattle.positions.specs.Spans.{IsSpanOf}
-use Rattle.run_model.specs.Listed.{Listed, IsThereAt, IsNewest, IsOldest, IsFirst, ListsStem, Lists, live_files, rotated_files, IsReadTo, AreListed}
+use Rattle.run_model.specs.Listed.{Listed, IsThereAt, ListsStem, Lists, live_files, rotated_files, IsReadTo, AreListed}
 use Rattle.run_model.specs.Logs.{Rotation, names, numbers, generation_name}
 
 module _ (a b : Folder) (grows : Grows a b) where

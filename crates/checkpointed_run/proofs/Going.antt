@@ -1,7 +1,6 @@
 -- The spans of a run go on from where the entries before it left their logs.
-use Rattle.std.proofs.Common.{◌≡◌, ◌⊎◌, ⊎_elim, ℕ, ◌+◌, ◌-◌, ◌<◌, ◌≤◌, ◌^◌, Bool, true, false, true≢false, List, [], ◌∷◌, ◌++◌, length, take, drop, map, flat_map, get_or, Option, Some, None, refl, sym, ◌∙◌, ap, subst, arith, inl, inr, length-append}
-use Rattle.std.specs.Prelude.{max, bytes_eq, if◌then◌else◌}
-use Rattle.std.specs.List.{AllByRecursion, AllZip}
+use Rattle.std.proofs.Common.{◌≡◌, ℕ, ◌-◌, ◌<◌, ◌≤◌, ◌^◌, true, List, [], ◌∷◌, ◌++◌, length, take, drop, get_or, Option, Some, None, refl, sym, ◌∙◌, ap, subst, arith, inl, inr}
+use Rattle.std.specs.List.{AllByRecursion}
 use Rattle.std.proofs.Math.Nat.{max-eq_right}
 use Rattle.std.proofs.lemmas.Bool.{cases_Bool}
 use Rattle.std.proofs.lemmas.List.{take-append-drop, get_or-take, length-take-le}
@@ -9,21 +8,18 @@ use Rattle.std.proofs.lemmas.Slice.Eq.{bytes_eq-Decides}
 use Rattle.disk_model.specs.Disk.{Files}
 use Rattle.ledger_model.specs.Entries.{Entry}
 use Rattle.ledger_model.specs.Entries.{Span as EntrySpan}
-use Rattle.ledger_model.specs.Layouts.{Layout}
 use Rattle.ledger_model.specs.Standings.{standing_layout}
 use Rattle.log_reading.specs.Spans.{IsKept, cut_of, last_end, span_end, took_of}
 use Rattle.log_reading.specs.declared.span.Span.{Span}
-use Rattle.lp_model.specs.Complete.{IsAmong}
 use Rattle.lp_model.specs.Following.{IsLineEnd}
 use Rattle.lp_model.specs.Outside.{Folder, bytes_in}
 use Rattle.lp_model.specs.Reading.{Format, Standing, standing_at}
 use Rattle.lp_model.proofs.Appending.{standing_at-stays}
-use Rattle.lp_model.proofs.CompleteLines.{among_right, among_left}
 use Rattle.run_model.specs.Kept.{spans_of, is_of, kept_place}
 use Rattle.run_model.specs.Logs.{Written}
 use Rattle.run_model.specs.Meanings.{Meaning}
-use Rattle.run_model.specs.Right.{GoesOn, IsNext, FollowFrom}
-use Rattle.positions.specs.Places.{Kept, Keeps, Places, IsPlaceOf, IsEndOf, last_from, last_of, place_in}
+use Rattle.run_model.specs.Right.{GoesOn, FollowFrom}
+use Rattle.positions.specs.Places.{Kept, Keeps, IsPlaceOf, IsEndOf, last_from, last_of, place_in}
 use Rattle.positions.specs.Spans.{start_of}
 use Rattle.positions.specs.declared.place.Place.{Place}
 use Rattle.program_meaning.proofs.Ends.{last_end_is_last, standing_at_end}

@@ -1,13 +1,11 @@
 -- What a run rests on holds where a call may rest on the world's conditions, and its spans were listed by the kept places.
-use Rattle.std.proofs.Common.{◌≡◌, ◌⊎◌, ⊎_elim, ℕ, suc, ◌+◌, ◌<◌, ◌≤◌, true, List, [], ◌∷◌, length, map, Option, Some, None, inl, inr, refl, sym, ◌∙◌, ap, subst, arith}
-use Rattle.std.specs.Prelude.{max, IsSome}
+use Rattle.std.proofs.Common.{◌≡◌, ⊎_elim, ℕ, suc, true, List, [], ◌∷◌, length, map, Some, None, inl, inr, refl, sym, ◌∙◌, ap, subst, arith}
 use Rattle.std.specs.List.{AllByRecursion, AllZip}
 use Rattle.disk_model.specs.Disk.{DiskState, IsImage}
 use Rattle.disk_model.specs.Disk.{Files as Contents}
 use Rattle.ledger_model.specs.Entries.{Entry}
 use Rattle.ledger_model.specs.Inputs.{input_text}
 use Rattle.recovery_model.specs.Recovered.{Recovers}
-use Rattle.lp_model.specs.Outside.{Folder}
 use Rattle.lp_model.specs.Lines.{lines_of}
 use Rattle.lp_model.specs.Reading.{Format, lines_before, standing_at, standing_behind}
 use Rattle.lp_model.proofs.Ordered.{none_by, ordered_lines}
@@ -19,21 +17,19 @@ use Rattle.execution.specs.Formats.{lines_in, log_format}
 use Rattle.run_model.specs.Kept.{spans_of}
 use Rattle.run_model.specs.Listed.{Listed, Lists, ListsStem}
 use Rattle.run_model.specs.Logs.{Rotation, names, numbers, Logs}
-use Rattle.run_model.specs.Meanings.{Asked, asked_of}
 use Rattle.run_model.specs.Right.{IsSettled}
 use Rattle.run_model.specs.Steps.{Setting, Gain, MayRun}
 use Rattle.positions.specs.Places.{Kept, Keeps}
-use Rattle.positions.specs.Spans.{Agrees, IsSpanOf}
+use Rattle.positions.specs.Spans.{Agrees}
 use Rattle.positions.specs.Spanning.{AreSpansOf, Reaches, rule_of}
 use Rattle.tpl_output.specs.Sections.{Sections}
 use Rattle.grammar.specs.Trees.{Placed}
 use Rattle.program_meaning.specs.Asked.{Asks}
 use Rattle.program_meaning.specs.Inputs.{format_in, input_for}
-use Rattle.program_meaning.specs.Meaning.{meaning, IsInput, Looks, ReachesLogs, HaveFiles, HasFile}
+use Rattle.program_meaning.specs.Meaning.{meaning, IsInput, ReachesLogs, HaveFiles, HasFile}
 use Rattle.program_meaning.proofs.Options.{rotation_by_options}
 use Rattle.run_entry.specs.Entries.{Request, kept_span}
 use Rattle.checkpointed_run.specs.Grounds.{IsRead, GoOn, asked_by_request}
-use Rattle.checkpointed_run.specs.Sound.{IsSound}
 use Rattle.checkpointed_run.proofs.Apart.{are_apart}
 use Rattle.checkpointed_run.proofs.Columns.{standing_fits}
 use Rattle.checkpointed_run.proofs.Found.{all_found}

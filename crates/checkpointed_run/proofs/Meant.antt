@@ -1,33 +1,21 @@
 -- What was carried out is what the meaning of what was asked gives.
-use Rattle.std.proofs.Common.{◌≡◌, ℕ, true, false, Bool, List, [], ◌∷◌, length, map, Option, Some, None, refl, sym, ◌∙◌, ap, subst}
+use Rattle.std.proofs.Common.{◌≡◌, true, List, length, Some, refl, sym, ◌∙◌, ap, subst}
 use Rattle.std.specs.Prelude.{Ok}
-use Rattle.grammar.specs.Trees.{Query, Placed}
-use Rattle.disk_model.specs.Disk.{DiskState}
+use Rattle.grammar.specs.Trees.{Query}
 use Rattle.lp_model.specs.Outside.{Folder}
-use Rattle.lp_outside.specs.declared.stage.Mark.{Mark}
-use Rattle.lp_time.specs.declared.piece.Piece.{Piece}
 use Rattle.lp_values.specs.declared.value.Value.{Value}
 use Rattle.column_kinds.specs.Spans.{past_of}
 use Rattle.command_words.specs.declared.spec.Spec.{Spec}
 use Rattle.execution.specs.declared.formats.LogFormat.{LogFormat}
 use Rattle.execution.specs.declared.formats.LogFormat.TheVariants as F
-use Rattle.execution.specs.Executed.{OnTable, Writes, WritesAll, IsExecuted, rows_in}
+use Rattle.execution.specs.Executed.{IsExecuted}
 use Rattle.execution.specs.Formats.{lines_in, log_format}
-use Rattle.execution.specs.Outputs.{asked_in, files_named, files_of, is_stdout}
-use Rattle.execution.specs.Texts.{into_in, run_text}
 use Rattle.log_reading.specs.Spans.{AreKept, spans_found, spans_bad}
 use Rattle.log_reading.specs.declared.span.Span.{Span}
 use Rattle.query_run.specs.declared.executing.Counts.{Counts}
 use Rattle.query_types.specs.Planned.{Planned, plan_of}
-use Rattle.query_types.specs.declared.table.TableColumns.{TableColumns}
-use Rattle.row_output.specs.Asked.{Asked, Files, left_of, text_in}
-use Rattle.row_output.specs.Files.{FilesHold}
-use Rattle.row_output.specs.Rows.{Holds, HoldsAt}
-use Rattle.sampled_run.specs.Finishes.{asked_by}
-use Rattle.text_output.specs.Output.{StageKind}
-use Rattle.text_output.specs.declared.target.Output.{Output}
-use Rattle.tpl_output.specs.Sections.{Sections}
-use Rattle.program_meaning.specs.Gives.{table_over, rows_over, PutsOut, splits_of}
+use Rattle.row_output.specs.Asked.{Asked, left_of}
+use Rattle.program_meaning.specs.Gives.{table_over, rows_over}
 
 -- a plan was found, and its rows were put out
 pub record IsMet (Has : Asked → List (List Value) → Type 0) (asked : Planned → Asked) (spec : Spec) (q : Query) (moment : Rattle.std.specs.Prelude.ℤ) (folder : Folder) (spans : List Span) (counts : Counts) : Type 0 where

@@ -1,28 +1,25 @@
 -- A run that was carried out makes an entry that may come next, and its texts are staged.
-use Rattle.std.proofs.Common.{◌≡◌, ◌≢◌, ◌⊎◌, ⊎_elim, ℕ, zero, suc, ◌+◌, ◌<◌, ◌≤◌, ◌^◌, ◌||◌, Bool, true, false, true≢false, List, [], ◌∷◌, ◌++◌, length, map, filter, flat_map, Option, Some, None, refl, sym, ◌∙◌, ap, subst, arith, inl, inr}
-use Rattle.std.specs.Prelude.{Ok, IfSome, All, codes, bytes_eq, if◌then◌else◌, ◌==◌}
+use Rattle.std.proofs.Common.{◌≡◌, ◌≢◌, ℕ, zero, suc, ◌<◌, ◌≤◌, ◌^◌, ◌||◌, Bool, true, false, true≢false, List, [], ◌∷◌, ◌++◌, length, map, filter, Option, Some, refl, sym, ◌∙◌, ap, subst, arith, inl, inr}
+use Rattle.std.specs.Prelude.{IfSome, All, codes, bytes_eq}
 use Rattle.std.specs.List.{AllByRecursion, AllZip}
 use Rattle.std.proofs.lemmas.Bool.{cases_Bool}
 use Rattle.std.proofs.lemmas.List.Elements.{All-head, All-tail}
 use Rattle.std.proofs.lemmas.Slice.Eq.{bytes_eq-Decides}
-use Rattle.grammar.specs.Trees.{Placed, Query}
-use Rattle.command_words.specs.declared.spec.Spec.{Spec}
-use Rattle.command_words.specs.Words.{options_in}
+use Rattle.grammar.specs.Trees.{Placed}
 use Rattle.commit.specs.declared.phases.Commit.{Commit}
-use Rattle.commit.specs.Phases.{disk_of, ledger_of, stage_of, staged_of, stage_state, HasFrames, Settled, Staged}
+use Rattle.commit.specs.Phases.{disk_of, ledger_of, stage_of, staged_of, stage_state, HasFrames}
 use Rattle.commit.specs.States.{HasStaged}
 use Rattle.ledger_model.specs.Grammar.{IsEntry, payload_of}
 use Rattle.disk_model.specs.Disk.{DiskState}
 use Rattle.disk_model.specs.Disk.{Files as Contents}
 use Rattle.execution.specs.Formats.{lines_in, log_format}
-use Rattle.execution.specs.Outputs.{asked_in, files_of, files_named, forbidden_by, own_names}
+use Rattle.execution.specs.Outputs.{asked_in, files_named, forbidden_by, own_names}
 use Rattle.execution.specs.Texts.{into_in, run_text}
 use Rattle.ledger_model.specs.Entries.{Entry}
-use Rattle.ledger_model.specs.Entries.{Span as EntrySpan, Output as EntryOutput}
+use Rattle.ledger_model.specs.Entries.{Span as EntrySpan}
 use Rattle.ledger_model.specs.Inputs.{input_text}
 use Rattle.log_listing.specs.Firsts.{is_among, with_name, with_names}
-use Rattle.log_reading.specs.Page.{IsWithin}
-use Rattle.log_reading.specs.Spans.{AllSpans, AreKept, IsKept, cut_of, took_of, span_end, spans_found, spans_bad}
+use Rattle.log_reading.specs.Spans.{AreKept, IsKept, cut_of, took_of}
 use Rattle.log_reading.specs.declared.span.Span.{Span}
 use Rattle.log_reading.specs.declared.span.Took.{Took}
 use Rattle.lp_model.specs.Complete.{IsAmong}
@@ -36,21 +33,21 @@ use Rattle.multiplex.specs.Splitting.{OutputRows, output_names, rows_named, spli
 use Rattle.query_run.specs.declared.executing.Counts.{Counts}
 use Rattle.query_types.specs.Planned.{Planned}
 use Rattle.recovery_model.specs.Recovered.{AreApart, IsOther}
-use Rattle.row_output.specs.Asked.{Asked, Files, AreGood, OutputText, left_of, text_in}
-use Rattle.row_output.specs.Files.{FilesHold, ArePut}
+use Rattle.row_output.specs.Asked.{Asked, Files, OutputText, left_of, text_in}
+use Rattle.row_output.specs.Files.{FilesHold}
 use Rattle.row_output.specs.Rows.{Holds, HoldsAt}
 use Rattle.run_model.specs.Logs.{Written}
-use Rattle.run_model.specs.Meanings.{Given, Mode, Split, Part, asked_of}
-use Rattle.run_model.specs.Right.{IsNext, IsRight, Reads, Writes, Counts as HasCounts, AreOutputs, AreApart as SpansApart, GoesOn, IsOutput, IsWith, bad_in, parts_of, rows_in, takes_part, text_at}
+use Rattle.run_model.specs.Meanings.{Given, Mode, Split, asked_of}
+use Rattle.run_model.specs.Right.{IsNext, AreOutputs, AreApart as SpansApart, GoesOn, IsOutput, bad_in, parts_of, rows_in, takes_part}
 use Rattle.sampled_run.specs.Finishes.{asked_by}
 use Rattle.text_output.specs.Output.{StageKind, kind_of}
 use Rattle.text_output.specs.declared.target.Output.{Output}
 use Rattle.tpl_output.specs.Sections.{Sections}
 use Rattle.program_meaning.specs.Asked.{Asks}
-use Rattle.program_meaning.specs.Gives.{Gives, GivesOver, PutsOut, split_of, splits_of, past_in, rows_over}
+use Rattle.program_meaning.specs.Gives.{Gives, GivesOver, split_of, past_in, rows_over}
 use Rattle.program_meaning.specs.Inputs.{format_in, input_for}
 use Rattle.program_meaning.specs.Meaning.{meaning, mode_as}
-use Rattle.program_meaning.proofs.Meant.{ArePartsOf, IsPartOf, past_is, rows_are, bad_are}
+use Rattle.program_meaning.proofs.Meant.{ArePartsOf, past_is, rows_are, bad_are}
 use Rattle.run_entry.specs.Entries.{Request, entry_for, kept_span, kept_output}
 use Rattle.checkpointed_run.specs.Carried.{IsCarriedOut}
 use Rattle.checkpointed_run.specs.Files.{files_with, ArePlaced}

@@ -1,21 +1,18 @@
 -- The texts that a run put into a stage, as outputs of its entry.
-use Rattle.std.proofs.Common.{◌≡◌, ◌≢◌, ◌⊎◌, ⊎_elim, ℕ, zero, suc, ◌+◌, ◌<◌, ◌==◌, Bool, true, false, List, [], ◌∷◌, ◌++◌, length, take, map, filter, Some, refl, sym, ◌∙◌, ap, subst, arith, inl, inr, length-append}
-use Rattle.std.specs.Prelude.{slice_get, if◌then◌else◌}
+use Rattle.std.proofs.Common.{◌≡◌, ℕ, ◌+◌, ◌<◌, ◌==◌, true, false, List, [], ◌∷◌, length, map, filter, refl, sym, ◌∙◌, ap, subst, arith, inl, inr, length-append}
 use Rattle.std.specs.List.{AllZip, AllByRecursion}
 use Rattle.std.proofs.lemmas.Bool.{cases_Bool}
 use Rattle.std.proofs.lemmas.Bool.Decides.{nat_tests}
 use Rattle.command_words.specs.declared.modes.FileMode.{FileMode}
 use Rattle.command_words.specs.declared.modes.FileMode.TheVariants as M
 use Rattle.disk_model.specs.Disk.{Files, DiskState}
-use Rattle.ledger_model.specs.Entries.{Output}
 use Rattle.lp_outside.specs.declared.stage.Mark.{Mark}
 use Rattle.multiplex.specs.Splitting.{OutputRows}
 use Rattle.recovery_model.specs.Stage.{Frame, IsChain, IsStaged, text_of}
 use Rattle.recovery_model.specs.Recovered.{IsOther}
 use Rattle.row_output.specs.Asked.{Files as FilesAsked, OutputText}
 use Rattle.row_output.specs.Files.{IsBase, IsLeftAlone, IsPut, ArePut}
-use Rattle.run_model.specs.Meanings.{Mode, append, overwrite, ignore, Split}
-use Rattle.run_model.specs.Right.{takes_part, base_in, text_at, IsOutput, AreOutputs}
+use Rattle.run_model.specs.Right.{takes_part, base_in, text_at, IsOutput}
 use Rattle.text_output.specs.Output.{StageKind, kind_of}
 use Rattle.text_output.specs.declared.target.Output.{Output as Written}
 use Rattle.commit.specs.declared.phases.Commit.{Commit}

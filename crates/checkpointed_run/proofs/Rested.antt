@@ -1,9 +1,9 @@
--- Reads in front of a run leave its disk as it was: what holds of the run from then on holds from before them.
-use Rattle.std.proofs.Common.{◌≡◌, ◌⊎◌, ⊎_elim, ℕ, ◌≤◌, List, Option, inl, inr, refl, sym, ◌∙◌, ap, subst, arith}
-use Rattle.disk_model.specs.Disk.{DiskState, Files, IsImage, LeavesOnly, Nothing, Works}
+-- Settling and reads in front of a run leave what its disk stands for: what holds of the run from then on holds from before them.
+use Rattle.std.proofs.Common.{◌≡◌, ⊎_elim, ℕ, ◌≤◌, List, Option, inl, inr, sym, subst, arith}
+use Rattle.disk_model.specs.Disk.{DiskState, Files, IsImage, Nothing, Works}
 use Rattle.ledger_model.specs.Entries.{Entry}
 use Rattle.ledger.specs.Reader.{Rests}
-use Rattle.recovery_model.specs.Recovered.{IsOther, Recovers, Recoverable, RecoversAsBefore}
+use Rattle.recovery_model.specs.Recovered.{Recovers, RecoversAsBefore}
 use Rattle.recovery_model.proofs.OneState.{one_state, alike}
 use Rattle.commit.specs.Resume.{CanSettle, Settles}
 use Rattle.commit.specs.declared.phases.Commit.{Commit}
@@ -18,6 +18,7 @@ use Rattle.tpl_output.specs.Sections.{Sections}
 use Rattle.run_entry.specs.Entries.{Request}
 use Rattle.checkpointed_run.specs.Committed.{ComesToGate, IsCommitted, StopsAtGate}
 use Rattle.checkpointed_run.specs.Phases.{IsSettledFrom}
+use Rattle.checkpointed_run.specs.declared.running.RunStop.{RunStop}
 
 -- the images are the same
 image_before : (a b : DiskState) (image : Files) → Works Nothing a b → IsImage b image → IsImage a image
@@ -83,21 +84,27 @@ module _ (a b c : DiskState) (ledger stage : List ℕ)
     again = second.again;
   }
 
+-- what was settled and then only read is settled
 module _ {D : Type 0} (state : D → DiskState)
     (only_now : (disk : D) (image : Files) → (state disk).honest → (state disk).left_since (state disk).moment image → IsImage (state disk) image)
     (counts_now : (disk : D) (t : ℕ) (image : Files) → (state disk).honest → t ≤ (state disk).moment → IsImage (state disk) image → (state disk).left_since t image)
-    (first old : Commit D) (same : Same first old) (rests : Rests (disk_of state first) (disk_of state old)) where
-  -- nothing but reads
-  pub only_rested : Unsettled state first → SettlesHeld state first old
-  only_rested can = rested (disk_of state first) (disk_of state old) (ledger_of first) (stage_of first) (λ image honest left. only_now first.disk.now image honest left) can (rests.crash can.honest)
+    (ledger stage : List ℕ) (first old now : D) where
+  pub settles_rested : Settles (state first) (state old) ledger stage → Rests (state old) (state now) → Settles (state first) (state now) ledger stage
+  settles_rested settles rests = settles_then (state first) (state old) (state now) ledger stage (λ t image honest le is. counts_now old t image honest le is) settles
+      (rested (state old) (state now) ledger stage (λ image honest left. only_now old image honest left) settles.again (rests.crash settles.again.honest))
 
-  -- and then some of a run
+-- what holds of a run from a disk on holds from one on that was settled since
+module _ {D : Type 0} (state : D → DiskState)
+    (counts_now : (disk : D) (t : ℕ) (image : Files) → (state disk).honest → t ≤ (state disk).moment → IsImage (state disk) image → (state disk).left_since t image)
+    (first old : Commit D) (same : Same first old) (near : Unsettled state first → SettlesHeld state first old) where
+  -- the later disk can be settled too
+  pub still_unsettled : Unsettled state first → Unsettled state old
+  still_unsettled can = subst (λ (f : CommitFiles). CanSettle (disk_of state old) f.ledger f.stage) (sym same.files) (near can).again
+
+  -- some of a run
   pub settles_behind : (new : Commit D) → (Unsettled state old → SettlesHeld state old new) → Unsettled state first → SettlesHeld state first new
-  settles_behind new settles can =
-      let front = only_rested can in
-      let here : Unsettled state old = subst (λ (f : CommitFiles). CanSettle (disk_of state old) f.ledger f.stage) (sym same.files) front.again in
-      settles_then (disk_of state first) (disk_of state old) (disk_of state new) (ledger_of first) (stage_of first) (λ t image honest le is. counts_now old.disk.now t image honest le is) front
-      (subst (λ (f : CommitFiles). Settles (disk_of state old) (disk_of state new) f.ledger f.stage) same.files (settles here))
+  settles_behind new settles can = settles_then (disk_of state first) (disk_of state old) (disk_of state new) (ledger_of first) (stage_of first) (λ t image honest le is. counts_now old.disk.now t image honest le is) (near can)
+      (subst (λ (f : CommitFiles). Settles (disk_of state old) (disk_of state new) f.ledger f.stage) same.files (settles (still_unsettled can)))
 
   -- and then a disk that is settled
   pub settled_behind : (new : Commit D) → IsSettledFrom state old new → IsSettledFrom state first new
@@ -105,10 +112,7 @@ module _ {D : Type 0} (state : D → DiskState)
     same = same_on first old new same is.same;
     any_moment = settles_behind new is.any_moment;
     settled = λ can entries files r.
-        let works = rests.crash can.honest in
-        let front = only_rested can in
-        let here : Unsettled state old = subst (λ (f : CommitFiles). CanSettle (disk_of state old) f.ledger f.stage) (sym same.files) front.again in
-        let found = is.settled here entries files (subst (λ (f : CommitFiles). Recovers f.ledger f.stage entries files (disk_of state old).seen) (sym same.files) (recovers_on (disk_of state first) (disk_of state old) (ledger_of first) (stage_of first) entries files works r)) in
+        let found = is.settled (still_unsettled can) entries files (subst (λ (f : CommitFiles). Recovers f.ledger f.stage entries files (disk_of state old).seen) (sym same.files) ((near can).seen entries files r)) in
         (found.0, subst (λ (f : CommitFiles). ShowsFiles (disk_of state new) f.ledger f.stage files) same.files found.1);
   }
 
@@ -133,11 +137,12 @@ module _ {D : Type 0} (state : D → DiskState)
   }
 
   -- or was stopped there
-  abbrev pub stopped_behind : (request : Request) (template : Sections) (told : Option Folder) (spans : List Span) (new : Commit D) → StopsAtGate state request template told spans old new → StopsAtGate state request template told spans first new
-  stopped_behind request template told spans new is = record {
+  abbrev pub stopped_behind : (request : Request) (template : Sections) (told : Option Folder) (spans : List Span) (new : Commit D) (stop : RunStop) → StopsAtGate state request template told spans old new stop → StopsAtGate state request template told spans first new stop
+  stopped_behind request template told spans new stop is = record {
     entry = is.entry;
     counts = is.counts;
     gate = is.gate;
     comes = comes_behind request template told spans is.gate is.entry is.counts is.comes;
     opens = is.opens;
+    undamaged = is.undamaged;
   }

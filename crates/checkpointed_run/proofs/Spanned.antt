@@ -1,14 +1,13 @@
 -- The spans that the kept places give are sound, and what is taken of them goes on.
-use Rattle.std.proofs.Common.{◌≡◌, ℕ, ◌<◌, ◌^◌, true, List, [], ◌∷◌, map, Option, Some, None, refl, sym, ◌∙◌, ap, arith}
+use Rattle.std.proofs.Common.{◌≡◌, ℕ, ◌<◌, ◌^◌, true, List, [], ◌∷◌, map, Some, None, sym, ◌∙◌, ap, arith}
 use Rattle.std.specs.List.{AllByRecursion, AllZip}
 use Rattle.ledger_model.specs.Entries.{Entry}
-use Rattle.ledger_model.specs.Entries.{Span as EntrySpan}
 use Rattle.ledger_model.specs.Standings.{standing_layout}
 use Rattle.log_reading.specs.Spans.{IsSpan, took_of}
 use Rattle.log_reading.specs.declared.span.Span.{Span}
 use Rattle.lp_model.specs.Outside.{Folder}
 use Rattle.lp_model.specs.Reading.{Format, standing_at}
-use Rattle.run_model.specs.Kept.{kept_place, spans_of}
+use Rattle.run_model.specs.Kept.{spans_of}
 use Rattle.run_model.specs.Listed.{Listed}
 use Rattle.run_model.specs.Logs.{Written}
 use Rattle.run_model.specs.Right.{GoesOn}

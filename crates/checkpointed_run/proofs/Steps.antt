@@ -1,14 +1,14 @@
 -- From the phases of a run to its step: what each moment leaves, and what stands at the end.
-use Rattle.std.proofs.Common.{◌≡◌, ◌≢◌, ◌⊎◌, ⊎_elim, ℕ, ◌≤◌, List, [], ◌∷◌, ◌++◌, refl, sym, ◌∙◌, ap, subst, inl, inr}
+use Rattle.std.proofs.Common.{◌≢◌, ◌⊎◌, ⊎_elim, ℕ, ◌≤◌, List, [], ◌∷◌, ◌++◌, subst, inl, inr}
 use Rattle.disk_model.specs.Disk.{Files, DiskState, IsImage, LeavesOnly}
 use Rattle.ledger_model.specs.Entries.{Entry}
-use Rattle.recovery_model.specs.Recovered.{Recovers, RecoversAsBefore}
+use Rattle.recovery_model.specs.Recovered.{Recovers}
 use Rattle.run_model.specs.Logs.{Logs}
 use Rattle.run_model.specs.Meanings.{Meaning, Asked}
 use Rattle.run_model.specs.Right.{IsNext, IsSettled}
-use Rattle.run_model.specs.Steps.{Setting, IsOfCall, IsOfAsked, Ending, well, refused, disk_failed, RunStep, WithEntry, WithoutEntry}
+use Rattle.run_model.specs.Steps.{Setting, IsOfCall, IsOfAsked, Ending, well, disk_failed, RunStep}
 use Rattle.commit.specs.declared.phases.Commit.{Commit}
-use Rattle.commit.specs.Phases.{disk_of, ledger_of, stage_of, Goes, Same, Settled, Staged, Sealed, Unsettled, PreservesHeld, SettlesHeld, LeavesEither}
+use Rattle.commit.specs.Phases.{disk_of, ledger_of, stage_of, Goes, Same, Settled, Staged, Sealed, Unsettled, SettlesHeld}
 use Rattle.commit.specs.Resume.{CanSettle}
 use Rattle.commit.specs.Whole.{BeforeOrWith}
 use Rattle.commit.proofs.Composing.{goes_keeps, preserves_on, same_on, settles_on, whole_on, done_on}
@@ -97,6 +97,15 @@ module _ {D : Type 0} (state : D → DiskState)
         whole entries files recovers is_settled =
             let g = at_gate entries files recovers is_settled in
             whole_on state only_now seen_left old gate new entries entry files g.made.with_entry g.same unsettled recovers g.held (opens.any_moment entry entries files g.made.with_entry g.sealed)
+
+    -- what a read gives of it has the entry
+    pub whole_seen : (new : Commit D) → IsOpenedFrom state gate new → ((entries : List Entry) (files others : Files) → Sealed state gate entry entries files others → Settled state new (entries ++ entry ∷ []) others)
+        → (entries : List Entry) (files : Files) → Recovers (ledger_of old) (stage_of old) entries files (disk_of state old).seen → IsSettled meaning before.written setting.start entries files
+        → (others : Files) × Recovers (ledger_of old) (stage_of old) (entries ++ entry ∷ []) others (disk_of state new).seen
+    whole_seen new opens done entries files recovers is_settled =
+        let g = at_gate entries files recovers is_settled in
+        let end = done_on state only_now seen_left old new (entries ++ entry ∷ []) g.made.with_entry (same_on old gate new g.same opens.same) (done entries files g.made.with_entry g.sealed) in
+        (g.made.with_entry, end.0.seen)
 
     -- a run that the disk stops at its gate or behind it
     pub step_stopped : (new : Commit D) → IsOpenedFrom state gate new

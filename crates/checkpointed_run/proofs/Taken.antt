@@ -1,18 +1,15 @@
 -- What entries list of a run, and that they know generations by numbers.
-use Rattle.std.proofs.Common.{◌≡◌, ℕ, ◌+◌, ◌<◌, ◌≤◌, ◌^◌, List, [], ◌∷◌, map, Option, Some, refl, sym, ◌∙◌, ap, subst, arith}
-use Rattle.std.specs.Prelude.{max, take}
+use Rattle.std.proofs.Common.{◌≡◌, ℕ, List, [], ◌∷◌, map, Some, refl, sym, ◌∙◌, ap, arith}
+use Rattle.std.specs.Prelude.{max}
 use Rattle.std.specs.List.{AllZip}
 use Rattle.disk_model.specs.Disk.{Files}
 use Rattle.ledger_model.specs.Entries.{Entry}
-use Rattle.ledger_model.specs.Entries.{Span as EntrySpan}
-use Rattle.ledger_model.specs.Standings.{standing_layout}
-use Rattle.log_reading.specs.Spans.{cut_of, last_end, span_end, took_of}
+use Rattle.log_reading.specs.Spans.{cut_of, last_end, took_of}
 use Rattle.log_reading.specs.declared.span.Span.{Span}
 use Rattle.lp_model.specs.Outside.{Folder}
 use Rattle.lp_model.specs.Reading.{Format}
 use Rattle.positions.specs.Listing.{IsTaken}
 use Rattle.positions.specs.Spanning.{KnowsNumbers}
-use Rattle.run_model.specs.Kept.{Knows}
 use Rattle.run_model.specs.Logs.{Rotation, names, numbers, Logs, Parting, PartsNames, Shows, IsKnown, generation_name}
 use Rattle.run_model.specs.Meanings.{Meaning}
 use Rattle.run_model.specs.Right.{IsSettled}

@@ -1,5 +1,5 @@
 -- A run over a ledger, by what it has done to its disk, is a step of the world of which the headline speaks.
-use Rattle.std.proofs.Common.{◌≡◌, ◌≢◌, ℕ, ◌<◌, ◌≤◌, ◌^◌, ◌++◌, List, length, map, Option, Some, refl, sym, ◌∙◌, ap, subst}
+use Rattle.std.proofs.Common.{◌≡◌, ◌≢◌, ℕ, ◌<◌, ◌≤◌, ◌^◌, ◌++◌, List, length, map, Some, refl, sym, ◌∙◌, ap, subst}
 use Rattle.std.specs.Prelude.{codes}
 use Rattle.disk_model.specs.Disk.{DiskState, IsImage}
 use Rattle.disk_model.specs.Disk.{Files as Contents}
@@ -31,9 +31,12 @@ use Rattle.program_meaning.specs.Meaning.{meaning}
 use Rattle.run_entry.specs.Entries.{Request}
 use Rattle.checkpointed_run.specs.Committed.{ComesToGate, IsCommitted, StopsAtGate}
 use Rattle.checkpointed_run.specs.Grounds.{IsRead, asked_by_request}
+use Rattle.checkpointed_run.specs.Steps.{HasCounted}
+use Rattle.checkpointed_run.specs.Stops.{IsDamagedStop}
+use Rattle.checkpointed_run.specs.declared.running.RunStop.{RunStop}
 use Rattle.checkpointed_run.proofs.Grounded.{rule_is}
 use Rattle.checkpointed_run.proofs.Made.{makes}
-use Rattle.checkpointed_run.proofs.Steps.{Makes, setting_by, step_before, step_whole, step_stopped}
+use Rattle.checkpointed_run.proofs.Steps.{Makes, setting_by, at_gate, step_before, step_whole, step_stopped, whole_seen}
 use Rattle.checkpointed_run.proofs.Taken.{numbered}
 
 module _ {D : Type 0} (state : D → DiskState)
@@ -103,8 +106,32 @@ module _ {D : Type 0} (state : D → DiskState)
     commits new counts c = step_whole state only_now seen_left counts_now meaning setting (asked_by_request request) before after_logs old c.entry c.comes.settled c.comes.stages.started c.comes.staged c.gate
         unsettled c.comes.settles c.comes.stages.starts c.comes.stages.goes c.comes.seals (made c.gate c.entry counts c.comes) new c.opens c.done some_state
 
+    -- and its counts are those of its entry
+    pub commits_counted : (new : Commit D) (counts : Counts) (committed : IsCommitted state request template (Some after_logs.folder) spans old new counts) → HasCounted (setting_by old setting) before (disk_of state old) (disk_of state new) counts
+    commits_counted new counts c = record {
+      has = λ entries files recovers settled.
+          let end = whole_seen state only_now seen_left counts_now meaning setting (asked_by_request request) before after_logs old c.entry c.comes.settled c.comes.stages.started c.comes.staged c.gate
+          unsettled c.comes.settles c.comes.stages.starts c.comes.stages.goes c.comes.seals (made c.gate c.entry counts c.comes) new c.opens c.done entries files recovers settled in
+          record {
+            entry = c.entry;
+            after = end.0;
+            recovers = end.1;
+            processed = ap (λ (e : Entry). e.processed) c.comes.stages.entry_is;
+            output = ap (λ (e : Entry). e.output) c.comes.stages.entry_is;
+            bad = ap (λ (e : Entry). e.bad) c.comes.stages.entry_is;
+          };
+    }
+
     -- a run that the disk stops at its gate or behind it
-    pub stops_at_gate : (new : Commit D) (stops : StopsAtGate state request template (Some after_logs.folder) spans old new)
+    pub stops_at_gate : (new : Commit D) (stop : RunStop) (stops : StopsAtGate state request template (Some after_logs.folder) spans old new stop)
         → RunStep meaning (setting_by old setting) (asked_by_request request) disk_failed before after_logs (disk_of state old) (disk_of state new)
-    stops_at_gate new s = step_stopped state only_now seen_left counts_now meaning setting (asked_by_request request) before after_logs old s.entry s.comes.settled s.comes.stages.started s.comes.staged s.gate
+    stops_at_gate new stop s = step_stopped state only_now seen_left counts_now meaning setting (asked_by_request request) before after_logs old s.entry s.comes.settled s.comes.stages.started s.comes.staged s.gate
         unsettled s.comes.settles s.comes.stages.starts s.comes.stages.goes s.comes.seals (made s.gate s.entry s.counts s.comes) new s.opens some_state
+
+    -- and it finds no damage there
+    pub gate_undamaged : (new : Commit D) (stop : RunStop) → StopsAtGate state request template (Some after_logs.folder) spans old new stop → IsDamagedStop stop → ⊥
+    gate_undamaged new stop s damaged =
+        let some = some_state in
+        let g = at_gate state only_now seen_left counts_now meaning setting (asked_by_request request) before after_logs old s.entry s.comes.settled s.comes.stages.started s.comes.staged s.gate
+        unsettled s.comes.settles s.comes.stages.starts s.comes.stages.goes s.comes.seals (made s.gate s.entry s.counts s.comes) some.0 some.1 some.2 some.3 in
+        s.undamaged damaged some.0 some.1 g.made.with_entry g.sealed

@@ -1,5 +1,5 @@
 -- The files with the outputs of an entry are those that a commit restores.
-use Rattle.std.proofs.Common.{◌≡◌, ◌≢◌, ◌⊎◌, ⊎_elim, ℕ, zero, suc, ◌+◌, Bool, true, false, true≢false, List, [], ◌∷◌, ◌++◌, length, take, filter, map, Option, Some, refl, sym, ◌∙◌, ap, subst, arith, inl, inr}
+use Rattle.std.proofs.Common.{◌≡◌, ◌≢◌, ⊎_elim, ℕ, zero, suc, ◌+◌, Bool, true, false, true≢false, List, [], ◌∷◌, ◌++◌, length, take, filter, Some, refl, sym, ◌∙◌, ap, subst, arith, inl, inr}
 use Rattle.std.specs.Prelude.{slice_get, bytes_eq}
 use Rattle.std.specs.List.{AllZip}
 use Rattle.std.proofs.lemmas.Bool.{cases_Bool}
@@ -8,14 +8,13 @@ use Rattle.std.proofs.lemmas.Slice.Eq.{bytes_eq-Decides}
 use Rattle.disk_model.specs.Disk.{Files, DiskState}
 use Rattle.ledger_model.specs.Entries.{Entry, Output}
 use Rattle.lp_model.specs.Complete.{IsAmong}
-use Rattle.recovery_model.specs.Recovered.{IsOther, IsFile}
+use Rattle.recovery_model.specs.Recovered.{IsFile}
 use Rattle.recovery_model.specs.Stage.{IsStaged}
 use Rattle.run_model.specs.Meanings.{Mode, Split}
 use Rattle.run_model.specs.Right.{takes_part, text_at, IsOutput, AreOutputs, IsSplitOf, IsWith}
 use Rattle.run_model.proofs.OneSettled.{kept_among}
 use Rattle.run_model.proofs.Phases.{restored_with}
 use Rattle.commit.specs.States.{IsGood, HasStaged}
-use Rattle.commit.specs.Redo.{frames_in}
 use Rattle.checkpointed_run.specs.Files.{file_with, files_with, ArePlaced}
 
 -- no split has the name of another

@@ -1,5 +1,5 @@
 -- A run over a ledger, from the disk that it found to the one that it leaves: each phase, in the words of the commit.
-use Rattle.std.specs.Prelude.{◌≡◌, ◌++◌, [], ◌∷◌, List, Option}
+use Rattle.std.specs.Prelude.{◌++◌, [], ◌∷◌, List, Option}
 use Rattle.lp_model.specs.Outside.{Folder}
 use Rattle.disk_model.specs.Disk.{DiskState, Files}
 use Rattle.ledger_model.specs.Entries.{Entry}
@@ -11,6 +11,8 @@ use Rattle.commit.specs.Phases.{Settled, Sealed}
 use Rattle.run_entry.specs.Entries.{Request}
 use Rattle.checkpointed_run.specs.Phases.{IsSettledFrom, IsSealedFrom, IsOpenedFrom}
 use Rattle.checkpointed_run.specs.Staged.{HasStagedRun}
+use Rattle.checkpointed_run.specs.Stops.{IsDamagedStop}
+use Rattle.checkpointed_run.specs.declared.running.RunStop.{RunStop}
 
 -- A run came to its gate: the disk was settled, the run staged, and its entry sealed.
 pub record ComesToGate {D : Type 0} (state : D → DiskState) (request : Request) (template : Sections) (told : Option Folder) (spans : List Span) (old gate : Commit D) (entry : Entry) (counts : Counts) : Type 0 where
@@ -28,10 +30,11 @@ pub record IsCommitted {D : Type 0} (state : D → DiskState) (request : Request
   pub opens : IsOpenedFrom state gate new
   pub done : (entries : List Entry) (before after : Files) → Sealed state gate entry entries before after → Settled state new (entries ++ entry ∷ []) after
 
--- it stopped at its gate or behind it
-pub record StopsAtGate {D : Type 0} (state : D → DiskState) (request : Request) (template : Sections) (told : Option Folder) (spans : List Span) (old new : Commit D) : Type 0 where
+-- it stopped at its gate or behind it, where no damage is found if the entry was sealed
+pub record StopsAtGate {D : Type 0} (state : D → DiskState) (request : Request) (template : Sections) (told : Option Folder) (spans : List Span) (old new : Commit D) (stop : RunStop) : Type 0 where
   pub entry : Entry
   pub counts : Counts
   pub gate : Commit D
   pub comes : ComesToGate state request template told spans old gate entry counts
   pub opens : IsOpenedFrom state gate new
+  pub undamaged : IsDamagedStop stop → (entries : List Entry) (before after : Files) → Sealed state gate entry entries before after → ⊥

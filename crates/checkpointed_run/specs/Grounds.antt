@@ -1,7 +1,7 @@
 -- What a run with a checkpoint rests on: how its words and its query are read, and how its spans go on.
-use Rattle.std.specs.Prelude.{◌≡◌, ℕ, true, false, List, [], ◌∷◌, map, Option, Some, IsSome}
-use Rattle.std.specs.List.{AllByRecursion, AllZip}
-use Rattle.grammar.specs.Trees.{Placed, Query}
+use Rattle.std.specs.Prelude.{◌≡◌, ℕ, true, false, List, map, Some, IsSome}
+use Rattle.std.specs.List.{AllByRecursion}
+use Rattle.grammar.specs.Trees.{Placed}
 use Rattle.lp_model.specs.Outside.{Folder}
 use Rattle.command_words.specs.Table.{IsAsked}
 use Rattle.command_words.specs.Usage.{AreFine}

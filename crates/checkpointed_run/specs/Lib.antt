@@ -4,10 +4,12 @@ pub mod Sound
 pub mod Grounds
 pub mod Staged
 pub mod Phases
-pub mod Committed
 pub mod Stops
+pub mod Committed
 pub mod Reasons
 pub mod Runs
+pub mod Clash
 pub mod Begun
 pub mod Steps
 pub mod Refusals
+pub mod Counted

@@ -1,5 +1,5 @@
 -- What each phase of a commit has done to a disk.
-use Rattle.std.specs.Prelude.{ℕ, ◌<◌, ◌^◌, List, length}
+use Rattle.std.specs.Prelude.{◌<◌, ◌^◌, List, length}
 use Rattle.disk_model.specs.Disk.{DiskState, Files}
 use Rattle.ledger_model.specs.Entries.{Entry}
 use Rattle.ledger_model.specs.Grammar.{payload_of}

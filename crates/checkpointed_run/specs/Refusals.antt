@@ -1,5 +1,5 @@
 -- Why a run over a ledger gives no counts, and for what cause.
-use Rattle.std.specs.Prelude.{ℕ, List, Option}
+use Rattle.std.specs.Prelude.{◌≡◌, ℕ, List, Option, None}
 use Rattle.std.specs.Bool.{⊤}
 use Rattle.disk_model.specs.Disk.{DiskState}
 use Rattle.ledger.specs.Reader.{Holds}
@@ -13,7 +13,8 @@ use Rattle.positions.specs.declared.spans.SpanFault.TheVariants as F
 use Rattle.run_model.specs.Logs.{Rotation}
 use Rattle.tpl_output.specs.Sections.{Sections}
 use Rattle.run_entry.specs.Entries.{Request}
-use Rattle.checkpointed_run.specs.Begun.{HasNoSpans, HasSpans}
+use Rattle.checkpointed_run.specs.Begun.{HasClash, HasNoSpans, HasSpans}
+use Rattle.checkpointed_run.specs.Clash.{first_clash}
 use Rattle.checkpointed_run.specs.Reasons.{StopsAtDamage, StopsFor}
 use Rattle.checkpointed_run.specs.Stops.{HasReason}
 use Rattle.checkpointed_run.specs.declared.running.RunStop.{RunStop}
@@ -39,28 +40,32 @@ SpanReason logs F.Memory = ⊤
 abbrev pub HasCauses : Type 0 → Type 0 → LedgerStop → Type 0
 HasCauses logs disk (L.Ledger fault) = LoadReason disk fault
 HasCauses logs disk (L.Logs fault) = SpanReason logs fault
+HasCauses logs disk (L.Clash name) = ⊤
 HasCauses logs disk (L.Run stop) = HasReason logs disk stop
 HasCauses logs disk L.Memory = ⊤
 
 -- a run over the spans that the logs have was stopped
-pub record HasStopped (disk : DiskState) (ledger : List ℕ) (rotation : Rotation) (input : List ℕ) (texts : List (List ℕ)) (request : Request) (template : Sections) (before now : Option Folder) (stop : RunStop) : Type 0 where
+pub record HasStopped (disk : DiskState) (ledger stage : List ℕ) (rotation : Rotation) (input : List ℕ) (texts : List (List ℕ)) (request : Request) (template : Sections) (before now : Option Folder) (stop : RunStop) : Type 0 where
   pub listed : Option Folder
   pub grows : OnlyGrow listed now
   pub spans : List Span
   pub has : HasSpans disk ledger rotation input texts before listed spans
+  pub free : first_clash ledger stage spans ≡ None
   pub stops : StopsFor request template now spans stop
 
--- why there are no counts: the ledger that a read gives is damaged, the logs behind FROM have no spans from where its runs left them, or the run over them is stopped
-abbrev pub IsWithoutCounts : DiskState → List ℕ → Rotation → List ℕ → List (List ℕ) → Request → Sections → Option Folder → Option Folder → LedgerStop → Type 0
-IsWithoutCounts disk ledger rotation input texts request template before now (L.Ledger fault) = (file : List ℕ) → Holds disk ledger file → RefusedLoad file fault
-IsWithoutCounts disk ledger rotation input texts request template before now (L.Logs fault) = HasNoSpans disk ledger rotation input texts before now fault
-IsWithoutCounts disk ledger rotation input texts request template before now (L.Run stop) = HasStopped disk ledger rotation input texts request template before now stop
-IsWithoutCounts disk ledger rotation input texts request template before now L.Memory = ⊤
+-- why there are no counts: the ledger that a read gives is damaged, the logs behind FROM have no spans from where its runs left them, one of them is the ledger or the stage, or the run over them is stopped
+abbrev pub IsWithoutCounts : DiskState → List ℕ → List ℕ → Rotation → List ℕ → List (List ℕ) → Request → Sections → Option Folder → Option Folder → LedgerStop → Type 0
+IsWithoutCounts disk ledger stage rotation input texts request template before now (L.Ledger fault) = (file : List ℕ) → Holds disk ledger file → RefusedLoad file fault
+IsWithoutCounts disk ledger stage rotation input texts request template before now (L.Logs fault) = HasNoSpans disk ledger rotation input texts before now fault
+IsWithoutCounts disk ledger stage rotation input texts request template before now (L.Clash name) = HasClash disk ledger stage rotation input texts before now name
+IsWithoutCounts disk ledger stage rotation input texts request template before now (L.Run stop) = HasStopped disk ledger stage rotation input texts request template before now stop
+IsWithoutCounts disk ledger stage rotation input texts request template before now L.Memory = ⊤
 
 -- a damage that the run is told behind the load of the ledger
 abbrev pub IsAtDamage : DiskState → List ℕ → List ℕ → LedgerStop → Type 0
 IsAtDamage disk ledger stage (L.Ledger fault) = ⊤
 IsAtDamage disk ledger stage (L.Logs fault) = ⊤
+IsAtDamage disk ledger stage (L.Clash name) = ⊤
 IsAtDamage disk ledger stage (L.Run stop) = StopsAtDamage disk ledger stage stop
 IsAtDamage disk ledger stage L.Memory = ⊤
 
@@ -68,5 +73,6 @@ IsAtDamage disk ledger stage L.Memory = ⊤
 abbrev pub IsNotBegun : DiskState → List ℕ → Rotation → List ℕ → List (List ℕ) → Option Folder → Option Folder → LedgerStop → Type 0
 IsNotBegun disk ledger rotation input texts before now (L.Ledger fault) = (file : List ℕ) → Holds disk ledger file → RefusedLoad file fault
 IsNotBegun disk ledger rotation input texts before now (L.Logs fault) = HasNoSpans disk ledger rotation input texts before now fault
+IsNotBegun disk ledger rotation input texts before now (L.Clash name) = ⊥
 IsNotBegun disk ledger rotation input texts before now (L.Run stop) = ⊥
 IsNotBegun disk ledger rotation input texts before now L.Memory = ⊤

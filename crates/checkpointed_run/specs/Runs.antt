@@ -10,7 +10,7 @@ use Rattle.commit.specs.declared.phases.CommitFiles.{CommitFiles}
 use Rattle.commit.specs.Phases.{SettlesHeld, Unsettled}
 use Rattle.run_entry.specs.Entries.{Request}
 use Rattle.checkpointed_run.specs.Committed.{IsCommitted, StopsAtGate}
-use Rattle.checkpointed_run.specs.Stops.{IsBeforeGate, IsFromGate}
+use Rattle.checkpointed_run.specs.Stops.{IsBeforeGate, IsDamagedStop, IsFromGate}
 use Rattle.checkpointed_run.specs.declared.running.RunStop.{RunStop}
 
 -- it was whole, or stopped before its gate or from there on
@@ -22,4 +22,5 @@ pub record RunsOver {D : Type 0} (state : D → DiskState) (request : Request) (
   pub new_is : new ≡ last.disk.now
   pub committed : IfOk result (IsCommitted state request template told spans first last)
   pub before : IfErr result (λ stop. IsBeforeGate stop → Unsettled state first → SettlesHeld state first last)
-  pub behind : IfErr result (λ stop. IsFromGate stop → StopsAtGate state request template told spans first last)
+  pub behind : IfErr result (λ stop. IsFromGate stop → StopsAtGate state request template told spans first last stop)
+  pub undamaged : IfErr result (λ stop. IsBeforeGate stop → IsDamagedStop stop → Unsettled state first → ⊥)

@@ -17,6 +17,16 @@ IsFromGate (S.Refused fault) = ⊥
 IsFromGate (S.BeforeGate fault) = ⊥
 IsFromGate (S.FromGate fault) = ⊤
 
+-- a damage of the ledger or of the stage was told, before the gate or from there on
+abbrev pub IsFaultDamage : LedgerRefused → Type 0
+IsFaultDamage R.DiskFault = ⊥
+IsFaultDamage (R.LedgerFault part at) = ⊤
+
+abbrev pub IsDamagedStop : RunStop → Type 0
+IsDamagedStop (S.Refused fault) = ⊥
+IsDamagedStop (S.BeforeGate fault) = IsFaultDamage fault
+IsDamagedStop (S.FromGate fault) = IsFaultDamage fault
+
 -- a call failed only where its object counted a fault
 abbrev pub RunReason : Type 0 → Type 0 → RunFault → Type 0
 RunReason logs disk (X.Plan fault) = ⊤

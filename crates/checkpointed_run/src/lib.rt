@@ -1,8 +1,9 @@
 //! A run with a checkpoint, between two settled states of a ledger.
 //!
 //! To the crate above: [`run_over_ledger`], a run over the logs behind FROM from where the runs of a ledger left them, which is
-//! a step of any world in which it may run (`specs/Steps`); in it [`commit_run`], a run over spans between two settled states,
-//! and [`stage_run`], a run up to its gate, whose entry has its form (`proofs/Formed`) and may come next (`proofs/Next`).
+//! a step of any world in which it may run, from any earlier moment on (`specs/Steps`); in it [`commit_run`], a run over spans
+//! between two settled states, and [`stage_run`], a run up to its gate, whose entry has its form (`proofs/Formed`) and may come
+//! next (`proofs/Next`).
 #![tactic(auto)]
 
 mod fitting;

@@ -1,8 +1,9 @@
 // A run over the logs behind FROM, from where the runs of a ledger left them.
-ghost use Rattle.std.specs.Prelude.{◌≡◌, ◌≤◌, ◌+◌, ◌++◌, true, length, map, codes, None, Some, IfOk, IfErr, IsSome};
-ghost use Rattle.lp_model.specs.Outside.{Rose, OnlyGrow, Told, bytes_in};
+ghost use Rattle.std.specs.Prelude.{◌≡◌, ◌≤◌, ◌+◌, ◌++◌, true, length, map, codes, None, Some, Option, IfOk, IfErr, IsSome};
+ghost use Rattle.lp_model.specs.Outside.{Folder, Rose, OnlyGrow, Told, bytes_in};
 ghost use Rattle.command_words.specs.Table.{IsInRange};
 ghost use Rattle.command_words.specs.declared.formats.OutputFormat.TheVariants as O;
+ghost use Rattle.commit.specs.Resume.{CanSettle, Settles};
 ghost use Rattle.execution.specs.Built.{is_run_built};
 ghost use Rattle.execution.specs.Executed.{IsMoment};
 ghost use Rattle.execution.specs.Texts.{output_of, sections_in};
@@ -16,18 +17,20 @@ ghost use Rattle.program_meaning.specs.Inputs.{input_for};
 ghost use Rattle.query_text.specs.Stdin.{names_in};
 ghost use Rattle.query_tree.specs.Views.{query_of};
 ghost use Rattle.checkpointed_run.specs.Begun.{GivesSpans, HasSpans};
+ghost use Rattle.checkpointed_run.specs.Counted.{HasRun};
+ghost use Rattle.checkpointed_run.specs.Clash.{first_clash};
 ghost use Rattle.checkpointed_run.specs.Reasons.{StopsAtDamage, StopsFor};
 ghost use Rattle.checkpointed_run.specs.Refusals.{HasCauses, IsAtDamage, IsNotBegun, IsWithoutCounts};
 ghost use Rattle.checkpointed_run.specs.Runs.{RunsOver};
 ghost use Rattle.checkpointed_run.specs.Staged.{request_of};
-ghost use Rattle.checkpointed_run.specs.Steps.{TakesStep, ending_of};
+ghost use Rattle.checkpointed_run.specs.Steps.{TakesStep};
 ghost use Rattle.checkpointed_run.specs.Stops.{HasReason};
 
 use crate::{RunStop, commit_run};
 use checkpoint::{Sources, Spans};
 use command_words::Spec;
 use commit::{Commit, CommitFiles};
-use lp_outside::{Disk, Logs, Name, Source};
+use lp_outside::{Disk, Logs, Name};
 use lp_values::{Bytes, Text};
 use positions::{LoadFault, Positions, SpanFault};
 use query_run::Counts;
@@ -44,6 +47,8 @@ pub enum LedgerStop {
     Ledger(LoadFault),
     /// The logs have no spans, or the ledger's runs read them otherwise.
     Logs(SpanFault),
+    /// A log is the ledger or the stage: the name of the first such span's file.
+    Clash(Name),
     /// The run was stopped.
     Run(RunStop),
     /// Want of memory.
@@ -95,7 +100,7 @@ fn name_is_good(name: &Name)
 }
 
 // Runs a query over spans, over the two files of a disk.
-fn run_over_spans<L: Logs, D: Disk, I: Source>(
+fn run_over_spans<L: Logs, D: Disk>(
     alloc: Global,
     spec: &Spec,
     query: &Query,
@@ -104,7 +109,6 @@ fn run_over_spans<L: Logs, D: Disk, I: Source>(
     bytes: Bytes,
     moment: i64,
     logs: &mut L,
-    input: &mut I,
     spans: &Spans,
     files: CommitFiles,
     disk: &mut D,
@@ -122,7 +126,6 @@ fn run_over_spans<L: Logs, D: Disk, I: Source>(
     ensures runs { RunsOver D.state (request_of spec.now (query_of query.now) text bytes moment) (sections_in (λ t. t.value) template) (L.folder logs.new) spans.now files disk.old disk.new result }
     ensures refused { IfErr result (StopsFor (request_of spec.now (query_of query.now) text bytes moment) (sections_in (λ t. t.value) template) (L.folder logs.new) spans.now) }
     ensures damaged { IfErr result (StopsAtDamage (D.state disk.old) files.ledger files.stage) }
-    ensures input { input.new ≡ input.old }
     ensures given { L.given logs.new ≤ L.given logs.old + spans_size spans.now }
     ensures later_logs { L.faults logs.old ≤ L.faults logs.new }
     ensures later { D.faults disk.old ≤ D.faults disk.new }
@@ -139,15 +142,28 @@ fn run_over_spans<L: Logs, D: Disk, I: Source>(
         bytes,
         moment,
         logs,
-        input,
         spans,
         &mut commit,
     )
 }
 
+// The name of the first span whose file is the ledger or the stage. It takes no memory.
+fn clash_in(ledger: &Name, stage: &Name, spans: &Spans) -> Option<Name>
+    ensures { result ≡ first_clash ledger.now stage.now spans.now }
+{
+    let found = spans
+        .as_slice()
+        .iter()
+        .find(|span| span.name.is(ledger) || span.name.is(stage));
+    match found {
+        Some(span) => Some(span.name.copy()),
+        None => None,
+    }
+}
+
 /// Runs a query over the logs behind FROM, of each the complete lines behind its kept place, and commits its outputs and its
 /// entry together.
-pub fn run_over_ledger<L: Logs, D: Disk, I: Source>(
+pub fn run_over_ledger<L: Logs, D: Disk>(
     alloc: Global,
     spec: &Spec,
     query: &Query,
@@ -156,7 +172,6 @@ pub fn run_over_ledger<L: Logs, D: Disk, I: Source>(
     bytes: Bytes,
     moment: i64,
     logs: &mut L,
-    input: &mut I,
     sources: &Sources,
     files: CommitFiles,
     disk: &mut D,
@@ -172,16 +187,19 @@ pub fn run_over_ledger<L: Logs, D: Disk, I: Source>(
     requires ledger { spec.now.checkpoint ≡ Some files.ledger }
     requires stage { files.stage ≡ files.ledger ++ codes ".stage" }
     ensures grows { OnlyGrow (L.folder logs.old) (L.folder logs.new) }
-    ensures step { TakesStep (ending_of result) (request_of spec.now (query_of query.now) text bytes moment) files.ledger files.stage (L.folder logs.old) (L.folder logs.new) (D.state disk.old) (D.state disk.new) }
+    // It is a step of the world from any earlier moment on, since when the disk was settled at most and the logs only grew.
+    ensures step { (earlier : D) (since : Option Folder) → (CanSettle (D.state earlier) files.ledger files.stage → Settles (D.state earlier) (D.state disk.old) files.ledger files.stage) → OnlyGrow since (L.folder logs.old)
+        → TakesStep result (request_of spec.now (query_of query.now) text bytes moment) files.ledger files.stage since (L.folder logs.new) (D.state earlier) (D.state disk.new) }
+    // What it did where it came to counts.
+    ensures ran { IfOk result (HasRun D.state (D.state disk.old) files.ledger files.stage (rule_of sources.now.rotation) (input_text (input_for spec.now (query_of query.now))) sources.now.names (request_of spec.now (query_of query.now) text bytes moment) (sections_in (λ t. t.value) template) (L.folder logs.old) (L.folder logs.new)) }
     // Why there are no counts.
-    ensures refused { IfErr result (IsWithoutCounts (D.state disk.old) files.ledger (rule_of sources.now.rotation) (input_text (input_for spec.now (query_of query.now))) sources.now.names (request_of spec.now (query_of query.now) text bytes moment) (sections_in (λ t. t.value) template) (L.folder logs.old) (L.folder logs.new)) }
+    ensures refused { IfErr result (IsWithoutCounts (D.state disk.old) files.ledger files.stage (rule_of sources.now.rotation) (input_text (input_for spec.now (query_of query.now))) sources.now.names (request_of spec.now (query_of query.now) text bytes moment) (sections_in (λ t. t.value) template) (L.folder logs.old) (L.folder logs.new)) }
     // A damage that settling the disk finds is that of the stage or of the ledger.
     ensures damaged { IfErr result (IsAtDamage (D.state disk.old) files.ledger files.stage) }
     // A fault of the disk or of the logs is one that was counted in the call.
     ensures reason { IfErr result (HasCauses (Rose (L.faults logs.old) (L.faults logs.new)) (Rose (D.faults disk.old) (D.faults disk.new))) }
-    ensures input { input.new ≡ input.old }
     // What the logs gave lies in the spans.
-    ensures given { GivesSpans (D.state disk.old) files.ledger (rule_of sources.now.rotation) (input_text (input_for spec.now (query_of query.now))) sources.now.names (L.folder logs.old) (L.folder logs.new) (L.given logs.old) (L.given logs.new) }
+    ensures given { GivesSpans (D.state disk.old) files.ledger files.stage (rule_of sources.now.rotation) (input_text (input_for spec.now (query_of query.now))) sources.now.names (L.folder logs.old) (L.folder logs.new) (L.given logs.old) (L.given logs.new) }
     ensures later_logs { L.faults logs.old ≤ L.faults logs.new }
     ensures later { D.faults disk.old ≤ D.faults disk.new }
 {
@@ -191,8 +209,11 @@ pub fn run_over_ledger<L: Logs, D: Disk, I: Source>(
         Ok(spans) => spans,
         Err(stop) => return Err(stop),
     };
+    if let Some(name) = clash_in(&files.ledger, &files.stage, &spans) {
+        return Err(LedgerStop::Clash(name));
+    }
     match run_over_spans(
-        alloc, spec, query, text, template, bytes, moment, logs, input, &spans, files, disk,
+        alloc, spec, query, text, template, bytes, moment, logs, &spans, files, disk,
     ) {
         Ok(counts) => Ok(counts),
         Err(stop) => Err(LedgerStop::Run(stop)),

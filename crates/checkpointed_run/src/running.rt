@@ -13,14 +13,14 @@ ghost use Rattle.query_tree.specs.Views.{query_of};
 ghost use Rattle.checkpointed_run.specs.Committed.{IsCommitted, StopsAtGate};
 ghost use Rattle.checkpointed_run.specs.Reasons.{StopsAtDamage, StopsFor};
 ghost use Rattle.checkpointed_run.specs.Staged.{request_of};
-ghost use Rattle.checkpointed_run.specs.Stops.{IsBeforeGate, IsFromGate, HasReason};
+ghost use Rattle.checkpointed_run.specs.Stops.{IsBeforeGate, IsDamagedStop, IsFromGate, HasReason};
 
 use crate::staging::stage_run;
 use checkpoint::Spans;
 use command_words::Spec;
 use commit::{Commit, CommitFault};
 use execution::RunFault;
-use lp_outside::{Disk, Logs, Source};
+use lp_outside::{Disk, Logs};
 use lp_values::{Bytes, Text};
 use query_run::Counts;
 use query_tree::Query;
@@ -41,7 +41,7 @@ pub enum RunStop {
 
 /// Runs a query over spans of logs: settles the disk, stages the rows and seals the run's entry, opens its gate and writes its
 /// outputs.
-pub fn commit_run<'d, L: Logs, D: Disk, I: Source>(
+pub fn commit_run<'d, L: Logs, D: Disk>(
     alloc: Global,
     spec: &Spec,
     query: &Query,
@@ -50,7 +50,6 @@ pub fn commit_run<'d, L: Logs, D: Disk, I: Source>(
     bytes: Bytes,
     moment: i64,
     logs: &mut L,
-    input: &mut I,
     spans: &Spans,
     commit: &mut Commit<'d, D>,
 ) -> Result<Counts, RunStop>
@@ -66,10 +65,11 @@ pub fn commit_run<'d, L: Logs, D: Disk, I: Source>(
     ensures same { Same commit.old commit.new }
     ensures committed { IfOk result (IsCommitted D.state (request_of spec.now (query_of query.now) text bytes moment) (sections_in (λ t. t.value) template) (L.folder logs.new) spans.now commit.old commit.new) }
     ensures before { IfErr result (λ stop. IsBeforeGate stop → Unsettled D.state commit.old → SettlesHeld D.state commit.old commit.new) }
-    ensures behind { IfErr result (λ stop. IsFromGate stop → StopsAtGate D.state (request_of spec.now (query_of query.now) text bytes moment) (sections_in (λ t. t.value) template) (L.folder logs.new) spans.now commit.old commit.new) }
+    ensures behind { IfErr result (λ stop. IsFromGate stop → StopsAtGate D.state (request_of spec.now (query_of query.now) text bytes moment) (sections_in (λ t. t.value) template) (L.folder logs.new) spans.now commit.old commit.new stop) }
+    // No damage is told of a disk that may be settled.
+    ensures undamaged { IfErr result (λ stop. IsBeforeGate stop → IsDamagedStop stop → Unsettled D.state commit.old → ⊥) }
     ensures refused { IfErr result (StopsFor (request_of spec.now (query_of query.now) text bytes moment) (sections_in (λ t. t.value) template) (L.folder logs.new) spans.now) }
     ensures damaged { IfErr result (StopsAtDamage (disk_of D.state commit.old) (ledger_of commit.old) (stage_of commit.old)) }
-    ensures input { input.new ≡ input.old }
     ensures given { L.given logs.new ≤ L.given logs.old + spans_size spans.now }
     ensures later_logs { L.faults logs.old ≤ L.faults logs.new }
     ensures later { D.faults commit.old.disk.now ≤ D.faults commit.new.disk.now }
@@ -80,7 +80,7 @@ pub fn commit_run<'d, L: Logs, D: Disk, I: Source>(
         Err(fault) => return Err(RunStop::BeforeGate(fault)),
     }
     let run = match stage_run(
-        alloc, spec, query, text, template, bytes, moment, logs, input, spans, commit,
+        alloc, spec, query, text, template, bytes, moment, logs, spans, commit,
     ) {
         Ok(run) => run,
         Err(fault) => return Err(RunStop::Refused(fault)),

@@ -22,7 +22,7 @@ use command_words::Spec;
 use commit::Commit;
 use execution::{RunFault, execute};
 use ledger::Entry;
-use lp_outside::{Disk, Logs, Source};
+use lp_outside::{Disk, Logs};
 use lp_values::{Bytes, Text};
 use query_run::Counts;
 use query_tree::Query;
@@ -39,7 +39,7 @@ pub struct StagedRun {
 
 /// Empties the stage, puts the rows of a query over spans of logs into it, of each span the lines that LF ends, and makes the
 /// run's entry.
-pub fn stage_run<'d, L: Logs, D: Disk, I: Source>(
+pub fn stage_run<'d, L: Logs, D: Disk>(
     alloc: Global,
     spec: &Spec,
     query: &Query,
@@ -48,7 +48,6 @@ pub fn stage_run<'d, L: Logs, D: Disk, I: Source>(
     bytes: Bytes,
     moment: i64,
     logs: &mut L,
-    input: &mut I,
     spans: &Spans,
     commit: &mut Commit<'d, D>,
 ) -> Result<StagedRun, RunFault>
@@ -65,7 +64,6 @@ pub fn stage_run<'d, L: Logs, D: Disk, I: Source>(
     ensures refused { IfRefused result (IsUnplaced (log_format spec.now (query_of query.now)) true (L.folder logs.new) (asked_in spec.now (sections_in (λ t. t.value) template) moment (query_of query.now) spans.now) spec.now moment (query_of query.now) spans.now) }
     ensures plan { IfPlan result (IsUnplanned (log_format spec.now (query_of query.now)) true (L.folder logs.new) spec.now moment (query_of query.now) spans.now) }
     ensures parse { IfParse result (IsParseError (log_format spec.now (query_of query.now)) true (L.folder logs.new) spec.now moment (query_of query.now) spans.now) }
-    ensures input { input.new ≡ input.old }
     ensures given { L.given logs.new ≤ L.given logs.old + spans_size spans.now }
     ensures later_logs { L.faults logs.old ≤ L.faults logs.new }
     ensures logs { IsErrOf result RunFault.LogsFault → Rose (L.faults logs.old) (L.faults logs.new) }
@@ -78,7 +76,7 @@ pub fn stage_run<'d, L: Logs, D: Disk, I: Source>(
         Err(_) => return Err(RunFault::StageFault),
     }
     let ran = execute(
-        alloc, spec, query, template, moment, logs, input, spans, true, commit,
+        alloc, spec, query, template, moment, logs, spans, true, commit,
     )?;
     match make_entry(
         alloc,

@@ -1,10 +1,12 @@
 //! The tests of the command over objects in memory.
 //!
 //! Worked runs at a moment that is known, and what no case of the program can show: logs, disks, outputs and messages that fail
-//! at each call, and clocks of other years.
+//! at each call, clocks of other years, and runs with a checkpoint, stopped at each call of the disk.
 //! They stand here, so that no crate with proofs is proved once more with its tests.
 #![tactic(auto)]
 
+#[cfg(test)]
+mod checkpoints;
 #[cfg(test)]
 mod files;
 #[cfg(test)]
@@ -13,5 +15,7 @@ mod messages;
 mod query_files;
 #[cfg(test)]
 mod runs;
+#[cfg(test)]
+mod standard_input;
 #[cfg(test)]
 mod worked_rows;

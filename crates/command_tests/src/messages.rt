@@ -1,7 +1,8 @@
 // Messages and statistics over an output in memory.
 use command_words::{UsageFault, UsageKind};
+use ledger::Part2;
 use lp_outside::Name;
-use lp_values::Text;
+use lp_values::{Bytes, Text};
 use memory_outside::MemorySink;
 use query_lexer::LexFault;
 use query_text::QueryFault;
@@ -10,9 +11,47 @@ use reports::{Status, write_message, write_statistics};
 use std::alloc::Global;
 use std::test::Fail;
 
-fn parse_errors() -> Result<Status, Fail> {
-    let log = Name::read("logs/ex 1.log").map_err(|_| "no name")?;
-    Ok(Status::ParseErrors { log, row: 4096 })
+fn log(text: &str) -> Result<Name, Fail> {
+    let name = Name::read(text).map_err(|_| "no name")?;
+    Ok(name)
+}
+
+fn input(alloc: Global, text: &[u8]) -> Result<Bytes, Fail> {
+    let mut bytes = Bytes::new(alloc);
+    bytes.add(text)?;
+    Ok(bytes)
+}
+
+// What a run over a ledger is refused by.
+fn ledger_status(alloc: Global, word: &str) -> Result<Status, Fail> {
+    Ok(match word {
+        "lost" => Status::LostLog {
+            stem: log("acc.log")?,
+            number: 1,
+        },
+        "shrunk" => Status::Shrunk {
+            name: log("a.log")?,
+            kept: 5,
+            found: 2,
+        },
+        "input" => Status::InputChanged {
+            kept: input(alloc, b"IISW3C")?,
+            given: input(alloc, b"CSV -headerRow:OFF")?,
+        },
+        "into" => Status::IntoNeeded,
+        "ledger" => Status::LedgerFault {
+            part: Part2::Ledger,
+            at: 0,
+        },
+        "stage" => Status::LedgerFault {
+            part: Part2::Stage,
+            at: u64::MAX,
+        },
+        _ => Status::ParseErrors {
+            log: log("logs/ex 1.log")?,
+            row: 4096,
+        },
+    })
 }
 
 fn status(alloc: Global, word: &str) -> Result<Status, Fail> {
@@ -30,7 +69,7 @@ fn status(alloc: Global, word: &str) -> Result<Status, Fail> {
         "clash" => Status::NameClash(Text::from_str(alloc, "logs/a.log")?),
         "outputs" => Status::TooManyOutputs,
         "disk" => Status::DiskFault,
-        _ => parse_errors()?,
+        _ => ledger_status(alloc, word)?,
     })
 }
 
@@ -52,7 +91,13 @@ clash => 4 Some(\"logparser: input: name clash logs/a.log\\n\")
 outputs => 4 Some(\"logparser: input: more than 10000 outputs\\n\")
 logs => 5 Some(\"logparser: read fault: logs\\n\")
 disk => 6 Some(\"logparser: disk fault\\n\")
-row => 8 Some(\"logparser: parse errors: logs/ex 1.log row 4096\\n\")";
+row => 8 Some(\"logparser: parse errors: logs/ex 1.log row 4096\\n\")
+lost => 4 Some(\"logparser: input: lost log acc.log.1\\n\")
+shrunk => 4 Some(\"logparser: input: a.log is 2 bytes, 5 were read\\n\")
+input => 4 Some(\"logparser: input: the ledger has IISW3C, given CSV -headerRow:OFF\\n\")
+into => 3 Some(\"logparser: query: INTO needed\\n\")
+ledger => 9 Some(\"logparser: ledger: ledger at 0\\n\")
+stage => 9 Some(\"logparser: ledger: stage at 18446744073709551615\\n\")";
 
 #[test]
 fn each_refusal_has_its_code_and_its_line(rt: HostRuntime) -> Result<(), Fail> {

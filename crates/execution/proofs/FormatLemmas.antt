@@ -1,10 +1,9 @@
 -- How the logs of a run are read.
-use Rattle.std.proofs.Common.{◌≡◌, ℕ, Bool, true, false, not, ◌&&◌, [], None, refl, subst, sym, inl, inr, arith}
+use Rattle.std.proofs.Common.{◌≡◌, ℕ, Bool, true, false, ◌&&◌, [], None, refl, subst, sym, inl, inr, arith}
 use Rattle.std.specs.Prelude.{is_none}
 use Rattle.grammar.specs.Trees.{Query}
-use Rattle.query_text.specs.Stdin.{names_in}
 use Rattle.query_types.specs.Built.{is_built}
-use Rattle.execution.specs.Built.{all_built, is_run_built, reads_stdin}
+use Rattle.execution.specs.Built.{all_built, is_run_built}
 use Rattle.command_words.specs.declared.formats.InputFormat.{InputFormat}
 use Rattle.command_words.specs.declared.formats.InputFormat.TheVariants as I
 use Rattle.command_words.specs.declared.spec.Spec.{Spec}
@@ -54,18 +53,13 @@ separated spec I.Tsv options limit range same = λ refused.
 separated spec I.TextLine options limit range same = absurd (cc)
 separated spec I.TextWord options limit range same = absurd (cc)
 
-middle_true : (a b c : Bool) → (a && b && c) ≡ true → b ≡ true
-middle_true true true c is = refl
-middle_true true false c is = let same : false ≡ true = is in absurd cc
-middle_true false b c is = let same : false ≡ true = is in absurd cc
-
--- where a run is built, the query is
-pub built_query : (spec : Spec) (q : Query) → is_run_built spec q ≡ true → is_built q ≡ true
-built_query spec q built = middle_true (has_text spec (output_of spec q)) (is_built q) (not (reads_stdin (names_in q))) built
-
 last_true : (a b : Bool) → (a && b) ≡ true → b ≡ true
 last_true true b is = is
 last_true false b is = let same : false ≡ true = is in absurd cc
+
+-- where a run is built, the query is
+pub built_query : (spec : Spec) (q : Query) → is_run_built spec q ≡ true → is_built q ≡ true
+built_query spec q built = last_true (has_text spec (output_of spec q)) (is_built q) built
 
 -- where all is built, the run is
 pub built_run : (spec : Spec) (q : Query) → all_built spec q ≡ true → is_run_built spec q ≡ true

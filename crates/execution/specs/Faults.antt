@@ -46,4 +46,7 @@ unplanned (T.WrongArity at) = F.Plan (T.WrongArity at)
 unplanned (T.TooFewColumns at) = F.Plan (T.TooFewColumns at)
 unplanned (T.BadPattern at) = F.Plan (T.BadPattern at)
 unplanned (T.NotInSelect at) = F.Plan (T.NotInSelect at)
+unplanned (T.NotGrouped at) = F.Plan (T.NotGrouped at)
+unplanned (T.NestedAggregate at) = F.Plan (T.NestedAggregate at)
+unplanned (T.StarWithGroups at) = F.Plan (T.StarWithGroups at)
 unplanned T.Memory = F.Memory

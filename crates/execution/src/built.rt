@@ -9,8 +9,8 @@ use query_text::is_stdin;
 use query_tree::{PlacedList, Query};
 use query_types::is_built;
 
-// Whether STDIN is the only name.
-fn reads_stdin(names: &PlacedList) -> bool
+/// Whether STDIN is the only name behind FROM: standard input is read.
+pub fn reads_stdin(names: &PlacedList) -> bool
     ensures { result ≡ reads_stdin (placed_all names.now) }
 {
     match names.items.as_slice() {
@@ -23,7 +23,7 @@ fn reads_stdin(names: &PlacedList) -> bool
 pub fn is_run_built(spec: &Spec, query: &Query) -> bool
     ensures { result ≡ is_run_built spec.now (query_of query.now) }
 {
-    has_text(spec, output_of(spec, query)) && is_built(query) && !reads_stdin(&query.names)
+    has_text(spec, output_of(spec, query)) && is_built(query)
 }
 
 /// Whether all that the options and the query ask for is built.

@@ -1,10 +1,10 @@
 // A query over spans of logs.
 ghost use Rattle.std.specs.Prelude.{◌≡◌, ◌≤◌, ◌+◌, ◌++◌, true, length, map, codes, None, IfOk, IfSome, IsSome, OnErr, IsErrOf};
-ghost use Rattle.lp_model.specs.Outside.{Rose, OnlyGrow, Told, bytes_in};
+ghost use Rattle.lp_model.specs.Outside.{Rose, OnlyGrow, Told};
 ghost use Rattle.command_words.specs.Table.{IsInRange};
 ghost use Rattle.lp_outside.specs.NameFault.{name_fault};
 ghost use Rattle.log_reading.specs.Page.{IsWithin};
-ghost use Rattle.log_reading.specs.Spans.{AllSpans, AreKept, IsSpan, spans_size, took_of};
+ghost use Rattle.log_reading.specs.Spans.{AllSpans, AreReadable, AreKept, IsSpan, spans_size, took_of};
 ghost use Rattle.text_output.specs.Output.{kind_of};
 ghost use Rattle.row_output.specs.Rows.{Holds, Stops};
 ghost use Rattle.query_tree.specs.Views.{query_of};
@@ -24,7 +24,8 @@ use crate::texts::{output_of, wanted_as};
 use crate::{Ran, RunFault};
 use checkpoint::Spans;
 use command_words::Spec;
-use lp_outside::{Logs, Source, Stage};
+use log_reading::LogSource;
+use lp_outside::Stage;
 use query_tree::Query;
 use sampled_run::Moment;
 use std::alloc::Global;
@@ -35,14 +36,13 @@ use tpl_output::Template;
 /// that SELECT makes of them, by the template where the output is by one. The columns of CSV and TSV logs are known behind their
 /// first records. Where unended lines wait, it takes of each span the lines that LF ends, and answers what it took; else a last
 /// line without LF is taken too.
-pub fn execute<L: Logs, I: Source, G: Stage>(
+pub fn execute<L: LogSource, G: Stage>(
     alloc: Global,
     spec: &Spec,
     query: &Query,
     template: Option<Rc<Template>>,
     moment: i64,
     logs: &mut L,
-    input: &mut I,
     spans: &Spans,
     waits: bool,
     stage: &mut G,
@@ -54,8 +54,9 @@ pub fn execute<L: Logs, I: Source, G: Stage>(
     requires stage { IfSome spec.now.checkpoint (λ ledger. name_fault (ledger ++ codes ".stage") ≡ None) }
     requires few { length spans.now ≤ 100000 }
     requires spans { AllSpans spans.now IsSpan }
-    requires there { Told (L.folder logs.old) (λ folder. AllSpans spans.now (λ span. span.listed ≤ length (bytes_in folder span.name))) }
+    requires readable { AreReadable L.folder L.ready logs.old spans.now }
     ensures grows { OnlyGrow (L.folder logs.old) (L.folder logs.new) }
+    ensures goes_logs { L.goes logs.old logs.new }
     ensures ran { IfOk result (λ ran. IsExecuted (log_format spec.now (query_of query.now)) waits (L.folder logs.new) (λ asked rows. Holds (kind_of G.state G.ended) asked stage.old rows ran.outputs stage.new) (asked_in spec.now (sections_in (λ t. t.value) template) moment (query_of query.now) spans.now) spec.now moment (query_of query.now) spans.now ran.counts) }
     ensures within { IfOk result (λ ran. IsWithin spec.now.errors ran.counts.bad) }
     ensures stopped { OnErr result (IsStopped (log_format spec.now (query_of query.now)) waits (L.folder logs.new) (stage.new ≡ stage.old) (λ asked rows. Stops (kind_of G.state G.ended) asked stage.old rows stage.new) (asked_in spec.now (sections_in (λ t. t.value) template) moment (query_of query.now) spans.now) spec.now moment (query_of query.now) spans.now) }
@@ -65,7 +66,6 @@ pub fn execute<L: Logs, I: Source, G: Stage>(
     ensures parse { IfParse result (IsParseError (log_format spec.now (query_of query.now)) waits (L.folder logs.new) spec.now moment (query_of query.now) spans.now) }
     ensures took { IfOk result (λ ran. waits ≡ true → Told (L.folder logs.new) (λ folder. AreKept (lines_in (log_format spec.now (query_of query.now))) true spans.now folder
         → ran.took ≡ map (took_of (lines_in (log_format spec.now (query_of query.now))) folder) spans.now)) }
-    ensures input { input.new ≡ input.old }
     ensures given { L.given logs.new ≤ L.given logs.old + spans_size spans.now }
     ensures later_logs { L.faults logs.old ≤ L.faults logs.new }
     ensures logs { IsErrOf result RunFault.LogsFault → Rose (L.faults logs.old) (L.faults logs.new) }

@@ -17,7 +17,7 @@ mod sampled;
 mod tabled;
 mod texts;
 
-pub use built::{all_built, is_run_built};
+pub use built::{all_built, is_run_built, reads_stdin};
 pub use executing::execute;
 pub use fault::{Ran, RunFault};
 pub use formats::{LogFormat, input_of, log_format};

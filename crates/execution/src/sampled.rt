@@ -1,10 +1,10 @@
 // A query over logs whose columns they tell.
 ghost use Rattle.std.specs.Prelude.{◌≡◌, ◌≤◌, ◌+◌, true, length, map, IfOk, OnErr, IsErrOf};
-ghost use Rattle.lp_model.specs.Outside.{Rose, OnlyGrow, Told, bytes_in};
+ghost use Rattle.lp_model.specs.Outside.{Rose, OnlyGrow, Told};
 ghost use Rattle.delimited_input.specs.Lines.{delimited_lines};
 ghost use Rattle.delimited_input.specs.Separators.{IsRefused};
 ghost use Rattle.log_reading.specs.Page.{IsWithin};
-ghost use Rattle.log_reading.specs.Spans.{AllSpans, AreKept, IsSpan, spans_size, took_of};
+ghost use Rattle.log_reading.specs.Spans.{AllSpans, AreReadable, AreKept, IsSpan, spans_size, took_of};
 ghost use Rattle.any_format.specs.Wanted.{wanted_text};
 ghost use Rattle.text_output.specs.Output.{kind_of};
 ghost use Rattle.row_output.specs.Rows.{Holds, Stops};
@@ -23,15 +23,15 @@ use any_format::Wanted;
 use checkpoint::Spans;
 use command_words::Spec;
 use delimited_input::DelimitedOptions;
-use log_reading::TookList;
-use lp_outside::{Logs, Stage};
+use log_reading::{LogSource, TookList};
+use lp_outside::Stage;
 use query_tree::Query;
 use row_output::Into;
 use sampled_run::{Moment, SampleFault, run_sampled};
 use std::alloc::Global;
 
 /// Runs a query over spans of logs whose fields a byte parts, and whose columns they tell.
-pub(crate) fn execute_sampled<L: Logs, G: Stage>(
+pub(crate) fn execute_sampled<L: LogSource, G: Stage>(
     alloc: Global,
     spec: &Spec,
     options: DelimitedOptions,
@@ -51,8 +51,9 @@ pub(crate) fn execute_sampled<L: Logs, G: Stage>(
     requires none { IsUnplaced into }
     requires few { length spans.now ≤ 100000 }
     requires spans { AllSpans spans.now IsSpan }
-    requires there { Told (L.folder logs.old) (λ folder. AllSpans spans.now (λ span. span.listed ≤ length (bytes_in folder span.name))) }
+    requires readable { AreReadable L.folder L.ready logs.old spans.now }
     ensures grows { OnlyGrow (L.folder logs.old) (L.folder logs.new) }
+    ensures goes_logs { L.goes logs.old logs.new }
     ensures ran { IfOk result (λ ran. IsExecuted (F.Sampled options limit) waits (L.folder logs.new) (λ asked rows. Holds (kind_of G.state G.ended) asked stage.old rows ran.outputs stage.new) (asked_by (files_for into) (wanted_text wanted moment.seconds) (query_of query.now)) spec.now moment.seconds (query_of query.now) spans.now ran.counts) }
     ensures within { IfOk result (λ ran. IsWithin spec.now.errors ran.counts.bad) }
     ensures stopped { OnErr result (IsStopped (F.Sampled options limit) waits (L.folder logs.new) (stage.new ≡ stage.old) (λ asked rows. Stops (kind_of G.state G.ended) asked stage.old rows stage.new) (asked_by (files_for into) (wanted_text wanted moment.seconds) (query_of query.now)) spec.now moment.seconds (query_of query.now) spans.now) }

@@ -1,8 +1,8 @@
 // A query over logs of a format that has a table.
 ghost use Rattle.std.specs.Prelude.{◌≡◌, ◌≤◌, ◌+◌, true, length, map, IfOk, OnErr, IsErrOf};
-ghost use Rattle.lp_model.specs.Outside.{Rose, OnlyGrow, Told, bytes_in};
+ghost use Rattle.lp_model.specs.Outside.{Rose, OnlyGrow, Told};
 ghost use Rattle.log_reading.specs.Page.{IsWithin};
-ghost use Rattle.log_reading.specs.Spans.{AllSpans, AreKept, IsSpan, spans_size, took_of};
+ghost use Rattle.log_reading.specs.Spans.{AllSpans, AreReadable, AreKept, IsSpan, spans_size, took_of};
 ghost use Rattle.any_format.specs.Wanted.{wanted_text};
 ghost use Rattle.text_output.specs.Output.{kind_of};
 ghost use Rattle.row_output.specs.Rows.{Holds, Stops};
@@ -23,8 +23,8 @@ use any_format::Wanted;
 use checkpoint::Spans;
 use command_words::Spec;
 use input_tables::TableFormat;
-use log_reading::TookList;
-use lp_outside::{Logs, Stage};
+use log_reading::{LogSource, TookList};
+use lp_outside::Stage;
 use plan_run::run_plan;
 use query_run::WriteFault;
 use query_tree::Query;
@@ -44,7 +44,7 @@ fn unplanned(fault: TypeFault) -> RunFault
 }
 
 /// Runs a query over spans of logs that are read in a format with a table.
-pub(crate) fn execute_tabled<L: Logs, G: Stage>(
+pub(crate) fn execute_tabled<L: LogSource, G: Stage>(
     alloc: Global,
     spec: &Spec,
     format: TableFormat,
@@ -62,8 +62,9 @@ pub(crate) fn execute_tabled<L: Logs, G: Stage>(
     requires none { IsUnplaced into }
     requires few { length spans.now ≤ 100000 }
     requires spans { AllSpans spans.now IsSpan }
-    requires there { Told (L.folder logs.old) (λ folder. AllSpans spans.now (λ span. span.listed ≤ length (bytes_in folder span.name))) }
+    requires readable { AreReadable L.folder L.ready logs.old spans.now }
     ensures grows { OnlyGrow (L.folder logs.old) (L.folder logs.new) }
+    ensures goes_logs { L.goes logs.old logs.new }
     ensures ran { IfOk result (λ ran. IsExecuted (F.Tabled format) waits (L.folder logs.new) (λ asked rows. Holds (kind_of G.state G.ended) asked stage.old rows ran.outputs stage.new) (asked_by (files_for into) (wanted_text wanted moment.seconds) (query_of query.now)) spec.now moment.seconds (query_of query.now) spans.now ran.counts) }
     ensures within { IfOk result (λ ran. IsWithin spec.now.errors ran.counts.bad) }
     ensures stopped { OnErr result (IsStopped (F.Tabled format) waits (L.folder logs.new) (stage.new ≡ stage.old) (λ asked rows. Stops (kind_of G.state G.ended) asked stage.old rows stage.new) (asked_by (files_for into) (wanted_text wanted moment.seconds) (query_of query.now)) spec.now moment.seconds (query_of query.now) spans.now) }

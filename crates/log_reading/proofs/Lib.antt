@@ -1,7 +1,9 @@
 pub mod Founds
+pub mod Parts
 pub mod Advancing
 pub mod Spanning
 pub mod SpansTaken
+pub mod Readable
 pub mod Starting
 pub mod Ending
 pub mod LastEnd

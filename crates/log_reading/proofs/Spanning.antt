@@ -3,15 +3,16 @@ use Rattle.std.proofs.Common.{◌≡◌, ℕ, ◌+◌, ◌≤◌, Bool, true, Li
 use Rattle.std.proofs.lemmas.List.{length-map, append-nil, map-append}
 use Rattle.std.specs.List.{position_or_len}
 use Rattle.lp_model.specs.Lines.{Line, is_lf, lines_to_come}
-use Rattle.lp_model.specs.Outside.{Folder, OnlyGrow, Told, bytes_in}
-use Rattle.lp_model.specs.Pieces.{IsPiece, rest_of}
+use Rattle.lp_model.specs.Outside.{Folder, OnlyGrow, Told}
+use Rattle.lp_model.specs.Pieces.{rest_of}
+use Rattle.log_reading.specs.Parts.{IsPart, IsReadUp}
 use Rattle.lp_model.specs.Reading.{Format, Standing, Record, records_of, bad_lines_of, lines_before, lines_between, standing_behind, standing_at}
 use Rattle.lp_model.specs.Following.{records_following, bad_following, end_of}
 use Rattle.lp_model.proofs.Carrying.{standing_carried}
 use Rattle.lp_model.proofs.Following.{records_of-following, bad_lines_of-following}
 use Rattle.lp_model.proofs.Growing.{OnlyGrow-refl}
 use Rattle.lp_model.proofs.Ordered.{come_same, lines_between_end}
-use Rattle.lp_model.proofs.Pieces.{IsPiece-grown, IsPiece-more, IsPiece-none, rest_begins, rest_none}
+use Rattle.log_reading.proofs.Parts.{IsPart-grown, IsPart-more, IsPart-none, part_begins}
 use Rattle.log_reading.specs.Found.{Met, met_of, log_ended}
 use Rattle.log_reading.specs.declared.span.Span.{Span}
 use Rattle.log_reading.specs.declared.span.Took.{Took}
@@ -22,13 +23,13 @@ use Rattle.log_reading.proofs.Advancing.{TakesMore, StopsHere, StopsLater, Stops
 use Rattle.log_reading.proofs.Ending.{standing_at_cut}
 use Rattle.log_reading.proofs.LastEnd.{span_ends}
 
-abbrev end_at : {T : Type 0} → Page T → ℕ
+abbrev pub end_at : {T : Type 0} → Page T → ℕ
 end_at page = page.splitter.place + length page.splitter.left
 
 pub has_read_none : {T O : Type 0} (takes : Takes T O) (format : Format) (identity : List ℕ) (waits : Bool) (told : Option Folder) (name : List ℕ) (cut : ℕ) (page : Page T) (w : O)
-    → takes page.taker w [] page.taker w → page.splitter.place + length page.splitter.left ≤ cut → Told told (λ folder. cut ≤ length (bytes_in folder name)) → HasRead takes format identity waits told name cut page page w w
-has_read_none takes format identity waits told name cut page w nothing le there =
-    record { bytes = []; piece = IsPiece-none told name (end_at page) cut le there; end = omega arith; advances = advances_none takes format identity waits page w nothing }
+    → takes page.taker w [] page.taker w → page.splitter.place + length page.splitter.left ≤ cut → HasRead takes format identity waits told name cut page page w w
+has_read_none takes format identity waits told name cut page w nothing le =
+    record { bytes = []; piece = IsPart-none told name (end_at page) cut le; end = omega arith; advances = advances_none takes format identity waits page w nothing }
 
 pub has_read_trans : {T O : Type 0} (takes : Takes T O) (more : TakesMore takes) (format : Format) (identity : List ℕ) (waits : Bool) (first second : Option Folder) (name : List ℕ) (cut : ℕ) (a b c : Page T) (u v w : O)
     → OnlyGrow first second → HasRead takes format identity waits first name cut a b u v → HasRead takes format identity waits second name cut b c v w → HasRead takes format identity waits second name cut a c u w
@@ -38,19 +39,19 @@ has_read_trans takes more format identity waits first second name cut a b c u v 
     let size : length (f.bytes ++ s.bytes) ≡ length f.bytes + length s.bytes = length-append f.bytes s.bytes in
     record {
       bytes = f.bytes ++ s.bytes;
-      piece = IsPiece-more second name (end_at a) (end_at b) cut f.bytes s.bytes f_end (IsPiece-grown first second name (end_at a) cut f.bytes grows f.piece) s.piece;
+      piece = IsPart-more second name (end_at a) (end_at b) cut f.bytes s.bytes f_end (IsPart-grown first second name (end_at a) cut f.bytes grows f.piece) s.piece;
       end = omega arith;
       advances = advances_trans takes more format identity waits f.bytes s.bytes a b c u v w f.advances s.advances;
     }
 
 -- it stopped within a piece that was read
 pub stops_in_piece : {T O : Type 0} (stops : Stops T O) (format : Format) (identity : List ℕ) (waits : Bool) (told : Option Folder) (name : List ℕ) (cut : ℕ) (old z : Page T) (bytes : List ℕ) (u w : O)
-    → IsPiece told name (old.splitter.place + length old.splitter.left) cut bytes → StopsWithin stops format identity waits bytes old z u w → StopsReading stops format identity waits told name cut old z u w
+    → IsPart told name (old.splitter.place + length old.splitter.left) cut bytes → StopsWithin stops format identity waits bytes old z u w → StopsReading stops format identity waits told name cut old z u w
 stops_in_piece stops format identity waits None name cut old z bytes u w piece s = record { within = tt }
 stops_in_piece {T = T} stops format identity waits (Some x) name cut old z bytes u w piece s = record {
   within =
       let Of : List ℕ → Type 0 = λ rest. StopsIn stops format identity (to_come waits old rest) old z u w in
-      subst Of (sym (rest_begins x name (end_at old) (end_at old + length bytes) cut bytes refl piece)) (s.within (rest_of x name (end_at old + length bytes) cut));
+      subst Of (sym (part_begins x name (end_at old) (end_at old + length bytes) cut bytes refl piece)) (s.within (rest_of x name (end_at old + length bytes) cut));
 }
 
 -- it stopped with nothing taken
@@ -64,29 +65,29 @@ pub stops_behind : {T O : Type 0} (takes : Takes T O) (stops : Stops T O) (later
     → OnlyGrow first second → HasRead takes format identity waits first name cut a b u v → StopsReading stops format identity waits second name cut b z v w → StopsReading stops format identity waits second name cut a z u w
 stops_behind takes stops later format identity waits first None name cut a b z u v w grows f s = record { within = tt }
 stops_behind {T = T} takes stops later format identity waits first (Some x) name cut a b z u v w grows f s =
-    let piece = IsPiece-grown first (Some x) name (end_at a) cut f.bytes grows f.piece in
+    let piece = IsPart-grown first (Some x) name (end_at a) cut f.bytes grows f.piece in
     let rest = rest_of x name (end_at b) cut in
     let Of : List Line → Type 0 = λ lines. StopsIn stops format identity lines a z u w in
-    let lines : log_to_come waits a x name cut ≡ f.advances.lines ++ to_come waits b rest = ap (to_come waits a) (rest_begins x name (end_at a) (end_at b) cut f.bytes f.end piece) ∙ f.advances.taken rest in
+    let lines : log_to_come waits a x name cut ≡ f.advances.lines ++ to_come waits b rest = ap (to_come waits a) (part_begins x name (end_at a) (end_at b) cut f.bytes f.end piece) ∙ f.advances.taken rest in
     record { within = subst Of (sym lines) (stops_trans takes stops later format identity f.advances.lines (to_come waits b rest) a b z u v w f.advances.follows s.within) }
 
 -- a log was read up to its cut, and what stood behind the last LF was taken
 pub follows_whole : {T O : Type 0} (takes : Takes T O) (more : TakesMore takes) (format : Format) (identity : List ℕ) (waits : Bool) (told : Option Folder) (x : Folder) (name : List ℕ) (cut : ℕ) (a b c : Page T) (u v w : O) → told ≡ Some x
-    → HasRead takes format identity waits told name cut a b u v → b.splitter.place + length b.splitter.left ≡ cut → Follows takes format identity (to_come waits b []) b c v w → Follows takes format identity (log_to_come waits a x name cut) a c u w
+    → HasRead takes format identity waits told name cut a b u v → IsReadUp told name (end_at b) cut → Follows takes format identity (to_come waits b []) b c v w → Follows takes format identity (log_to_come waits a x name cut) a c u w
 follows_whole {T = T} takes more format identity waits told x name cut a b c u v w is f whole s =
-    let Piece : Option Folder → Type 0 = λ t. IsPiece t name (end_at a) cut f.bytes in
-    let piece : IsPiece (Some x) name (end_at a) cut f.bytes = subst Piece is f.piece in
-    let none : rest_of x name (end_at b) cut ≡ [] = rest_none x name (end_at b) cut (omega arith) in
+    let Piece : Option Folder → Type 0 = λ t. IsPart t name (end_at a) cut f.bytes in
+    let piece : IsPart (Some x) name (end_at a) cut f.bytes = subst Piece is f.piece in
+    let none : rest_of x name (end_at b) cut ≡ [] = subst (λ (t : Option Folder). IsReadUp t name (end_at b) cut) is whole in
     let Of : List Line → Type 0 = λ lines. Follows takes format identity lines a c u w in
     let lines : log_to_come waits a x name cut ≡ f.advances.lines ++ to_come waits b [] =
-    ap (to_come waits a) (rest_begins x name (end_at a) (end_at b) cut f.bytes f.end piece) ∙ (f.advances.taken (rest_of x name (end_at b) cut) ∙ ap (λ t. f.advances.lines ++ to_come waits b t) none) in
+    ap (to_come waits a) (part_begins x name (end_at a) (end_at b) cut f.bytes f.end piece) ∙ (f.advances.taken (rest_of x name (end_at b) cut) ∙ ap (λ t. f.advances.lines ++ to_come waits b t) none) in
     subst Of (sym lines) (follows_trans takes more format identity f.advances.lines (to_come waits b []) a b c u v w f.advances.follows s)
 
 pub stops_at_end : {T O : Type 0} (takes : Takes T O) (stops : Stops T O) (later : StopsLater takes stops) (format : Format) (identity : List ℕ) (waits : Bool) (told : Option Folder) (name : List ℕ) (cut : ℕ) (a b z : Page T) (u v w : O)
-    → HasRead takes format identity waits told name cut a b u v → b.splitter.place + length b.splitter.left ≡ cut → StopsIn stops format identity (to_come waits b []) b z v w → StopsReading stops format identity waits told name cut a z u w
+    → HasRead takes format identity waits told name cut a b u v → IsReadUp told name (end_at b) cut → StopsIn stops format identity (to_come waits b []) b z v w → StopsReading stops format identity waits told name cut a z u w
 stops_at_end takes stops later format identity waits None name cut a b z u v w f whole s = record { within = tt }
 stops_at_end {T = T} takes stops later format identity waits (Some x) name cut a b z u v w f whole s =
-    let none : rest_of x name (end_at b) cut ≡ [] = rest_none x name (end_at b) cut (omega arith) in
+    let none : rest_of x name (end_at b) cut ≡ [] = whole in
     let Of : List ℕ → Type 0 = λ rest. StopsIn stops format identity (to_come waits b rest) b z v w in
     stops_behind takes stops later format identity waits (Some x) (Some x) name cut a b z u v w (OnlyGrow-refl (Some x)) f (record { within = subst Of (sym none) s })
 
@@ -146,7 +147,7 @@ span_stopped {T = T} stops format waits x span old first z u w start taker stopp
 
 -- the same, as the object tells
 pub told_taken : {T O : Type 0} (takes : Takes T O) (more : TakesMore takes) (format : Format) (waits : Bool) (told : Option Folder) (span : Span) (old first read new : Page T) (u v w : O) → IsStart span first → first.taker ≡ old.taker → first.rows ≡ old.rows → first.bad ≡ old.bad
-    → HasRead takes format span.identity waits told span.name span.listed first read u v → read.splitter.place + length read.splitter.left ≡ span.listed → Follows takes format span.identity (to_come waits read []) read new v w
+    → HasRead takes format span.identity waits told span.name span.listed first read u v → IsReadUp told span.name (end_at read) span.listed → Follows takes format span.identity (to_come waits read []) read new v w
     → Told told (λ folder. IsKept format waits (cut_of folder span) span → TakesRows takes format waits folder span old new u w)
 told_taken takes more format waits None span old first read new u v w start taker rows bad f whole s = tt
 told_taken takes more format waits (Some x) span old first read new u v w start taker rows bad f whole s =
@@ -168,7 +169,7 @@ told_at_once {T = T} takes stops here format waits (Some x) span old new w same 
 
 -- how the page stands at a span's end, where lines wait
 ends_span : {T O : Type 0} (takes : Takes T O) (format : Format) (x : Folder) (span : Span) (first read new : Page T) (u v w : O) → IsStart span first
-    → HasRead takes format span.identity true (Some x) span.name span.listed first read u v → read.splitter.place + length read.splitter.left ≡ span.listed → length read.splitter.left ≤ position_or_len is_lf read.splitter.left
+    → HasRead takes format span.identity true (Some x) span.name span.listed first read u v → IsReadUp (Some x) span.name (end_at read) span.listed → length read.splitter.left ≤ position_or_len is_lf read.splitter.left
     → new.splitter ≡ read.splitter → Follows takes format span.identity (log_to_come true first x span.name span.listed) first new u w → IsKept format true (cut_of x span) span → EndsSpan format x span new
 ends_span takes format x span first read new u v w start f whole last same follows kept =
     let bytes = cut_of x span in
@@ -176,9 +177,9 @@ ends_span takes format x span first read new u v w start f whole last same follo
     let behind = follows.behind history (start.standing ∙ kept.standing) in
     let all : log_to_come true first x span.name span.listed ≡ lines_between bytes true span.from (length bytes) = span_lines true x span first format start kept ∙ sym (lines_between_end bytes true span.from kept.at_end) in
     let end : end_of span.from (lines_between bytes true span.from (length bytes)) ≡ span_end x span = span_ends x span kept.at_end in
-    let none : rest_of x span.name (end_at read) span.listed ≡ [] = rest_none x span.name (end_at read) span.listed (omega arith) in
+    let none : rest_of x span.name (end_at read) span.listed ≡ [] = whole in
     let lines : log_to_come true first x span.name span.listed ≡ f.advances.lines =
-    ap (to_come true first) (rest_begins x span.name (end_at first) (end_at read) span.listed f.bytes f.end f.piece)
+    ap (to_come true first) (part_begins x span.name (end_at first) (end_at read) span.listed f.bytes f.end f.piece)
     ∙ (f.advances.taken (rest_of x span.name (end_at read) span.listed) ∙ (ap (λ t. f.advances.lines ++ to_come true read t) none ∙ (ap (λ t. f.advances.lines ++ t) (to_come-waiting read last) ∙ append-nil f.advances.lines))) in
     record {
       place = ap (λ s. s.place) same ∙ (f.advances.place ∙ (ap (λ p. end_of p f.advances.lines) start.place ∙ (ap (end_of span.from) (sym lines ∙ all) ∙ end)));
@@ -186,7 +187,7 @@ ends_span takes format x span first read new u v w start f whole last same follo
     }
 
 pub told_ends : {T O : Type 0} (takes : Takes T O) (more : TakesMore takes) (format : Format) (told : Option Folder) (span : Span) (first read new : Page T) (u v w : O) → IsStart span first
-    → HasRead takes format span.identity true told span.name span.listed first read u v → read.splitter.place + length read.splitter.left ≡ span.listed → length read.splitter.left ≤ position_or_len is_lf read.splitter.left
+    → HasRead takes format span.identity true told span.name span.listed first read u v → IsReadUp told span.name (end_at read) span.listed → length read.splitter.left ≤ position_or_len is_lf read.splitter.left
     → new.splitter ≡ read.splitter → Follows takes format span.identity (to_come true read []) read new v w
     → Told told (λ folder. IsKept format true (cut_of folder span) span → EndsSpan format folder span new)
 told_ends takes more format None span first read new u v w start f whole last same s = tt
@@ -241,12 +242,12 @@ told_took format (Some x) span page a b noted ends = λ kept.
 
 -- a bad line was one too many within a piece that was read
 pub exceeds_in_piece : {T : Type 0} (format : Format) (waits : Bool) (told : Option Folder) (name : List ℕ) (cut : ℕ) (old : Page T) (bytes : List ℕ) (row : ℕ)
-    → IsPiece told name (old.splitter.place + length old.splitter.left) cut bytes → ExceedsWithin format waits bytes old row → ExceedsReading format waits told name cut old row
+    → IsPart told name (old.splitter.place + length old.splitter.left) cut bytes → ExceedsWithin format waits bytes old row → ExceedsReading format waits told name cut old row
 exceeds_in_piece format waits None name cut old bytes row piece s = record { within = tt }
 exceeds_in_piece {T = T} format waits (Some x) name cut old bytes row piece s = record {
   within =
       let Of : List ℕ → Type 0 = λ rest. ExceedsIn format (to_come waits old rest) old row in
-      subst Of (sym (rest_begins x name (end_at old) (end_at old + length bytes) cut bytes refl piece)) (s.within (rest_of x name (end_at old + length bytes) cut));
+      subst Of (sym (part_begins x name (end_at old) (end_at old + length bytes) cut bytes refl piece)) (s.within (rest_of x name (end_at old + length bytes) cut));
 }
 
 -- behind a part that was read
@@ -254,18 +255,18 @@ pub exceeds_behind : {T O : Type 0} (takes : Takes T O) (format : Format) (ident
     → OnlyGrow first second → b.most_bad ≡ a.most_bad → HasRead takes format identity waits first name cut a b u v → ExceedsReading format waits second name cut b row → ExceedsReading format waits second name cut a row
 exceeds_behind takes format identity waits first None name cut a b u v row grows most f s = record { within = tt }
 exceeds_behind {T = T} takes format identity waits first (Some x) name cut a b u v row grows most f s =
-    let piece = IsPiece-grown first (Some x) name (end_at a) cut f.bytes grows f.piece in
+    let piece = IsPart-grown first (Some x) name (end_at a) cut f.bytes grows f.piece in
     let rest = rest_of x name (end_at b) cut in
     let Of : List Line → Type 0 = λ lines. ExceedsIn format lines a row in
-    let lines : log_to_come waits a x name cut ≡ f.advances.lines ++ to_come waits b rest = ap (to_come waits a) (rest_begins x name (end_at a) (end_at b) cut f.bytes f.end piece) ∙ f.advances.taken rest in
+    let lines : log_to_come waits a x name cut ≡ f.advances.lines ++ to_come waits b rest = ap (to_come waits a) (part_begins x name (end_at a) (end_at b) cut f.bytes f.end piece) ∙ f.advances.taken rest in
     record { within = subst Of (sym lines) (exceeds_trans takes format identity f.advances.lines (to_come waits b rest) a b u v row most f.advances.follows s.within) }
 
 -- in what stood behind the last LF
 pub exceeds_at_end : {T O : Type 0} (takes : Takes T O) (format : Format) (identity : List ℕ) (waits : Bool) (told : Option Folder) (name : List ℕ) (cut : ℕ) (a b : Page T) (u v : O) (row : ℕ)
-    → b.most_bad ≡ a.most_bad → HasRead takes format identity waits told name cut a b u v → b.splitter.place + length b.splitter.left ≡ cut → ExceedsIn format (to_come waits b []) b row → ExceedsReading format waits told name cut a row
+    → b.most_bad ≡ a.most_bad → HasRead takes format identity waits told name cut a b u v → IsReadUp told name (end_at b) cut → ExceedsIn format (to_come waits b []) b row → ExceedsReading format waits told name cut a row
 exceeds_at_end takes format identity waits None name cut a b u v row most f whole s = record { within = tt }
 exceeds_at_end {T = T} takes format identity waits (Some x) name cut a b u v row most f whole s =
-    let none : rest_of x name (end_at b) cut ≡ [] = rest_none x name (end_at b) cut (omega arith) in
+    let none : rest_of x name (end_at b) cut ≡ [] = whole in
     let Of : List ℕ → Type 0 = λ rest. ExceedsIn format (to_come waits b rest) b row in
     exceeds_behind takes format identity waits (Some x) (Some x) name cut a b u v row (OnlyGrow-refl (Some x)) most f (record { within = subst Of (sym none) s })
 
@@ -305,7 +306,7 @@ told_exceeded format waits (Some x) span old first line start bad most named s =
 
 -- how a log stands where the span ends
 pub told_standing : {T O : Type 0} (takes : Takes T O) (more : TakesMore takes) (format : Format) (waits : Bool) (told : Option Folder) (span : Span) (first read new : Page T) (u v w : O) → IsStart span first
-    → HasRead takes format span.identity waits told span.name span.listed first read u v → read.splitter.place + length read.splitter.left ≡ span.listed → Follows takes format span.identity (to_come waits read []) read new v w
+    → HasRead takes format span.identity waits told span.name span.listed first read u v → IsReadUp told span.name (end_at read) span.listed → Follows takes format span.identity (to_come waits read []) read new v w
     → Told told (λ folder. IsKept format waits (cut_of folder span) span → new.standing ≡ standing_at format (cut_of folder span) waits (length (cut_of folder span)))
 told_standing takes more format waits None span first read new u v w start f whole s = tt
 told_standing takes more format waits (Some x) span first read new u v w start f whole s = λ kept.

@@ -44,6 +44,17 @@ front_all spans P i fits all = λ k s lt is.
     let size : length (take i spans) ≡ i = length-take-le i spans fits in
     all k s (omega arith) (is ∙ get_or-take i spans k s (omega arith))
 
+pub front_less : (spans : List Span) (P : Span → Type 0) (i : ℕ) → i < length spans → AllSpans (take (i + 1) spans) P → AllSpans (take i spans) P
+front_less spans P i less all = λ k s lt is.
+    let size : length (take i spans) ≡ i = length-take-le i spans (omega arith) in
+    let more : length (take (i + 1) spans) ≡ i + 1 = length-take-le (i + 1) spans (omega arith) in
+    all k s (omega arith) (is ∙ (get_or-take i spans k s (omega arith) ∙ sym (get_or-take (i + 1) spans k s (omega arith))))
+
+pub last_all : (spans : List Span) (P : Span → Type 0) (i : ℕ) (span : Span) → i < length spans → span ≡ get_or spans i span → AllSpans (take (i + 1) spans) P → P span
+last_all spans P i span less is all =
+    let more : length (take (i + 1) spans) ≡ i + 1 = length-take-le (i + 1) spans (omega arith) in
+    all i span (omega arith) (is ∙ sym (get_or-take (i + 1) spans i span (omega arith)))
+
 pub there_all : (a b : Option Folder) (spans : List Span) → OnlyGrow a b → Told a (λ folder. AllSpans spans (λ s. s.listed ≤ length (bytes_in folder s.name))) → Told b (λ folder. AllSpans spans (λ s. s.listed ≤ length (bytes_in folder s.name)))
 there_all None None spans h t = tt
 there_all None (Some y) spans h t = let e : Some y ≡ None = h in cc
@@ -80,18 +91,18 @@ flat_one f spans i span lt is =
 
 -- one span more was taken
 pub spans_more : {T O : Type 0} (takes : Takes T O) (more : TakesMore takes) (format : Format) (waits : Bool) (first second : Option Folder) (spans : List Span) (i : ℕ) (span : Span) (a b c : Page T) (u v w : O) → i < length spans → span ≡ get_or spans i span
-    → OnlyGrow first second → Told first (λ folder. AllSpans spans (λ s. s.listed ≤ length (bytes_in folder s.name)))
-    → Told first (λ folder. AreKept format waits spans folder → TakesSpans takes format waits folder (take i spans) a b u v)
+    → OnlyGrow first second → Told first (λ folder. AllSpans (take i spans) (λ s. s.listed ≤ length (bytes_in folder s.name)))
+    → Told first (λ folder. AreKept format waits (take i spans) folder → TakesSpans takes format waits folder (take i spans) a b u v)
     → Told second (λ folder. IsKept format waits (cut_of folder span) span → TakesSpan takes format waits folder span b c v w)
-    → Told second (λ folder. AreKept format waits spans folder → TakesSpans takes format waits folder (take (i + 1) spans) a c u w)
+    → Told second (λ folder. AreKept format waits (take (i + 1) spans) folder → TakesSpans takes format waits folder (take (i + 1) spans) a c u w)
 spans_more takes more format waits None None spans i span a b c u v w lt is grows there f s = tt
 spans_more takes more format waits None (Some y) spans i span a b c u v w lt is grows there f s = let e : Some y ≡ None = grows in cc
 spans_more takes more format waits (Some x) None spans i span a b c u v w lt is grows there f s = tt
 spans_more takes more format waits (Some x) (Some y) spans i span a b c u v w lt is grows there f s = λ kept.
-    let same = cuts_stay x y spans grows there in
-    let so_far = f (λ k s lt' is'. kept_along format waits x y s (same k s lt' is') (kept k s lt' is')) in
-    let here = s (kept i span lt is) in
-    let front = front_all spans (λ s. cut_of y s ≡ cut_of x s) i (omega arith) same in
+    let front = cuts_stay x y (take i spans) grows there in
+    let kept_front = front_less spans (λ s. IsKept format waits (cut_of y s) s) i lt kept in
+    let so_far = f (λ k s lt' is'. kept_along format waits x y s (front k s lt' is') (kept_front k s lt' is')) in
+    let here = s (last_all spans (λ s. IsKept format waits (cut_of y s) s) i span lt is kept) in
     let founds : spans_found format waits y (take i spans) ≡ spans_found format waits x (take i spans) =
     flat_map-same (span_found format waits y) (span_found format waits x) (take i spans) (λ k s lt' is'. found_along format waits x y s (front k s lt' is')) in
     let bads : spans_bad format waits y (take i spans) ≡ spans_bad format waits x (take i spans) =
@@ -115,18 +126,18 @@ spans_more takes more format waits (Some x) (Some y) spans i span a b c u v w lt
 
 -- it stopped within a span
 pub spans_stopped : {T O : Type 0} (takes : Takes T O) (stops : Stops T O) (later : StopsLater takes stops) (more : StopsMore stops) (format : Format) (waits : Bool) (first second : Option Folder) (spans : List Span) (i : ℕ) (span : Span) (a b z : Page T) (u v w : O) → i < length spans → span ≡ get_or spans i span
-    → OnlyGrow first second → Told first (λ folder. AllSpans spans (λ s. s.listed ≤ length (bytes_in folder s.name)))
-    → Told first (λ folder. AreKept format waits spans folder → TakesSpans takes format waits folder (take i spans) a b u v)
+    → OnlyGrow first second → Told first (λ folder. AllSpans (take i spans) (λ s. s.listed ≤ length (bytes_in folder s.name)))
+    → Told first (λ folder. AreKept format waits (take i spans) folder → TakesSpans takes format waits folder (take i spans) a b u v)
     → Told second (λ folder. IsKept format waits (cut_of folder span) span → stops b.taker v (span_met format waits folder span) z.taker w)
     → Told second (λ folder. AreKept format waits spans folder → stops a.taker u (spans_met format waits folder spans) z.taker w)
 spans_stopped takes stops later more format waits None None spans i span a b z u v w lt is grows there f s = tt
 spans_stopped takes stops later more format waits None (Some y) spans i span a b z u v w lt is grows there f s = let e : Some y ≡ None = grows in cc
 spans_stopped takes stops later more format waits (Some x) None spans i span a b z u v w lt is grows there f s = tt
 spans_stopped takes stops later more format waits (Some x) (Some y) spans i span a b z u v w lt is grows there f s = λ kept.
-    let same = cuts_stay x y spans grows there in
-    let so_far = f (λ k s lt' is'. kept_along format waits x y s (same k s lt' is') (kept k s lt' is')) in
+    let front = cuts_stay x y (take i spans) grows there in
+    let kept_front = front_all spans (λ s. IsKept format waits (cut_of y s) s) i (omega arith) kept in
+    let so_far = f (λ k s lt' is'. kept_along format waits x y s (front k s lt' is') (kept_front k s lt' is')) in
     let here = s (kept i span lt is) in
-    let front = front_all spans (λ s. cut_of y s ≡ cut_of x s) i (omega arith) same in
     let founds : spans_met format waits y (take i spans) ≡ spans_met format waits x (take i spans) =
     flat_map-same (span_met format waits y) (span_met format waits x) (take i spans) (λ k s lt' is'. met_along format waits x y s (front k s lt' is')) in
     let found_one : spans_met format waits y (take (i + 1) spans) ≡ spans_met format waits y (take i spans) ++ span_met format waits y span = flat_one (span_met format waits y) spans i span lt is in
@@ -149,18 +160,18 @@ bad_lines_length format waits folder (span ∷ spans) =
 
 -- a bad line of a span was one too many
 pub spans_exceeded : {T O : Type 0} (takes : Takes T O) (format : Format) (waits : Bool) (first second : Option Folder) (spans : List Span) (i : ℕ) (span : Span) (a b : Page T) (u v : O) (line : BadLine) → i < length spans → span ≡ get_or spans i span
-    → OnlyGrow first second → Told first (λ folder. AllSpans spans (λ s. s.listed ≤ length (bytes_in folder s.name))) → b.most_bad ≡ a.most_bad
-    → Told first (λ folder. AreKept format waits spans folder → TakesSpans takes format waits folder (take i spans) a b u v)
+    → OnlyGrow first second → Told first (λ folder. AllSpans (take i spans) (λ s. s.listed ≤ length (bytes_in folder s.name))) → b.most_bad ≡ a.most_bad
+    → Told first (λ folder. AreKept format waits (take i spans) folder → TakesSpans takes format waits folder (take i spans) a b u v)
     → Told second (λ folder. IsKept format waits (cut_of folder span) span → IsTooMany b.most_bad b.bad (span_bad_lines format waits folder span) line)
     → Told second (λ folder. AreKept format waits spans folder → IsTooMany a.most_bad a.bad (spans_bad_lines format waits folder spans) line)
 spans_exceeded takes format waits None None spans i span a b u v line lt is grows there most f s = tt
 spans_exceeded takes format waits None (Some y) spans i span a b u v line lt is grows there most f s = let e : Some y ≡ None = grows in cc
 spans_exceeded takes format waits (Some x) None spans i span a b u v line lt is grows there most f s = tt
 spans_exceeded takes format waits (Some x) (Some y) spans i span a b u v line lt is grows there most f s = λ kept.
-    let same = cuts_stay x y spans grows there in
-    let so_far = f (λ k s lt' is'. kept_along format waits x y s (same k s lt' is') (kept k s lt' is')) in
+    let front = cuts_stay x y (take i spans) grows there in
+    let kept_front = front_all spans (λ s. IsKept format waits (cut_of y s) s) i (omega arith) kept in
+    let so_far = f (λ k s lt' is'. kept_along format waits x y s (front k s lt' is') (kept_front k s lt' is')) in
     let here = s (kept i span lt is) in
-    let front = front_all spans (λ s. cut_of y s ≡ cut_of x s) i (omega arith) same in
     let bads : spans_bad format waits y (take i spans) ≡ spans_bad format waits x (take i spans) =
     flat_map-same (span_bad format waits y) (span_bad format waits x) (take i spans) (λ k s lt' is'. bad_along format waits x y s (front k s lt' is')) in
     let size : length (spans_bad format waits y (take i spans)) ≡ length (spans_bad format waits x (take i spans)) = ap length bads in
@@ -191,18 +202,18 @@ took_none format None spans list = tt
 took_none format (Some x) spans list = λ kept. sym (append-nil list)
 
 pub took_more : (format : Format) (first second : Option Folder) (spans : List Span) (i : ℕ) (span : Span) (a b c : List Took) → i < length spans → span ≡ get_or spans i span
-    → OnlyGrow first second → Told first (λ folder. AllSpans spans (λ s. s.listed ≤ length (bytes_in folder s.name)))
-    → Told first (λ folder. AreKept format true spans folder → b ≡ a ++ map (took_of format folder) (take i spans))
+    → OnlyGrow first second → Told first (λ folder. AllSpans (take i spans) (λ s. s.listed ≤ length (bytes_in folder s.name)))
+    → Told first (λ folder. AreKept format true (take i spans) folder → b ≡ a ++ map (took_of format folder) (take i spans))
     → Told second (λ folder. IsKept format true (cut_of folder span) span → c ≡ b ++ took_of format folder span ∷ [])
-    → Told second (λ folder. AreKept format true spans folder → c ≡ a ++ map (took_of format folder) (take (i + 1) spans))
+    → Told second (λ folder. AreKept format true (take (i + 1) spans) folder → c ≡ a ++ map (took_of format folder) (take (i + 1) spans))
 took_more format None None spans i span a b c lt is grows there f s = tt
 took_more format None (Some y) spans i span a b c lt is grows there f s = let e : Some y ≡ None = grows in cc
 took_more format (Some x) None spans i span a b c lt is grows there f s = tt
 took_more format (Some x) (Some y) spans i span a b c lt is grows there f s = λ kept.
-    let same = cuts_stay x y spans grows there in
-    let so_far = f (λ k s lt' is'. kept_along format true x y s (same k s lt' is') (kept k s lt' is')) in
-    let here = s (kept i span lt is) in
-    let front = front_all spans (λ s. cut_of y s ≡ cut_of x s) i (omega arith) same in
+    let front = cuts_stay x y (take i spans) grows there in
+    let kept_front = front_less spans (λ s. IsKept format true (cut_of y s) s) i lt kept in
+    let so_far = f (λ k s lt' is'. kept_along format true x y s (front k s lt' is') (kept_front k s lt' is')) in
+    let here = s (last_all spans (λ s. IsKept format true (cut_of y s) s) i span lt is kept) in
     let list : map (took_of format y) (take i spans) ≡ map (took_of format x) (take i spans) =
     map-same (took_of format y) (took_of format x) (take i spans) (λ k s lt' is'. took_along format x y s (front k s lt' is')) in
     let one : map (took_of format y) (take (i + 1) spans) ≡ map (took_of format y) (take i spans) ++ took_of format y span ∷ [] =

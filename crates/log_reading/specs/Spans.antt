@@ -1,12 +1,13 @@
 -- Spans of logs, and what a run makes of them.
-use Rattle.std.specs.Prelude.{◌≡◌, ◌+◌, ◌-◌, ◌≤◌, ◌<◌, ◌^◌, ℕ, Bool, true, List, [], ◌∷◌, ◌++◌, length, map, max, take, reverse, flat_map, sum_by, get_or, Option, ⊤}
+use Rattle.std.specs.Prelude.{◌≡◌, ◌⊎◌, ◌+◌, ◌-◌, ◌≤◌, ◌<◌, ◌^◌, ℕ, Bool, true, List, [], ◌∷◌, ◌++◌, length, map, max, take, reverse, flat_map, sum_by, get_or, Option, ⊤}
 use Rattle.std.specs.List.{position_or_len}
 use Rattle.lp_model.specs.Lines.{Line, is_lf}
 use Rattle.lp_model.specs.Outside.{Folder, Told, bytes_in}
-use Rattle.lp_model.specs.Pieces.{IsPiece, rest_of}
+use Rattle.lp_model.specs.Pieces.{rest_of}
 use Rattle.lp_model.specs.Reading.{Format, Standing, standing_at, records_of, bad_lines_of}
 use Rattle.lp_model.specs.Following.{IsLineEnd}
 use Rattle.log_reading.specs.Found.{Found, Met, found_of, met_of, log_ended}
+use Rattle.log_reading.specs.Parts.{IsPart}
 use Rattle.log_reading.specs.declared.page.Page.{Page}
 use Rattle.log_reading.specs.declared.span.Span.{Span}
 use Rattle.log_reading.specs.declared.span.Took.{Took}
@@ -17,7 +18,7 @@ use Rattle.log_reading.specs.Page.{Takes, Stops, Advances, StopsIn, ExceedsIn, t
 -- a part of a log was read, and its lines were taken
 pub record HasRead {T O : Type 0} (takes : Takes T O) (format : Format) (identity : List ℕ) (waits : Bool) (told : Option Folder) (name : List ℕ) (cut : ℕ) (old new : Page T) (before now : O) : Type 0 where
   pub bytes : List ℕ
-  pub piece : IsPiece told name (old.splitter.place + length old.splitter.left) cut bytes
+  pub piece : IsPart told name (old.splitter.place + length old.splitter.left) cut bytes
   pub end : new.splitter.place + length new.splitter.left ≡ old.splitter.place + length old.splitter.left + length bytes
   pub advances : Advances takes format identity waits bytes old new before now
 
@@ -88,6 +89,20 @@ pub record IsSpan (span : Span) : Type 0 where
   pub start : span.from ≤ span.listed
   pub cut : span.listed ≤ 2 ^ 46
   pub lines : span.standing.lines ≤ span.from
+
+-- each log of the spans is as long as its cut, and logs can be read from any place on
+pub record AreThere {L : Type 0} (folder : L → Option Folder) (can : L → List ℕ → ℕ → Type 0) (logs : L) (spans : List Span) : Type 0 where
+  pub there : Told (folder logs) (λ files. AllSpans spans (λ span. span.listed ≤ length (bytes_in files span.name)))
+  pub ready : (later : L) (name : List ℕ) (place : ℕ) → can later name place
+
+-- there is one span at most, and its log can be read from where it begins; it may end before its cut
+pub record IsAlone {L : Type 0} (can : L → List ℕ → ℕ → Type 0) (logs : L) (spans : List Span) : Type 0 where
+  pub one : length spans ≤ 1
+  pub ready : AllSpans spans (λ span. can logs span.name span.from)
+
+-- the logs of spans can be read up to their cuts
+abbrev pub AreReadable : {L : Type 0} → (L → Option Folder) → (L → List ℕ → ℕ → Type 0) → L → List Span → Type 0
+AreReadable folder ready logs spans = AreThere folder ready logs spans ⊎ IsAlone ready logs spans
 
 -- the rows of spans, joined, and the numbers of their bad lines
 abbrev pub spans_found : Format → Bool → Folder → List Span → List Found

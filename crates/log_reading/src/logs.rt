@@ -1,18 +1,18 @@
 // A log up to its cut, to a taker.
-ghost use Rattle.std.specs.Prelude.{◌≡◌, ◌≤◌, ◌<◌, ◌^◌, ◌+◌, ◌-◌, ◌++◌, ◌∷◌, [], ℕ, List, Bool, length, take, Option, OnOk, OnErr, IfOk, IfErr, MatchResult, IsErrOf, true};
+ghost use Rattle.std.specs.Prelude.{◌≡◌, ◌≤◌, ◌<◌, ◌^◌, ◌+◌, ◌-◌, ◌++◌, ◌∷◌, [], ℕ, List, Bool, length, take, Option, OnOk, OnErr, IfOk, IfErr, MatchResult, IsErrOf, true, false};
 ghost use Rattle.std.specs.List.{position_or_len};
-ghost use Rattle.lp_model.specs.Outside.{Rose, OnlyGrow, Told, bytes_in};
+ghost use Rattle.lp_model.specs.Outside.{Rose, OnlyGrow, Told};
 ghost use Rattle.lp_model.specs.Lines.{is_lf};
 ghost use Rattle.lp_model.specs.Reading.{standing_at};
+ghost use Rattle.log_reading.specs.Parts.{IsReadUp};
 ghost use Rattle.log_reading.specs.Page.{HasRoom, Spends, Follows, StopsIn, ExceedsIn, IsTooMany, IsWithin, OnBad, to_come};
 ghost use Rattle.log_reading.specs.Found.{log_ended};
 ghost use Rattle.log_reading.specs.Spans.{HasRead, ReadsAheadInLog, ReadsAheadInSpan, StopsReading, ExceedsReading, IsKept, TakesRows, TakesSpan, EndsSpan, OnBadLine, span_rows, span_met, span_bad_lines, cut_of, took_at, took_of};
 
 use crate::lines::take_rest;
 use crate::pieces::{read_some, take_piece};
-use crate::{LineFault, Page, RunFault, Span, TakeFault, Taker, Took, TookList};
+use crate::{LineFault, LogSource, Page, RunFault, Span, TakeFault, Taker, Took, TookList};
 use line_input::{LineReader, Splitter};
-use lp_outside::Logs;
 use std::alloc::{AllocError, Global};
 
 // The bad line of a span that is one too many.
@@ -25,8 +25,8 @@ fn one_too_many(span: &Span, row: u64) -> RunFault
     }
 }
 
-// Reads a piece of a log and takes its lines.
-fn read_piece<R: LineReader, L: Logs, T: Taker<O>, O>(
+// Reads a piece of a log and takes its lines, and tells whether there was one.
+fn read_piece<R: LineReader, L: LogSource, T: Taker<O>, O>(
     alloc: Global,
     reader: &R,
     logs: &mut L,
@@ -34,21 +34,26 @@ fn read_piece<R: LineReader, L: Logs, T: Taker<O>, O>(
     chunk: &mut [u8],
     page: &mut Page<T>,
     out: &mut O,
-) -> Result<(), RunFault>
-    requires there { Told (L.folder logs.old) (λ folder. span.now.listed ≤ length (bytes_in folder span.now.name)) }
+) -> Result<bool, RunFault>
+    requires ready { L.ready logs.old span.now.name (page.old.splitter.place + length page.old.splitter.left) }
     requires cut { span.now.listed ≤ 2 ^ 46 }
     requires below { page.old.splitter.place + length page.old.splitter.left < span.now.listed }
     requires chunk { 0 < length chunk.old }
     requires room { HasRoom T.count page.old (span.now.listed - page.old.splitter.place + 1) }
     requires within { IsWithin page.old.most_bad page.old.bad }
     ensures grows { OnlyGrow (L.folder logs.old) (L.folder logs.new) }
+    ensures goes_logs { L.goes logs.old logs.new }
     ensures read { OnOk result ((waits : Bool) → HasRead T.takes (R.format reader.now) span.now.identity waits (L.folder logs.new) span.now.name span.now.listed page.old page.new out.old out.new) }
     ensures stops { OnErr result ((waits : Bool) → StopsReading T.stops (R.format reader.now) span.now.identity waits (L.folder logs.new) span.now.name span.now.listed page.old page.new out.old out.new) }
     ensures too_many { IfErr result (λ fault. OnBadLine fault (λ line. (line.log ≡ span.now.identity)
         × ((waits : Bool) → ExceedsReading (R.format reader.now) waits (L.folder logs.new) span.now.name span.now.listed page.old line.row))) }
     ensures within { OnOk result (IsWithin page.new.most_bad page.new.bad) }
     ensures most { page.new.most_bad ≡ page.old.most_bad }
-    ensures longer { OnOk result (page.old.splitter.place + length page.old.splitter.left < page.new.splitter.place + length page.new.splitter.left) }
+    ensures longer { IfOk result (λ more. more ≡ true → page.old.splitter.place + length page.old.splitter.left < page.new.splitter.place + length page.new.splitter.left) }
+    ensures further { OnOk result (page.old.splitter.place + length page.old.splitter.left ≤ page.new.splitter.place + length page.new.splitter.left) }
+    ensures same { IfOk result (λ more. more ≡ false → page.new.splitter.place + length page.new.splitter.left ≡ page.old.splitter.place + length page.old.splitter.left) }
+    ensures end { IfOk result (λ more. more ≡ false → IsReadUp (L.folder logs.new) span.now.name (page.new.splitter.place + length page.new.splitter.left) span.now.listed) }
+    ensures ready { OnOk result (L.ready logs.new span.now.name (page.new.splitter.place + length page.new.splitter.left)) }
     ensures fits { OnOk result (page.new.splitter.place + length page.new.splitter.left ≤ span.now.listed) }
     ensures last { OnOk result (length page.new.splitter.left ≤ position_or_len is_lf page.new.splitter.left) }
     ensures room { OnOk result (HasRoom T.count page.new (span.now.listed - page.new.splitter.place + 1)) }
@@ -69,7 +74,7 @@ fn read_piece<R: LineReader, L: Logs, T: Taker<O>, O>(
         Err(_) => return Err(RunFault::Logs),
     };
     match take_piece(alloc, reader, &span.identity, &chunk[..count], page, out) {
-        Ok(()) => Ok(()),
+        Ok(()) => Ok(count > 0),
         Err(LineFault::Memory) => Err(RunFault::Memory),
         Err(LineFault::Failed) => Err(RunFault::Output),
         Err(LineFault::Stopped) => Err(RunFault::Stopped),
@@ -77,8 +82,8 @@ fn read_piece<R: LineReader, L: Logs, T: Taker<O>, O>(
     }
 }
 
-// Reads a log up to its cut and takes its lines that LF ends.
-fn read_log<R: LineReader, L: Logs, T: Taker<O>, O>(
+// Reads a log up to its cut, or to its end where that comes first, and takes its lines that LF ends.
+fn read_log<R: LineReader, L: LogSource, T: Taker<O>, O>(
     alloc: Global,
     reader: &R,
     logs: &mut L,
@@ -87,7 +92,7 @@ fn read_log<R: LineReader, L: Logs, T: Taker<O>, O>(
     page: &mut Page<T>,
     out: &mut O,
 ) -> Result<(), RunFault>
-    requires there { Told (L.folder logs.old) (λ folder. span.now.listed ≤ length (bytes_in folder span.now.name)) }
+    requires ready { L.ready logs.old span.now.name page.old.splitter.place }
     requires cut { span.now.listed ≤ 2 ^ 46 }
     requires start { page.old.splitter.place ≤ span.now.listed }
     requires empty { page.old.splitter.left ≡ [] }
@@ -95,13 +100,15 @@ fn read_log<R: LineReader, L: Logs, T: Taker<O>, O>(
     requires room { HasRoom T.count page.old (span.now.listed - page.old.splitter.place + 1) }
     requires within { IsWithin page.old.most_bad page.old.bad }
     ensures grows { OnlyGrow (L.folder logs.old) (L.folder logs.new) }
+    ensures goes_logs { L.goes logs.old logs.new }
     ensures read { OnOk result ((waits : Bool) → HasRead T.takes (R.format reader.now) span.now.identity waits (L.folder logs.new) span.now.name span.now.listed page.old page.new out.old out.new) }
     ensures stops { OnErr result ((waits : Bool) → StopsReading T.stops (R.format reader.now) span.now.identity waits (L.folder logs.new) span.now.name span.now.listed page.old page.new out.old out.new) }
     ensures too_many { IfErr result (λ fault. OnBadLine fault (λ line. (line.log ≡ span.now.identity)
         × ((waits : Bool) → ExceedsReading (R.format reader.now) waits (L.folder logs.new) span.now.name span.now.listed page.old line.row))) }
     ensures within { OnOk result (IsWithin page.new.most_bad page.new.bad) }
     ensures most { page.new.most_bad ≡ page.old.most_bad }
-    ensures whole { OnOk result (page.new.splitter.place + length page.new.splitter.left ≡ span.now.listed) }
+    ensures whole { OnOk result (IsReadUp (L.folder logs.new) span.now.name (page.new.splitter.place + length page.new.splitter.left) span.now.listed) }
+    ensures below { OnOk result (page.new.splitter.place + length page.new.splitter.left ≤ span.now.listed) }
     ensures last { OnOk result (length page.new.splitter.left ≤ position_or_len is_lf page.new.splitter.left) }
     ensures room { OnOk result (HasRoom T.count page.new (span.now.listed - page.new.splitter.place + 1)) }
     ensures spends { OnOk result (Spends T.count page.old page.new (span.now.listed - page.old.splitter.place)) }
@@ -114,8 +121,9 @@ fn read_log<R: LineReader, L: Logs, T: Taker<O>, O>(
     ensures output { IsErrOf result RunFault.Output → Rose (T.faults out.old) (T.faults out.new) }
     ensures stopped { IsErrOf result RunFault.Stopped → T.stopped page.new.taker }
 {
-    'log: while page.splitter.end() < span.listed {
-        read_piece(alloc, reader, logs, span, chunk, page, out)?;
+    let mut more = true;
+    'log: while more && page.splitter.end() < span.listed {
+        more = read_piece(alloc, reader, logs, span, chunk, page, out)?;
     }
     Ok(())
 }
@@ -169,7 +177,7 @@ fn finish_log<R: LineReader, T: Taker<O>, O>(
 }
 
 // Takes the rows of a span.
-fn read_span<R: LineReader, L: Logs, T: Taker<O>, O>(
+fn read_span<R: LineReader, L: LogSource, T: Taker<O>, O>(
     alloc: Global,
     reader: &R,
     waits: bool,
@@ -179,7 +187,7 @@ fn read_span<R: LineReader, L: Logs, T: Taker<O>, O>(
     page: &mut Page<T>,
     out: &mut O,
 ) -> Result<(), RunFault>
-    requires there { Told (L.folder logs.old) (λ folder. span.now.listed ≤ length (bytes_in folder span.now.name)) }
+    requires ready { L.ready logs.old span.now.name span.now.from }
     requires cut { span.now.listed ≤ 2 ^ 46 }
     requires start { span.now.from ≤ span.now.listed }
     requires lines { span.now.standing.lines ≤ span.now.from }
@@ -189,6 +197,7 @@ fn read_span<R: LineReader, L: Logs, T: Taker<O>, O>(
     requires within { IsWithin page.old.most_bad page.old.bad }
     requires taken { T.count page.old.taker + (span.now.listed - span.now.from) + 1 < 2 ^ 63 }
     ensures grows { OnlyGrow (L.folder logs.old) (L.folder logs.new) }
+    ensures goes_logs { L.goes logs.old logs.new }
     ensures takes { OnOk result (Told (L.folder logs.new) (λ folder. IsKept (R.format reader.now) waits (cut_of folder span.now) span.now
         → TakesRows T.takes (R.format reader.now) waits folder span.now page.old page.new out.old out.new)) }
     ensures stops { OnErr result (Told (L.folder logs.new) (λ folder. IsKept (R.format reader.now) waits (cut_of folder span.now) span.now
@@ -258,7 +267,7 @@ fn end_span<T: Taker<O>, O>(
 }
 
 // Takes a span: its rows, and then the end of its log.
-fn take_span<R: LineReader, L: Logs, T: Taker<O>, O>(
+fn take_span<R: LineReader, L: LogSource, T: Taker<O>, O>(
     alloc: Global,
     reader: &R,
     waits: bool,
@@ -268,7 +277,7 @@ fn take_span<R: LineReader, L: Logs, T: Taker<O>, O>(
     page: &mut Page<T>,
     out: &mut O,
 ) -> Result<(), RunFault>
-    requires there { Told (L.folder logs.old) (λ folder. span.now.listed ≤ length (bytes_in folder span.now.name)) }
+    requires ready { L.ready logs.old span.now.name span.now.from }
     requires cut { span.now.listed ≤ 2 ^ 46 }
     requires start { span.now.from ≤ span.now.listed }
     requires lines { span.now.standing.lines ≤ span.now.from }
@@ -278,6 +287,7 @@ fn take_span<R: LineReader, L: Logs, T: Taker<O>, O>(
     requires within { IsWithin page.old.most_bad page.old.bad }
     requires taken { T.count page.old.taker + (span.now.listed - span.now.from) + 1 < 2 ^ 63 }
     ensures grows { OnlyGrow (L.folder logs.old) (L.folder logs.new) }
+    ensures goes_logs { L.goes logs.old logs.new }
     ensures takes { OnOk result (Told (L.folder logs.new) (λ folder. IsKept (R.format reader.now) waits (cut_of folder span.now) span.now
         → TakesSpan T.takes (R.format reader.now) waits folder span.now page.old page.new out.old out.new)) }
     ensures stops { OnErr result (Told (L.folder logs.new) (λ folder. IsKept (R.format reader.now) waits (cut_of folder span.now) span.now
@@ -327,7 +337,7 @@ fn note_span<T>(
 }
 
 // Takes a span, and notes it.
-pub(crate) fn take_noted<R: LineReader, L: Logs, T: Taker<O>, O>(
+pub(crate) fn take_noted<R: LineReader, L: LogSource, T: Taker<O>, O>(
     alloc: Global,
     reader: &R,
     waits: bool,
@@ -338,7 +348,7 @@ pub(crate) fn take_noted<R: LineReader, L: Logs, T: Taker<O>, O>(
     took: &mut TookList,
     out: &mut O,
 ) -> Result<(), RunFault>
-    requires there { Told (L.folder logs.old) (λ folder. span.now.listed ≤ length (bytes_in folder span.now.name)) }
+    requires ready { L.ready logs.old span.now.name span.now.from }
     requires cut { span.now.listed ≤ 2 ^ 46 }
     requires start { span.now.from ≤ span.now.listed }
     requires lines { span.now.standing.lines ≤ span.now.from }
@@ -348,6 +358,7 @@ pub(crate) fn take_noted<R: LineReader, L: Logs, T: Taker<O>, O>(
     requires within { IsWithin page.old.most_bad page.old.bad }
     requires taken { T.count page.old.taker + (span.now.listed - span.now.from) + 1 < 2 ^ 63 }
     ensures grows { OnlyGrow (L.folder logs.old) (L.folder logs.new) }
+    ensures goes_logs { L.goes logs.old logs.new }
     ensures takes { OnOk result (Told (L.folder logs.new) (λ folder. IsKept (R.format reader.now) waits (cut_of folder span.now) span.now
         → TakesSpan T.takes (R.format reader.now) waits folder span.now page.old page.new out.old out.new)) }
     ensures stops { OnErr result (Told (L.folder logs.new) (λ folder. IsKept (R.format reader.now) waits (cut_of folder span.now) span.now

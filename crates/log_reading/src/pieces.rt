@@ -1,15 +1,15 @@
 // A log's bytes, piece by piece, to a taker.
-ghost use Rattle.std.specs.Prelude.{◌≡◌, ◌≤◌, ◌<◌, ◌^◌, ◌+◌, ◌-◌, ◌++◌, [], ℕ, List, Bool, length, take, Option, OnOk, OnErr, IfOk, IfErr, MatchResult, IsErrOf};
+ghost use Rattle.std.specs.Prelude.{◌≡◌, ◌⊎◌, ◌≤◌, ◌<◌, ◌^◌, ◌+◌, ◌-◌, ◌++◌, [], ℕ, List, Bool, length, take, Option, OnOk, OnErr, IfOk, IfErr, MatchResult, IsErrOf};
 ghost use Rattle.std.specs.List.{position_or_len};
-ghost use Rattle.lp_model.specs.Outside.{Rose, HasCause, OnlyGrow, Told, bytes_in};
+ghost use Rattle.lp_model.specs.Outside.{Rose, HasCause, OnlyGrow, Told};
 ghost use Rattle.lp_model.specs.Lines.{is_lf};
-ghost use Rattle.lp_model.specs.Pieces.{IsPiece, rest_of};
+ghost use Rattle.log_reading.specs.Parts.{IsPart, IsReadUp};
 ghost use Rattle.log_reading.specs.Page.{HasRoom, Spends, Advances, StopsIn, StopsWithin, ExceedsWithin, IsWithin, OnBad, to_come};
 
 use crate::lines::take_next;
-use crate::{LineFault, Page, Taker};
+use crate::{LineFault, LogSource, Page, Taker};
 use line_input::LineReader;
-use lp_outside::{Logs, LogsFailed, Name};
+use lp_outside::{LogsFailed, Name};
 use std::alloc::Global;
 
 /// Takes the lines that LF ends of what the splitter holds.
@@ -76,26 +76,28 @@ pub fn take_piece<R: LineReader, T: Taker<O>, O>(
     Ok(())
 }
 
-/// Reads some more of a log below a cut, at least one byte.
-pub fn read_some<L: Logs>(
+/// Reads some more of a log below a cut, at least one byte; none at the log's end.
+pub fn read_some<L: LogSource>(
     logs: &mut L,
     name: &Name,
     at: u64,
     cut: u64,
     chunk: &mut [u8],
 ) -> Result<usize, LogsFailed>
-    requires there { Told (L.folder logs.old) (λ folder. cut ≤ length (bytes_in folder name.now)) }
+    requires ready { L.ready logs.old name.now at }
     requires below { at < cut }
     requires chunk { 0 < length chunk.old }
     ensures grows { OnlyGrow (L.folder logs.old) (L.folder logs.new) }
-    ensures piece { IfOk result (λ count. IsPiece (L.folder logs.new) name.now at cut (take count chunk.new)) }
-    ensures some { IfOk result (λ count. 0 < count) }
+    ensures goes_logs { L.goes logs.old logs.new }
+    ensures part { IfOk result (λ count. IsPart (L.folder logs.new) name.now at cut (take count chunk.new)) }
+    ensures end { IfOk result (λ count. (0 < count) ⊎ IsReadUp (L.folder logs.new) name.now at cut) }
     ensures fits { IfOk result (λ count. count ≤ length chunk.new) }
     ensures below { IfOk result (λ count. at + count ≤ cut) }
+    ensures ready { IfOk result (λ count. L.ready logs.new name.now (at + count)) }
     ensures given { MatchResult result (λ count. L.given logs.new ≡ L.given logs.old + count) (λ _. L.given logs.new ≡ L.given logs.old) }
     ensures cause { HasCause (L.faults logs.old) (L.faults logs.new) result }
 {
     let want = (cut - at).min(chunk.len() as u64) as usize;
-    let count = logs.read_at(name, at, &mut chunk[..want])?;
+    let count = logs.give(name, at, &mut chunk[..want])?;
     Ok(count)
 }

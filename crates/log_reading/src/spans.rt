@@ -1,17 +1,16 @@
 // Logs, one after the other, to a taker.
 ghost use Rattle.std.specs.Prelude.{◌≡◌, ◌≤◌, ◌<◌, ◌^◌, ◌+◌, ◌-◌, ◌++◌, ℕ, List, Bool, true, length, map, Option, OnOk, OnErr, IfOk, IfErr, IsErrOf};
-ghost use Rattle.lp_model.specs.Outside.{Rose, OnlyGrow, Told, bytes_in};
+ghost use Rattle.lp_model.specs.Outside.{Rose, OnlyGrow, Told};
 ghost use Rattle.log_reading.specs.Page.{IsTooMany, IsWithin};
-ghost use Rattle.log_reading.specs.Spans.{AllSpans, IsSpan, AreKept, TakesSpans, ReadsAhead, OnBadLine, spans_met, spans_bad_lines, spans_size, took_of};
+ghost use Rattle.log_reading.specs.Spans.{AllSpans, AreReadable, IsSpan, AreKept, TakesSpans, ReadsAhead, OnBadLine, spans_met, spans_bad_lines, spans_size, took_of};
 
 use crate::logs::take_noted;
-use crate::{Page, RunFault, Span, Taker, TookList};
+use crate::{LogSource, Page, RunFault, Span, Taker, TookList};
 use line_input::LineReader;
-use lp_outside::Logs;
 use std::alloc::Global;
 
 /// Takes spans, in order: of each its rows, and then the end of its log.
-pub fn take_spans<R: LineReader, L: Logs, T: Taker<O>, O>(
+pub fn take_spans<R: LineReader, L: LogSource, T: Taker<O>, O>(
     alloc: Global,
     reader: &R,
     waits: bool,
@@ -22,7 +21,7 @@ pub fn take_spans<R: LineReader, L: Logs, T: Taker<O>, O>(
     took: &mut TookList,
     out: &mut O,
 ) -> Result<(), RunFault>
-    requires there { Told (L.folder logs.old) (λ folder. AllSpans spans.now (λ span. span.listed ≤ length (bytes_in folder span.name))) }
+    requires readable { AreReadable L.folder L.ready logs.old spans.now }
     requires spans { AllSpans spans.now IsSpan }
     requires chunk { 0 < length chunk.old }
     requires rows { page.old.rows + spans_size spans.now + length spans.now < 2 ^ 63 }
@@ -30,6 +29,7 @@ pub fn take_spans<R: LineReader, L: Logs, T: Taker<O>, O>(
     requires within { IsWithin page.old.most_bad page.old.bad }
     requires taken { T.count page.old.taker + spans_size spans.now + length spans.now < 2 ^ 63 }
     ensures grows { OnlyGrow (L.folder logs.old) (L.folder logs.new) }
+    ensures goes_logs { L.goes logs.old logs.new }
     ensures takes { OnOk result (Told (L.folder logs.new) (λ folder. AreKept (R.format reader.now) waits spans.now folder
         → TakesSpans T.takes (R.format reader.now) waits folder spans.now page.old page.new out.old out.new)) }
     ensures stops { OnErr result (Told (L.folder logs.new) (λ folder. AreKept (R.format reader.now) waits spans.now folder

@@ -13,7 +13,7 @@ Query (or a file that holds it: file:NAME)
   SELECT * | value [AS name], ..    what is written
   [USING value AS name, ..]         names for values
   [INTO STDOUT | name]              a file; each * in its name takes a first column's value
-  FROM log, ..                      names of files, * and ? in their last part
+  FROM log, ..                      names of files, * and ? in their last part; or STDIN alone
   [WHERE condition]                 = <> < > <= >=, [NOT] LIKE 'pattern', [NOT] IN (..),
                                     [NOT] BETWEEN .. AND .., IS [NOT] NULL, AND, OR, NOT,
                                     parentheses
@@ -51,6 +51,10 @@ Options, in any order and in any case
   -oSeparator:C  TSV output: what parts fields: space, tab, or another character (tab)
   -fileMode:N    INTO files: 0 adds to a file, 1 writes it anew (1), 2 leaves it alone unless
                  it is empty
+  -iCheckpoint:NAME  take only complete lines that no earlier run with this file took, and open the
+                 outputs and that file together; INTO names a file then
+  -iRotation:NUMBERS with -iCheckpoint: a name behind FROM is a log whose older parts are NAME.1,
+                 NAME.2 and so on, the greatest number the newest (NAMES: each name is a log)
   -stats:OFF     no statistics (ON)
   --help         alone: this text
   --version      alone: the version
@@ -77,12 +81,13 @@ Examples
   logparser -o:CSV \"SELECT cs-uri-stem, time-taken FROM u_ex*.log WHERE sc-status = 404\"
   logparser -o:CSV \"SELECT DateTime, Request FROM nc1.log WHERE StatusCode >= 500\" | head
   logparser -o:CSV \"SELECT name, MUL(price, 2) AS twice FROM list.csv WHERE name LIKE 'a%'\"
+  logparser -iCheckpoint:day.cp -fileMode:0 \"SELECT Text INTO errors.csv FROM app.log\"
 
-Not built yet, and answered so: -iCheckpoint, COUNT and the like, GROUP BY, HAVING, subqueries,
-standard input.
+Not built yet, and answered so: COUNT and the like, GROUP BY, HAVING, subqueries.
 
 The manual is docs/manual.md in the repository; docs/examples.md answers common questions.
 
 Status: 0 whole; 1 out of memory; 2 words, clock, or not built; 3 query; 4 logs, outputs, or the
-template; 5 read fault; 6 disk fault; 7 write fault; 8 too many lines that can't be read.
+template; 5 read fault; 6 disk fault; 7 write fault; 8 too many lines that can't be read;
+9 the file of -iCheckpoint is damaged.
 ";

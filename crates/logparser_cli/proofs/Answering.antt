@@ -1,9 +1,11 @@
 -- What the steps of a run make of its answer.
-use Rattle.std.proofs.Common.{◌≡◌, ◌⊎◌, ℕ, ℤ, ◌≤◌, Bool, true, false, List, Option, Err, refl, inl, inr, arith}
+use Rattle.std.proofs.Common.{◌≡◌, ◌⊎◌, ℕ, ℤ, ◌+◌, ◌^◌, ◌≤◌, Bool, true, false, List, Option, Err, refl, inl, inr, arith}
+use Rattle.std.specs.Prelude.{option_map}
 use Rattle.grammar.specs.Trees as model
 use Rattle.lp_model.specs.Outside.{Folder, OnlyGrow, Rose}
 use Rattle.checkpoint.specs.Wholes.{whole_spans}
 use Rattle.command_words.specs.declared.spec.Spec.{Spec}
+use Rattle.execution.specs.Built.{reads_stdin}
 use Rattle.execution.specs.Executed.{IsExecuted, IsMoment, IsUntouched, Writes, rows_in}
 use Rattle.execution.specs.Executed.{HoldsFront as HoldsSpans, IsParseError as IsExceeded, IsStopped as IsStoppedIn, IsUnplaced as IsUnplacedIn, IsUnplanned as IsUnplannedIn, WritesAll as WritesSpans}
 use Rattle.execution.specs.Formats.{lines_in, log_format}
@@ -16,6 +18,7 @@ use Rattle.log_reading.specs.declared.span.Span.{Span}
 use Rattle.log_reading.specs.Page.{IsTooMany, IsWithin}
 use Rattle.log_reading.specs.Spans.{BadLine, spans_bad_lines, bad_line}
 use Rattle.query_run.specs.declared.executing.Counts.{Counts}
+use Rattle.query_text.specs.Stdin.{names_in}
 use Rattle.query_text.specs.declared.fault.QueryFault.{QueryFault}
 use Rattle.query_text.specs.declared.fault.QueryFault.TheVariants as Q
 use Rattle.query_types.specs.declared.fault.TypeFault.{TypeFault}
@@ -28,16 +31,19 @@ use Rattle.row_output.specs.declared.fault.Refused.{Refused}
 use Rattle.row_output.specs.declared.fault.Refused.TheVariants as W
 use Rattle.log_listing.specs.declared.lengths.NameLength.{NameLength}
 use Rattle.reports.specs.declared.status.Status.{Status}
-use Rattle.reports.specs.declared.status.Status.TheVariants.{Done, Memory, Clock, Usage, Query, NotBuilt, NoSuchLog, BadName, NameClash, TooManyOutputs, TooManyLogs, Template, LogsFault, DiskFault, SinkFault, ParseErrors}
+use Rattle.reports.specs.declared.status.Status.TheVariants.{Done, Memory, Clock, Usage, Query, NotBuilt, NoSuchLog, BadName, NameClash, TooManyOutputs, TooManyLogs, Template, InputTooLong, LogsFault, SourceFault, DiskFault, SinkFault, ParseErrors, LostLog, Shrunk, InputChanged, IntoNeeded, LedgerFault}
 use Rattle.reports.specs.Status.{OnRefused}
 use Rattle.requests.specs.Requests.{Asks, IsRefused}
 use Rattle.requests.specs.declared.fault.RequestFault.{RequestFault}
 use Rattle.requests.specs.declared.fault.RequestFault.TheVariants as R
 use Rattle.requests.proofs.Growing.{asks_grown}
 use Rattle.logparser_cli.specs.Logs.{AreSpans, IsUnlisted}
-use Rattle.logparser_cli.specs.Outputs.{HasFront, HasWritten, IsUnwritten, OutputRose, World}
+use Rattle.logparser_cli.specs.Outputs.{HasFront, HasWritten, IsUnwritten, OutputRose, World, input_world, stream_world}
 use Rattle.logparser_cli.specs.Whole.{Tells, told_statistics, IsFront, IsHalted, IsParseError, IsUnplaced, IsUnplanned, IsWhole, OnRows, WritesAll}
-use Rattle.logparser_cli.specs.Answers.{IsStopped, IsUnplannable, AnswersBuilt, AnswersQuery, AnswersRun, IsUnasked, Answers, failed_output, unasked, unplaced, stopped}
+use Rattle.logparser_cli.specs.Answers.{IsStopped, IsUnplannable, AnswersBuilt, AnswersInput, AnswersOf, AnswersOver, AnswersQuery, AnswersRun, IsUnasked, AnswersPlainly, NamesNoLog}
+use Rattle.checkpointed_command.specs.Statuses.{failed_output, unasked, unplaced, stopped}
+use Rattle.logparser_cli.specs.Input.{stopped_input}
+use Rattle.standard_input.specs.Streams.{stream_files}
 use Rattle.logparser_cli.specs.Templates.{IsTemplate, IsUntemplated, IsWithoutTemplate}
 use Rattle.requests.proofs.Templates.{template_grown, template_since, fault_since}
 use Rattle.tpl_output.specs.Sections.{Sections}
@@ -56,10 +62,17 @@ on_refused (NameClash name) P p = p
 on_refused TooManyOutputs P p = p
 on_refused TooManyLogs P p = p
 on_refused (Template fault) P p = p
+on_refused InputTooLong P p = p
 on_refused LogsFault P p = p
+on_refused SourceFault P p = p
 on_refused DiskFault P p = p
 on_refused SinkFault P p = p
 on_refused (ParseErrors log row) P p = p
+on_refused (LostLog stem number) P p = p
+on_refused (Shrunk lost kept found) P p = p
+on_refused (InputChanged kept given) P p = p
+on_refused IntoNeeded P p = p
+on_refused (LedgerFault part place) P p = p
 
 -- a count that rose since a later moment has risen since an earlier one
 pub rose_since : (a b c : ℕ) → a ≤ b → Rose b c → Rose a c
@@ -79,10 +92,17 @@ unlisted_answers old new template spec moment q (NameClash name) is same rose = 
 unlisted_answers old new template spec moment q TooManyOutputs is same rose = absurd is
 unlisted_answers old new template spec moment q TooManyLogs is same rose = (is, same)
 unlisted_answers old new template spec moment q (Template fault) is same rose = absurd is
+unlisted_answers old new template spec moment q InputTooLong is same rose = absurd is
 unlisted_answers old new template spec moment q LogsFault is same rose = (inl same, rose refl)
+unlisted_answers old new template spec moment q SourceFault is same rose = absurd is
 unlisted_answers old new template spec moment q DiskFault is same rose = absurd is
 unlisted_answers old new template spec moment q SinkFault is same rose = absurd is
 unlisted_answers old new template spec moment q (ParseErrors log row) is same rose = absurd is
+unlisted_answers old new template spec moment q (LostLog stem number) is same rose = absurd is
+unlisted_answers old new template spec moment q (Shrunk lost kept found) is same rose = absurd is
+unlisted_answers old new template spec moment q (InputChanged kept given) is same rose = absurd is
+unlisted_answers old new template spec moment q IntoNeeded is same rose = absurd is
+unlisted_answers old new template spec moment q (LedgerFault part place) is same rose = absurd is
 
 -- a query was run over whole logs
 pub whole : (old new : World) (mid : Option Folder) (template : Sections) (spec : Spec) (moment : ℤ) (q : model.Query) (spans : List Span) (counts : Counts) → AreSpans old.folder mid q spans → OnlyGrow mid new.folder
@@ -191,9 +211,23 @@ stopped_answers old new mid template spec moment q spans standard X.StageFault i
 stopped_answers old new mid template spec moment q spans standard (X.ParseErrors log row) into found grow stop plan before parse refused logs stage = exceeded old new mid template spec moment q spans (bad_line log row) found grow stop parse
 stopped_answers old new mid template spec moment q spans standard X.Memory into found grow stop plan before parse refused logs stage = inr (halted old new mid template spec moment q spans found grow stop)
 
+-- the same of standard input, in the place of logs
+pub input_answers : (old new : World) (template : Sections) (spec : Spec) (moment : ℤ) (q : model.Query) (standard too_long : Bool) (fault : RunFault) (first last : ℕ) → AnswersRun (stream_world (option_map stream_files old.input.left) first old) (stream_world (option_map stream_files old.input.left) last new) template spec moment q (stopped standard fault)
+    → (fault ≡ X.LogsFault → too_long ≡ false → Rose old.input.faults new.input.faults) → (too_long ≡ true → new.input.given ≡ old.input.given + 2 ^ 40) → AnswersInput old new template spec moment q (stopped_input standard too_long fault)
+input_answers old new template spec moment q standard too_long (X.Plan fault) first last s rose given = inl (tt, s)
+input_answers old new template spec moment q standard too_long (X.Refused W.TooManyOutputs) first last s rose given = inl (tt, s)
+input_answers old new template spec moment q standard too_long (X.Refused (W.BadName fault)) first last s rose given = inl (tt, s)
+input_answers old new template spec moment q standard too_long (X.Refused (W.NameClash name)) first last s rose given = inl (tt, s)
+input_answers old new template spec moment q standard true X.LogsFault first last s rose given = inr (inr (refl, s.0, given refl))
+input_answers old new template spec moment q standard false X.LogsFault first last s rose given = inr (inl (refl, s.0, rose refl refl))
+input_answers old new template spec moment q true too_long X.StageFault first last s rose given = inl (tt, s)
+input_answers old new template spec moment q false too_long X.StageFault first last s rose given = inl (tt, s)
+input_answers old new template spec moment q standard too_long (X.ParseErrors log row) first last s rose given = inl (tt, s)
+input_answers old new template spec moment q standard too_long X.Memory first last s rose given = inl (tt, s)
+
 -- the same world with the logs as they were before
 abbrev with_logs : World → Option Folder → ℕ → World
-with_logs world folder faults = record { folder = folder; logs_faults = faults; held = world.held; disk_faults = world.disk_faults; out_faults = world.out_faults; err = world.err; err_faults = world.err_faults }
+with_logs world folder faults = record { folder = folder; logs_faults = faults; held = world.held; disk_faults = world.disk_faults; out_faults = world.out_faults; err = world.err; err_faults = world.err_faults; input = world.input }
 
 stop_earlier : (mid new : World) (before : Option Folder) (faults : ℕ) (template : Sections) (spec : Spec) (moment : ℤ) (q : model.Query) → OnlyGrow before mid.folder → IsStopped mid new template spec moment q → IsStopped (with_logs mid before faults) new template spec moment q
 stop_earlier mid new before faults template spec moment q grow (inl same) = inl same
@@ -226,10 +260,23 @@ run_earlier mid new before faults template spec moment q (NameClash name) grow l
 run_earlier mid new before faults template spec moment q TooManyOutputs grow later s = unplaced_earlier mid new before faults template spec moment q W.TooManyOutputs grow s
 run_earlier mid new before faults template spec moment q TooManyLogs grow later s = s
 run_earlier mid new before faults template spec moment q (Template fault) grow later s = absurd s
+run_earlier mid new before faults template spec moment q InputTooLong grow later s = s
 run_earlier mid new before faults template spec moment q LogsFault grow later s = (stop_earlier mid new before faults template spec moment q grow s.0, rose_since faults mid.logs_faults new.logs_faults later s.1)
+run_earlier mid new before faults template spec moment q SourceFault grow later s = s
 run_earlier mid new before faults template spec moment q DiskFault grow later s = (s.0, stop_earlier mid new before faults template spec moment q grow s.1, s.2)
 run_earlier mid new before faults template spec moment q SinkFault grow later s = (s.0, stop_earlier mid new before faults template spec moment q grow s.1, s.2)
 run_earlier mid new before faults template spec moment q (ParseErrors log row) grow later s = record { logs = s.logs; are_logs = logs_earlier before mid.folder new.folder q s.logs grow s.are_logs; typed = s.typed; exceeds = s.exceeds; front = s.front }
+run_earlier mid new before faults template spec moment q (LostLog stem number) grow later s = absurd s
+run_earlier mid new before faults template spec moment q (Shrunk lost kept found) grow later s = absurd s
+run_earlier mid new before faults template spec moment q (InputChanged kept given) grow later s = absurd s
+run_earlier mid new before faults template spec moment q IntoNeeded grow later s = absurd s
+run_earlier mid new before faults template spec moment q (LedgerFault part place) grow later s = absurd s
+
+-- over standard input nothing of the logs counts
+over_earlier : (stdin : Bool) (mid new : World) (before : Option Folder) (faults : ℕ) (template : Sections) (spec : Spec) (moment : ℤ) (q : model.Query) (status : Status) → OnlyGrow before mid.folder → faults ≤ mid.logs_faults
+    → AnswersOf stdin mid new template spec moment q status → AnswersOf stdin (with_logs mid before faults) new template spec moment q status
+over_earlier false mid new before faults template spec moment q status grow later s = run_earlier mid new before faults template spec moment q status grow later s
+over_earlier true mid new before faults template spec moment q status grow later s = s
 
 untemplated_since : (before mid now : Option Folder) (name : List ℕ) (status : Status) → OnlyGrow before mid → IsUntemplated mid now name status → IsUntemplated before now name status
 untemplated_since before mid now name Done grow s = s
@@ -244,10 +291,17 @@ untemplated_since before mid now name (NameClash clash) grow s = s
 untemplated_since before mid now name TooManyOutputs grow s = s
 untemplated_since before mid now name TooManyLogs grow s = s
 untemplated_since before mid now name (Template fault) grow s = fault_since before mid now name fault grow s
+untemplated_since before mid now name InputTooLong grow s = s
 untemplated_since before mid now name LogsFault grow s = s
+untemplated_since before mid now name SourceFault grow s = s
 untemplated_since before mid now name DiskFault grow s = s
 untemplated_since before mid now name SinkFault grow s = s
 untemplated_since before mid now name (ParseErrors log row) grow s = s
+untemplated_since before mid now name (LostLog stem number) grow s = s
+untemplated_since before mid now name (Shrunk lost kept found) grow s = s
+untemplated_since before mid now name (InputChanged kept given) grow s = s
+untemplated_since before mid now name IntoNeeded grow s = s
+untemplated_since before mid now name (LedgerFault part place) grow s = s
 
 built_earlier : (mid new : World) (before : Option Folder) (faults : ℕ) (spec : Spec) (moment : ℤ) (q : model.Query) (status : Status) → OnlyGrow before mid.folder → faults ≤ mid.logs_faults
     → AnswersBuilt mid new spec moment q status → AnswersBuilt (with_logs mid before faults) new spec moment q status
@@ -264,7 +318,7 @@ built_earlier mid new before faults spec moment q status grow later (inl none) =
 built_earlier mid new before faults spec moment q status grow later (inr read) = inr (record {
   template = read.template;
   is_template = λ asked. let is = read.is_template asked in record { name = is.name; named = is.named; holds = template_since before mid.folder new.folder is.name read.template grow is.holds };
-  answers = run_earlier mid new before faults read.template spec moment q status grow later read.answers;
+  answers = over_earlier (reads_stdin (names_in q)) mid new before faults read.template spec moment q status grow later read.answers;
 })
 
 -- the template isn't read
@@ -273,11 +327,11 @@ unread_answers old new spec moment q status refused same rose = inl (record { re
 
 -- a template was read, and the query run over logs
 pub read_answers : (mid new : World) (before : Option Folder) (faults : ℕ) (spec : Spec) (moment : ℤ) (q : model.Query) (template : Sections) (status : Status) → OnlyGrow before mid.folder → faults ≤ mid.logs_faults → OnlyGrow mid.folder new.folder
-    → IsTemplate before mid.folder spec q template → AnswersRun mid new template spec moment q status → AnswersBuilt (with_logs mid before faults) new spec moment q status
+    → IsTemplate before mid.folder spec q template → AnswersOver mid new template spec moment q status → AnswersBuilt (with_logs mid before faults) new spec moment q status
 read_answers mid new before faults spec moment q template status grow later grew found answers = inr (record {
   template = template;
   is_template = λ asked. let is = found asked in record { name = is.name; named = is.named; holds = template_grown before mid.folder new.folder is.name template grew is.holds };
-  answers = run_earlier mid new before faults template spec moment q status grow later answers;
+  answers = over_earlier (reads_stdin (names_in q)) mid new before faults template spec moment q status grow later answers;
 })
 
 query_earlier : (mid new : World) (before : Option Folder) (faults : ℕ) (spec : Spec) (moment : ℤ) (q : model.Query) (status : Status) → OnlyGrow before mid.folder → faults ≤ mid.logs_faults
@@ -287,7 +341,7 @@ query_earlier mid new before faults spec moment q status grow later (inr (built,
 
 -- the words ask for a query, and the answer tells of it
 pub asked_answers : (mid new : World) (before : Option Folder) (faults : ℕ) (moment : ℤ) (words : List (List ℕ)) (spec : Spec) (q : model.Query) (status : Status) → IsMoment moment → OnlyGrow before mid.folder → faults ≤ mid.logs_faults
-    → OnlyGrow mid.folder new.folder → Asks before mid.folder words spec q → AnswersQuery mid new spec moment q status → Answers moment words (with_logs mid before faults) new status
+    → OnlyGrow mid.folder new.folder → Asks before mid.folder words spec q → AnswersQuery mid new spec moment q status → AnswersPlainly moment words (with_logs mid before faults) new status
 asked_answers mid new before faults moment words spec q status now grow later grew asks answers =
     inr (now, inr (record { spec = spec; q = q; asks = asks_grown before mid.folder new.folder words spec q grew asks; answers = query_earlier mid new before faults spec moment q status grow later answers }))
 
@@ -301,12 +355,12 @@ is_unasked old new words R.Memory refused same rose = same
 
 -- the words ask for nothing that can be done
 pub unasked_answers : (old new : World) (moment : ℤ) (words : List (List ℕ)) (fault : RequestFault) → IsMoment moment → IsRefused old.folder new.folder words fault → IsUnwritten old.held new.held → (fault ≡ R.Logs → Rose old.logs_faults new.logs_faults)
-    → Answers moment words old new (unasked fault)
+    → AnswersPlainly moment words old new (unasked fault)
 unasked_answers old new moment words fault now refused same rose = inr (now, inl (is_unasked old new words fault refused same rose))
 
 -- the same world with more told on `err`
-abbrev with_err : World → Option (List ℕ) → ℕ → World
-with_err world err faults = record { folder = world.folder; logs_faults = world.logs_faults; held = world.held; disk_faults = world.disk_faults; out_faults = world.out_faults; err = err; err_faults = faults }
+abbrev pub with_err : World → Option (List ℕ) → ℕ → World
+with_err world err faults = record { folder = world.folder; logs_faults = world.logs_faults; held = world.held; disk_faults = world.disk_faults; out_faults = world.out_faults; err = err; err_faults = faults; input = world.input }
 
 run_told : (old new : World) (err : Option (List ℕ)) (faults : ℕ) (template : Sections) (spec : Spec) (moment : ℤ) (q : model.Query) (status : Status) → (status ≡ Done → ⊥) → AnswersRun old new template spec moment q status → AnswersRun old (with_err new err faults) template spec moment q status
 run_told old new err faults template spec moment q Done refused s = absurd (refused refl)
@@ -321,15 +375,31 @@ run_told old new err faults template spec moment q (NameClash name) refused s = 
 run_told old new err faults template spec moment q TooManyOutputs refused s = s
 run_told old new err faults template spec moment q TooManyLogs refused s = s
 run_told old new err faults template spec moment q (Template fault) refused s = s
+run_told old new err faults template spec moment q InputTooLong refused s = s
 run_told old new err faults template spec moment q LogsFault refused s = s
+run_told old new err faults template spec moment q SourceFault refused s = s
 run_told old new err faults template spec moment q DiskFault refused s = s
 run_told old new err faults template spec moment q SinkFault refused s = s
 run_told old new err faults template spec moment q (ParseErrors log row) refused s = s
+run_told old new err faults template spec moment q (LostLog stem number) refused s = s
+run_told old new err faults template spec moment q (Shrunk lost kept found) refused s = s
+run_told old new err faults template spec moment q (InputChanged kept given) refused s = s
+run_told old new err faults template spec moment q IntoNeeded refused s = s
+run_told old new err faults template spec moment q (LedgerFault part place) refused s = s
+
+input_told : (old new : World) (err : Option (List ℕ)) (faults : ℕ) (template : Sections) (spec : Spec) (moment : ℤ) (q : model.Query) (status : Status) → (status ≡ Done → ⊥) → AnswersInput old new template spec moment q status → AnswersInput old (with_err new err faults) template spec moment q status
+input_told old new err faults template spec moment q status refused (inl (none, s)) = inl (none, run_told (input_world old old) (input_world old new) err faults template spec moment q status refused s)
+input_told old new err faults template spec moment q status refused (inr (inl s)) = inr (inl s)
+input_told old new err faults template spec moment q status refused (inr (inr s)) = inr (inr s)
+
+over_told : (stdin : Bool) (old new : World) (err : Option (List ℕ)) (faults : ℕ) (template : Sections) (spec : Spec) (moment : ℤ) (q : model.Query) (status : Status) → (status ≡ Done → ⊥) → AnswersOf stdin old new template spec moment q status → AnswersOf stdin old (with_err new err faults) template spec moment q status
+over_told false old new err faults template spec moment q status refused s = run_told old new err faults template spec moment q status refused s
+over_told true old new err faults template spec moment q status refused s = input_told old new err faults template spec moment q status refused s
 
 built_told : (old new : World) (err : Option (List ℕ)) (faults : ℕ) (spec : Spec) (moment : ℤ) (q : model.Query) (status : Status) → (status ≡ Done → ⊥) → AnswersBuilt old new spec moment q status → AnswersBuilt old (with_err new err faults) spec moment q status
 built_told old new err faults spec moment q status refused (inl none) = inl (record { refused = none.refused; unwritten = none.unwritten; rose = none.rose })
 built_told old new err faults spec moment q status refused (inr read) =
-    inr (record { template = read.template; is_template = read.is_template; answers = run_told old new err faults read.template spec moment q status refused read.answers })
+    inr (record { template = read.template; is_template = read.is_template; answers = over_told (reads_stdin (names_in q)) old new err faults read.template spec moment q status refused read.answers })
 
 query_told : (old new : World) (err : Option (List ℕ)) (faults : ℕ) (spec : Spec) (moment : ℤ) (q : model.Query) (status : Status) → (status ≡ Done → ⊥) → AnswersQuery old new spec moment q status → AnswersQuery old (with_err new err faults) spec moment q status
 query_told old new err faults spec moment q status refused (inl none) = inl none
@@ -348,13 +418,20 @@ unasked_told old new err faults words (NameClash name) s = s
 unasked_told old new err faults words TooManyOutputs s = s
 unasked_told old new err faults words TooManyLogs s = s
 unasked_told old new err faults words (Template fault) s = s
+unasked_told old new err faults words InputTooLong s = s
 unasked_told old new err faults words LogsFault s = s
+unasked_told old new err faults words SourceFault s = s
 unasked_told old new err faults words DiskFault s = s
 unasked_told old new err faults words SinkFault s = s
 unasked_told old new err faults words (ParseErrors log row) s = s
+unasked_told old new err faults words (LostLog stem number) s = s
+unasked_told old new err faults words (Shrunk lost kept found) s = s
+unasked_told old new err faults words (InputChanged kept given) s = s
+unasked_told old new err faults words IntoNeeded s = s
+unasked_told old new err faults words (LedgerFault part place) s = s
 
 -- a refusal says the same once it is told
-pub told_answers : (old new : World) (err : Option (List ℕ)) (faults : ℕ) (moment : ℤ) (words : List (List ℕ)) (status : Status) → (status ≡ Done → ⊥) → Answers moment words old new status → Answers moment words old (with_err new err faults) status
+pub told_answers : (old new : World) (err : Option (List ℕ)) (faults : ℕ) (moment : ℤ) (words : List (List ℕ)) (status : Status) → (status ≡ Done → ⊥) → AnswersPlainly moment words old new status → AnswersPlainly moment words old (with_err new err faults) status
 told_answers old new err faults moment words status refused (inl clock) = inl (record { same = clock.same; none = clock.none; unwritten = clock.unwritten })
 told_answers old new err faults moment words status refused (inr (now, inl none)) = inr (now, inl (unasked_told old new err faults words status none))
 told_answers old new err faults moment words status refused (inr (now, inr asked)) =
@@ -374,7 +451,14 @@ refused_is (NameClash name) P refused p = p
 refused_is TooManyOutputs P refused p = p
 refused_is TooManyLogs P refused p = p
 refused_is (Template fault) P refused p = p
+refused_is InputTooLong P refused p = p
 refused_is LogsFault P refused p = p
+refused_is SourceFault P refused p = p
 refused_is DiskFault P refused p = p
 refused_is SinkFault P refused p = p
 refused_is (ParseErrors log row) P refused p = p
+refused_is (LostLog stem number) P refused p = p
+refused_is (Shrunk lost kept found) P refused p = p
+refused_is (InputChanged kept given) P refused p = p
+refused_is IntoNeeded P refused p = p
+refused_is (LedgerFault part place) P refused p = p

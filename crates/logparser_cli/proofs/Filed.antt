@@ -1,11 +1,10 @@
 -- Files that hold the rows of a query, told as what each file holds.
-use Rattle.std.proofs.Common.{◌≡◌, ◌⊎◌, inl, inr, ◌≤◌, ◌+◌, ◌==◌, ℕ, Bool, true, false, true≢false, ◌||◌, List, [], ◌∷◌, ◌++◌, length, map, take, drop, All, refl, sym, ◌∙◌, ap, subst, arith, take-append-drop}
+use Rattle.std.proofs.Common.{◌≡◌, inl, inr, ◌≤◌, ◌+◌, ◌==◌, ℕ, Bool, true, false, true≢false, ◌||◌, List, [], ◌∷◌, ◌++◌, length, map, take, drop, All, refl, sym, ◌∙◌, ap, subst, arith, take-append-drop}
 use Rattle.std.specs.Prelude.{bytes_eq}
 use Rattle.std.proofs.lemmas.List.{append-nil, take_all}
 use Rattle.std.proofs.lemmas.List.Elements.{All-nil, All-cons, All-head, All-tail}
 use Rattle.std.proofs.lemmas.Slice.Eq.{bytes_eq-Decides}
 use Rattle.disk_model.specs.Disk.{DiskState, Files as Contents}
-use Rattle.lp_model.specs.Outside.{Begins}
 use Rattle.command_words.specs.declared.modes.FileMode.{FileMode}
 use Rattle.command_words.specs.declared.modes.FileMode.TheVariants as M
 use Rattle.file_stage.specs.FileTexts.{AlwaysTells, EndsBy, IsThere, disk_of, file_state}
@@ -17,7 +16,7 @@ use Rattle.multiplex.specs.Splitting.{OutputRows, output_names, rows_named, spli
 use Rattle.order_top.specs.Finish.{Row}
 use Rattle.text_output.specs.Output.{StageKind, kind_of}
 use Rattle.text_output.specs.declared.target.Output.{Output}
-use Rattle.row_output.specs.Asked.{AreGood, Files, OutputText}
+use Rattle.row_output.specs.Asked.{Files, OutputText}
 use Rattle.row_output.specs.Files.{ArePut, FilesHold, FilesStop, IsBase, IsLeftAlone, IsPut, Opened, SparesBut, opened_of}
 use Rattle.logparser_cli.specs.Files.{AreLeft, AreWritten, IsAfter, IsLeft, file_after}
 

@@ -1,11 +1,13 @@
 -- How many bytes of files a run reads, step by step.
-use Rattle.std.proofs.Common.{◌≡◌, ◌≤◌, ◌<◌, ◌+◌, ◌-◌, ℕ, suc, List, [], ◌∷◌, ◌++◌, length, get_or, All, map, Option, Some, None, refl, inl, inr, ap, sym, subst, arith}
+use Rattle.std.proofs.Common.{◌≡◌, ◌≤◌, ◌+◌, ◌-◌, ℕ, suc, List, [], ◌∷◌, ◌++◌, length, All, false, Option, Some, None, refl, inl, inr, ap, arith}
 use Rattle.std.proofs.lemmas.List.Sums.{sum_by-append}
 use Rattle.grammar.specs.Trees as model
-use Rattle.lp_model.specs.Outside.{Folder, OnlyGrow, Told, bytes_in}
+use Rattle.lp_model.specs.Outside.{Folder, OnlyGrow, bytes_in}
 use Rattle.command_words.specs.declared.spec.Spec.{Spec}
 use Rattle.command_words.specs.Words.{query_in}
 use Rattle.checkpoint.specs.Wholes.{whole_spans}
+use Rattle.execution.specs.Built.{reads_stdin}
+use Rattle.query_text.specs.Stdin.{names_in}
 use Rattle.log_listing.specs.Lengths.{IsLength}
 use Rattle.log_listing.specs.Lengths.{names_in as listed_names}
 use Rattle.log_listing.specs.declared.lengths.NameLength.{NameLength}
@@ -15,9 +17,10 @@ use Rattle.requests.specs.Given.{ReadsOnce, query_files, sizes}
 use Rattle.requests.specs.Requests.{Asks}
 use Rattle.requests.proofs.Given.{sizes_more, reads_none, reads_on, reads_more}
 use Rattle.requests.proofs.Growing.{asks_grown}
-use Rattle.logparser_cli.specs.Given.{AreRead, ReadsAsked, ReadsLogs, ReadsQuery, ReadsWords, template_files}
+use Rattle.checkpointed_command.specs.Given.{template_files}
+use Rattle.logparser_cli.specs.Given.{ReadsLogs, ReadsQuery, ReadsWords}
 use Rattle.logparser_cli.specs.Logs.{AreSpans}
-use Rattle.logparser_cli.proofs.Wholes.{logs_later}
+use Rattle.logparser_cli.proofs.Wholes.{are_listed, logs_later}
 
 behind : (P : NameLength → Type 0) (log : NameLength) (logs : List NameLength) → All P (log ∷ logs) → All P logs
 behind P log logs all = λ k d here. all (suc k) d (omega arith)
@@ -47,9 +50,9 @@ once_told before (Some folder) logs spans given later wholes lengths most =
     omega arith
 
 -- the logs are read, each once
-pub logs_once : (old mid now : Option Folder) (q : model.Query) (spans : List Span) (before later : ℕ) → AreSpans old mid q spans → OnlyGrow mid now → later ≤ before + spans_size spans → ReadsLogs now q before later
-logs_once old mid now q spans before later found grow most =
-    let are = logs_later old mid now q found.logs grow found.are_logs in
+pub logs_once : (old mid now : Option Folder) (q : model.Query) (spans : List Span) (before later : ℕ) → reads_stdin (names_in q) ≡ false → AreSpans old mid q spans → OnlyGrow mid now → later ≤ before + spans_size spans → ReadsLogs now q before later
+logs_once old mid now q spans before later files found grow most =
+    let are = are_listed old now q found.logs files (logs_later old mid now q found.logs grow found.are_logs) in
     record { logs = listed_names found.logs; are_read = inr are.listed; once = once_told old now found.logs spans before later found.wholes are.lengths most }
 
 -- there is no template, and no log is read

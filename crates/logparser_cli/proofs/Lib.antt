@@ -4,3 +4,6 @@ pub mod Answering
 mod Mapping
 mod Filed
 mod Written
+mod Keeping
+mod Templating
+pub mod Streamed

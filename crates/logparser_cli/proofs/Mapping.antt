@@ -1,5 +1,5 @@
 -- What a query writes, told in other words.
-use Rattle.std.proofs.Common.{◌⊎◌, ℕ, ℤ, Bool, List, Option, Some, None, Result, Ok, Err, IfOk, OnErr, inl, inr}
+use Rattle.std.proofs.Common.{◌⊎◌, ℤ, Bool, List, Option, Some, None, Result, Ok, Err, IfOk, OnErr, inl, inr}
 use Rattle.grammar.specs.Trees as model
 use Rattle.lp_model.specs.Outside.{Folder, Told}
 use Rattle.lp_time.specs.declared.piece.Piece.{Piece}

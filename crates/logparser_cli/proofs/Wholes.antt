@@ -1,5 +1,5 @@
 -- The spans of the logs that FROM names list.
-use Rattle.std.proofs.Common.{◌≡◌, ℕ, ◌<◌, ◌≤◌, List, length, get_or, All, false, Option, Some, None, map, refl, sym, subst, arith}
+use Rattle.std.proofs.Common.{◌≡◌, ℕ, ◌<◌, ◌≤◌, List, length, get_or, All, Bool, true, false, Option, Some, None, refl, sym, subst, arith}
 use Rattle.std.proofs.lemmas.List.Elements.{All-weaker}
 use Rattle.grammar.specs.Trees as model
 use Rattle.lp_model.specs.Outside.{Folder, OnlyGrow, Told, bytes_in}
@@ -25,9 +25,10 @@ use Rattle.input_tables.specs.Tables.{table_of}
 use Rattle.lp_time.specs.declared.piece.Piece.{Piece}
 use Rattle.query_types.specs.declared.table.TableColumns.{TableColumns}
 use Rattle.reports.specs.declared.status.Status.TheVariants.{LogsFault}
-use Rattle.query_tree.specs.declared.query.Query.{Query, Query', out-Query}
-use Rattle.query_tree.specs.Views.{placed_all, query_of}
-use Rattle.logparser_cli.specs.Logs.{AreLogs, IsUnlisted, from_names, unlisted}
+use Rattle.execution.specs.Built.{reads_stdin}
+use Rattle.query_text.specs.Stdin.{names_in}
+use Rattle.standard_input.specs.Streams.{input_logs}
+use Rattle.logparser_cli.specs.Logs.{AreListed, AreLogs, AreLogsOf, AreSpans, IsUnlisted, from_names, unlisted}
 use Rattle.logparser_cli.specs.Whole.{OnWhole}
 
 pub spans_of : (before now : Option Folder) (logs : List NameLength) (spans : List Span) → spans ≡ whole_spans logs → All (IsLength before now) logs → AllSpans spans IsSpan
@@ -76,19 +77,47 @@ length_earlier : (before mid now : Option Folder) → OnlyGrow before mid → (l
 length_earlier before mid now grow log is = record { least = least_earlier before mid log grow is.least; most = is.most; bounded = is.bounded }
 
 -- listed logs stay so while they grow
-pub logs_later : (before mid now : Option Folder) (q : model.Query) (logs : List NameLength) → OnlyGrow mid now → AreLogs before mid q logs → AreLogs before now q logs
-logs_later before mid now q logs grow are = record {
+listed_later : (before mid now : Option Folder) (q : model.Query) (logs : List NameLength) → OnlyGrow mid now → AreListed before mid q logs → AreListed before now q logs
+listed_later before mid now q logs grow are = record {
   listed = lists_grown mid now (from_names q) (listed_names logs) grow are.listed;
   lengths = All-weaker (IsLength before mid) (IsLength before now) (length_later before mid now grow) logs are.lengths;
   few = are.few;
 }
 
-pub logs_earlier : (before mid now : Option Folder) (q : model.Query) (logs : List NameLength) → OnlyGrow before mid → AreLogs mid now q logs → AreLogs before now q logs
-logs_earlier before mid now q logs grow are = record {
+listed_earlier : (before mid now : Option Folder) (q : model.Query) (logs : List NameLength) → OnlyGrow before mid → AreListed mid now q logs → AreListed before now q logs
+listed_earlier before mid now q logs grow are = record {
   listed = are.listed;
   lengths = All-weaker (IsLength mid now) (IsLength before now) (length_earlier before mid now grow) logs are.lengths;
   few = are.few;
 }
+
+-- standard input is what it is
+logs_later_of : (stdin : Bool) (before mid now : Option Folder) (q : model.Query) (logs : List NameLength) → OnlyGrow mid now → AreLogsOf stdin before mid q logs → AreLogsOf stdin before now q logs
+logs_later_of false before mid now q logs grow are = listed_later before mid now q logs grow are
+logs_later_of true before mid now q logs grow are = are
+
+pub logs_later : (before mid now : Option Folder) (q : model.Query) (logs : List NameLength) → OnlyGrow mid now → AreLogs before mid q logs → AreLogs before now q logs
+logs_later before mid now q logs grow are = logs_later_of (reads_stdin (names_in q)) before mid now q logs grow are
+
+logs_earlier_of : (stdin : Bool) (before mid now : Option Folder) (q : model.Query) (logs : List NameLength) → OnlyGrow before mid → AreLogsOf stdin mid now q logs → AreLogsOf stdin before now q logs
+logs_earlier_of false before mid now q logs grow are = listed_earlier before mid now q logs grow are
+logs_earlier_of true before mid now q logs grow are = are
+
+pub logs_earlier : (before mid now : Option Folder) (q : model.Query) (logs : List NameLength) → OnlyGrow before mid → AreLogs mid now q logs → AreLogs before now q logs
+logs_earlier before mid now q logs grow are = logs_earlier_of (reads_stdin (names_in q)) before mid now q logs grow are
+
+-- the logs of a query that reads no standard input are those that its names list
+pub are_listed : (before now : Option Folder) (q : model.Query) (logs : List NameLength) → reads_stdin (names_in q) ≡ false → AreLogs before now q logs → AreListed before now q logs
+are_listed before now q logs files are = subst (λ (stdin : Bool). AreLogsOf stdin before now q logs) files are
+
+pub from_listed : (before now : Option Folder) (q : model.Query) (logs : List NameLength) → reads_stdin (names_in q) ≡ false → AreListed before now q logs → AreLogs before now q logs
+from_listed before now q logs files are = subst (λ (stdin : Bool). AreLogsOf stdin before now q logs) (sym files) are
+
+-- what is read of standard input
+pub from_input : (before now : Option Folder) (q : model.Query) (spans : List Span) → reads_stdin (names_in q) ≡ true → spans ≡ whole_spans input_logs → AreSpans before now q spans
+from_input before now q spans stdin wholes =
+    let none : input_logs ≡ input_logs = refl in
+    record { logs = input_logs; are_logs = subst (λ (b : Bool). AreLogsOf b before now q input_logs) (sym stdin) none; wholes = wholes }
 
 pub is_unlisted : (now : Option Folder) (q : model.Query) (fault : ListFault) → IsRefused now (from_names q) fault → IsUnlisted now q (unlisted fault)
 is_unlisted now q (L.BadName fault) refused = refused
@@ -103,8 +132,3 @@ logs_failed (L.NoSuchLog name) e = absurd (cc)
 logs_failed L.TooManyLogs e = absurd (cc)
 logs_failed L.Logs e = refl
 logs_failed L.Memory e = absurd (cc)
-
--- the FROM names of a query as it stands in memory
-pub names_behind : (q : Query) → map (λ (name : model.Placed). name.text) (placed_all (out-Query q).names) ≡ from_names (query_of q)
-unfolding out-Query denote.Hole.Carrier.out
-names_behind (Query' top distinct star items aliases into names condition keys rollup having order descending subqueries) = refl

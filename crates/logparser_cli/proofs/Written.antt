@@ -1,5 +1,5 @@
 -- What an output has gained as a stage, told of standard output and of files.
-use Rattle.std.proofs.Common.{◌≡◌, ℕ, ℤ, true, false, true≢false, not, Bool, List, [], map, Option, Some, None, subst, sym, refl, ◌∙◌, ap, arith}
+use Rattle.std.proofs.Common.{◌≡◌, ℕ, ℤ, true, false, true≢false, not, Bool, List, map, Option, Some, None, subst, sym, refl, ◌∙◌, ap, arith}
 use Rattle.std.specs.Prelude.{is_some, if◌then◌else◌}
 use Rattle.disk_model.specs.Disk.{DiskState, Files as Contents}
 use Rattle.grammar.specs.Trees as model
@@ -9,7 +9,6 @@ use Rattle.file_stage.specs.declared.putting.FileStage.{FileStage}
 use Rattle.log_reading.specs.declared.span.Span.{Span}
 use Rattle.lp_outside.specs.declared.stage.Mark.{Mark}
 use Rattle.lp_outside.specs.Streams.{stream_state}
-use Rattle.multiplex.specs.Splitting.{output_names}
 use Rattle.order_top.specs.Finish.{Row}
 use Rattle.query_types.specs.Planned.{Planned}
 use Rattle.row_output.specs.Asked.{AreGood, Asked, Files, OutputText, left_of, text_in}
@@ -17,7 +16,7 @@ use Rattle.row_output.specs.Rows.{Holds, HoldsAt, Stops, StopsAt}
 use Rattle.text_output.specs.Output.{kind_of}
 use Rattle.text_output.specs.declared.target.Output.{Output}
 use Rattle.tpl_output.specs.Sections.{Sections}
-use Rattle.execution.specs.Outputs.{asked_in, files_named, files_of, forbidden_by, is_standard, is_stdout}
+use Rattle.execution.specs.Outputs.{asked_in, files_named, forbidden_by, is_standard, is_stdout}
 use Rattle.execution.specs.Texts.{into_in}
 use Rattle.logparser_cli.specs.Outputs.{AreCut, AreOut, HasFront, HasWritten, IsUnwritten, held}
 use Rattle.logparser_cli.proofs.Filed.{are_left, are_written, file_kind, names_split, seen_by}

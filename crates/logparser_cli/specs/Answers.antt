@@ -1,28 +1,25 @@
 -- What each answer of a run says.
-use Rattle.std.specs.Prelude.{◌≡◌, ◌⊎◌, ℕ, ℤ, Bool, true, false, List}
+use Rattle.std.specs.Prelude.{◌≡◌, ◌⊎◌, ◌+◌, ◌^◌, ℕ, ℤ, Bool, true, false, List, ⊤}
 use Rattle.grammar.specs.Trees as model
 use Rattle.lp_model.specs.Outside.{Rose}
 use Rattle.command_words.specs.declared.spec.Spec.{Spec}
-use Rattle.execution.specs.Built.{all_built}
+use Rattle.execution.specs.Built.{all_built, reads_stdin}
 use Rattle.execution.specs.Executed.{IsMoment}
 use Rattle.execution.specs.Outputs.{is_standard}
 use Rattle.execution.specs.Texts.{into_in}
 use Rattle.log_reading.specs.Spans.{bad_line}
+use Rattle.query_text.specs.Stdin.{names_in}
 use Rattle.query_text.specs.declared.fault.QueryFault.{QueryFault}
 use Rattle.query_text.specs.declared.fault.QueryFault.TheVariants as Q
 use Rattle.reports.specs.declared.status.Status.{Status}
-use Rattle.reports.specs.declared.status.Status.TheVariants.{Done, Memory, Clock, Usage, Query, NotBuilt, NoSuchLog, BadName, NameClash, TooManyOutputs, TooManyLogs, Template, LogsFault, DiskFault, SinkFault, ParseErrors}
+use Rattle.reports.specs.declared.status.Status.TheVariants.{Done, Memory, Clock, Usage, Query, NotBuilt, NoSuchLog, BadName, NameClash, TooManyOutputs, TooManyLogs, Template, InputTooLong, LogsFault, SourceFault, DiskFault, SinkFault, ParseErrors, LostLog, Shrunk, InputChanged, IntoNeeded, LedgerFault}
 use Rattle.requests.specs.Requests.{Asks, IsRefused}
-use Rattle.requests.specs.declared.fault.RequestFault.{RequestFault}
 use Rattle.requests.specs.declared.fault.RequestFault.TheVariants as R
-use Rattle.execution.specs.declared.fault.RunFault.{RunFault}
-use Rattle.execution.specs.declared.fault.RunFault.TheVariants as X
-use Rattle.row_output.specs.declared.fault.Refused.{Refused}
 use Rattle.row_output.specs.declared.fault.Refused.TheVariants as W
 use Rattle.tpl_output.specs.Sections.{Sections}
 use Rattle.logparser_cli.specs.Logs.{IsUnlisted}
 use Rattle.logparser_cli.specs.Templates.{IsTemplate, IsWithoutTemplate}
-use Rattle.logparser_cli.specs.Outputs.{World, IsUnwritten}
+use Rattle.logparser_cli.specs.Outputs.{World, IsUnwritten, input_world}
 use Rattle.logparser_cli.specs.Whole.{IsWhole, IsHalted, IsParseError, IsUnplaced, IsUnplanned}
 
 -- the query's fault is one of its plan
@@ -56,10 +53,40 @@ AnswersRun old new template spec moment q (NameClash name) = IsUnplaced old.fold
 AnswersRun old new template spec moment q TooManyOutputs = IsUnplaced old.folder new.folder old.held new.held template spec moment q W.TooManyOutputs
 AnswersRun old new template spec moment q TooManyLogs = IsWithoutLogs old new q TooManyLogs
 AnswersRun old new template spec moment q (Template fault) = ⊥
+AnswersRun old new template spec moment q InputTooLong = ⊥
 AnswersRun old new template spec moment q LogsFault = IsStopped old new template spec moment q × Rose old.logs_faults new.logs_faults
+AnswersRun old new template spec moment q SourceFault = ⊥
 AnswersRun old new template spec moment q DiskFault = (is_standard (into_in q) ≡ false) × IsStopped old new template spec moment q × Rose old.disk_faults new.disk_faults
 AnswersRun old new template spec moment q SinkFault = (is_standard (into_in q) ≡ true) × IsStopped old new template spec moment q × Rose old.out_faults new.out_faults
 AnswersRun old new template spec moment q (ParseErrors log row) = IsParseError old.folder new.folder old.held new.held template spec moment q (bad_line log row)
+AnswersRun old new template spec moment q (LostLog stem number) = ⊥
+AnswersRun old new template spec moment q (Shrunk lost kept found) = ⊥
+AnswersRun old new template spec moment q (InputChanged kept given) = ⊥
+AnswersRun old new template spec moment q IntoNeeded = ⊥
+AnswersRun old new template spec moment q (LedgerFault part place) = ⊥
+
+-- an answer that tells of no log by its name
+abbrev pub NamesNoLog : Status → Type 0
+NamesNoLog (NoSuchLog name) = ⊥
+NamesNoLog TooManyLogs = ⊥
+NamesNoLog LogsFault = ⊥
+NamesNoLog other = ⊤
+
+-- what an answer says of a run over standard input, which stands where the logs do: the same, but that it couldn't be read, or gave
+-- 2^40 bytes
+abbrev pub AnswersInput : World → World → Sections → Spec → ℤ → model.Query → Status → Type 0
+AnswersInput old new template spec moment q status =
+    NamesNoLog status × AnswersRun (input_world old old) (input_world old new) template spec moment q status
+    ⊎ (status ≡ SourceFault) × IsStopped (input_world old old) (input_world old new) template spec moment q × Rose old.input.faults new.input.faults
+    ⊎ (status ≡ InputTooLong) × IsStopped (input_world old old) (input_world old new) template spec moment q × (new.input.given ≡ old.input.given + 2 ^ 40)
+
+abbrev pub AnswersOf : Bool → World → World → Sections → Spec → ℤ → model.Query → Status → Type 0
+AnswersOf false old new template spec moment q status = AnswersRun old new template spec moment q status
+AnswersOf true old new template spec moment q status = AnswersInput old new template spec moment q status
+
+-- what an answer says of a run over what the query reads
+abbrev pub AnswersOver : World → World → Sections → Spec → ℤ → model.Query → Status → Type 0
+AnswersOver old new template spec moment q status = AnswersOf (reads_stdin (names_in q)) old new template spec moment q status
 
 -- the template isn't read, and nothing was written
 pub record IsUnread (old new : World) (spec : Spec) (q : model.Query) (status : Status) : Type 0 where
@@ -71,7 +98,7 @@ pub record IsUnread (old new : World) (spec : Spec) (q : model.Query) (status : 
 pub record IsRead (old new : World) (spec : Spec) (moment : ℤ) (q : model.Query) (status : Status) : Type 0 where
   pub template : Sections
   pub is_template : IsTemplate old.folder new.folder spec q template
-  pub answers : AnswersRun old new template spec moment q status
+  pub answers : AnswersOver old new template spec moment q status
 
 -- what an answer says of a query that is built
 abbrev pub AnswersBuilt : World → World → Spec → ℤ → model.Query → Status → Type 0
@@ -102,10 +129,17 @@ IsUnasked old new words (NameClash name) = ⊥
 IsUnasked old new words TooManyOutputs = ⊥
 IsUnasked old new words TooManyLogs = ⊥
 IsUnasked old new words (Template fault) = ⊥
+IsUnasked old new words InputTooLong = ⊥
 IsUnasked old new words LogsFault = Rose old.logs_faults new.logs_faults × IsUnwritten old.held new.held
+IsUnasked old new words SourceFault = ⊥
 IsUnasked old new words DiskFault = ⊥
 IsUnasked old new words SinkFault = ⊥
 IsUnasked old new words (ParseErrors log row) = ⊥
+IsUnasked old new words (LostLog stem number) = ⊥
+IsUnasked old new words (Shrunk lost kept found) = ⊥
+IsUnasked old new words (InputChanged kept given) = ⊥
+IsUnasked old new words IntoNeeded = ⊥
+IsUnasked old new words (LedgerFault part place) = ⊥
 
 -- the clock gives no moment
 pub record IsClock (moment : ℤ) (old new : World) (status : Status) : Type 0 where
@@ -113,35 +147,6 @@ pub record IsClock (moment : ℤ) (old new : World) (status : Status) : Type 0 w
   pub none : ¬ IsMoment moment
   pub unwritten : IsUnwritten old.held new.held
 
--- what an answer says of words at a moment
-abbrev pub Answers : ℤ → List (List ℕ) → World → World → Status → Type 0
-Answers moment words old new status = IsClock moment old new status ⊎ IsMoment moment × (IsUnasked old new words status ⊎ Asked moment old new words status)
-
--- what a refusal of the words or the query is
-abbrev pub unasked : RequestFault → Status
-unasked (R.Usage fault) = Usage fault
-unasked (R.BadName fault) = BadName fault
-unasked (R.NoSuchLog name) = NoSuchLog name
-unasked (R.Query fault) = Query fault
-unasked R.Logs = LogsFault
-unasked R.Memory = Memory
-
--- why an output is refused, as an answer
-abbrev pub unplaced : Refused → Status
-unplaced W.TooManyOutputs = TooManyOutputs
-unplaced (W.BadName fault) = BadName fault
-unplaced (W.NameClash name) = NameClash name
-
--- what a failed call of the outputs is: of standard output, or of the disk
-abbrev pub failed_output : Bool → Status
-failed_output true = SinkFault
-failed_output false = DiskFault
-
--- what a run of a query is that stopped, whose rows go to standard output or not
-abbrev pub stopped : Bool → RunFault → Status
-stopped standard (X.Plan fault) = Query (Q.Plan fault)
-stopped standard (X.Refused why) = unplaced why
-stopped standard X.LogsFault = LogsFault
-stopped standard X.StageFault = failed_output standard
-stopped standard (X.ParseErrors log row) = ParseErrors log row
-stopped standard X.Memory = Memory
+-- what an answer says of words at a moment, without a checkpoint
+abbrev pub AnswersPlainly : ℤ → List (List ℕ) → World → World → Status → Type 0
+AnswersPlainly moment words old new status = IsClock moment old new status ⊎ IsMoment moment × (IsUnasked old new words status ⊎ Asked moment old new words status)

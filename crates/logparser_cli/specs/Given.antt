@@ -1,27 +1,14 @@
 -- How many bytes of files a run reads.
-use Rattle.std.specs.Prelude.{◌≡◌, ◌⊎◌, ℕ, List, [], ◌∷◌, ◌++◌, Option, Some, None}
+use Rattle.std.specs.Prelude.{◌≡◌, ◌⊎◌, ℕ, List, [], ◌++◌, Option}
 use Rattle.grammar.specs.Trees as model
 use Rattle.lp_model.specs.Outside.{Folder}
-use Rattle.command_words.specs.declared.formats.OutputFormat.{OutputFormat}
-use Rattle.command_words.specs.declared.formats.OutputFormat.TheVariants as O
 use Rattle.command_words.specs.declared.spec.Spec.{Spec}
 use Rattle.command_words.specs.Words.{query_in}
-use Rattle.execution.specs.Texts.{output_of}
 use Rattle.log_listing.specs.Listed.{Lists}
-use Rattle.requests.specs.Given.{ReadsOnce, file_names, query_files}
+use Rattle.requests.specs.Given.{ReadsOnce, query_files}
 use Rattle.requests.specs.Requests.{Asks}
+use Rattle.checkpointed_command.specs.Given.{template_files}
 use Rattle.logparser_cli.specs.Logs.{from_names}
-
--- the file of the template, where the output is by one
-abbrev pub template_for : OutputFormat → Option (List ℕ) → List (List ℕ)
-template_for O.Nat name = []
-template_for O.Csv name = []
-template_for O.Tsv name = []
-template_for O.W3c name = []
-template_for O.Tpl name = file_names name
-
-abbrev pub template_files : Spec → model.Query → List (List ℕ)
-template_files spec q = template_for (output_of spec q) spec.tpl
 
 -- these are the logs of the FROM names, or none
 abbrev pub AreRead : Option Folder → model.Query → List (List ℕ) → Type 0

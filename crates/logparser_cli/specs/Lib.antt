@@ -4,4 +4,6 @@ pub mod Files
 pub mod Outputs
 pub mod Whole
 pub mod Answers
+pub mod Input
 pub mod Given
+pub mod Kept

@@ -1,8 +1,9 @@
 -- The logs that a query reads.
-use Rattle.std.specs.Prelude.{◌≡◌, ◌≤◌, ℕ, List, length, map, Option, All, ⊤}
+use Rattle.std.specs.Prelude.{◌≡◌, ◌≤◌, ℕ, Bool, true, false, List, length, map, Option, All, ⊤}
 use Rattle.grammar.specs.Trees as model
 use Rattle.lp_model.specs.Outside.{Folder}
 use Rattle.checkpoint.specs.Wholes.{whole_spans}
+use Rattle.execution.specs.Built.{reads_stdin}
 use Rattle.log_listing.specs.declared.lengths.NameLength.{NameLength}
 use Rattle.log_listing.specs.declared.fault.ListFault.{ListFault}
 use Rattle.log_listing.specs.declared.fault.ListFault.TheVariants as L
@@ -11,20 +12,29 @@ use Rattle.log_listing.specs.Lengths.{names_in as listed_names}
 use Rattle.log_listing.specs.Listed.{Lists, IsRefused}
 use Rattle.log_reading.specs.declared.span.Span.{Span}
 use Rattle.query_text.specs.Stdin.{names_in}
+use Rattle.standard_input.specs.Streams.{input_logs}
 use Rattle.reports.specs.declared.status.Status.{Status}
-use Rattle.reports.specs.declared.status.Status.TheVariants.{Done, Memory, Clock, Usage, Query, NotBuilt, NoSuchLog, BadName, NameClash, TooManyOutputs, TooManyLogs, Template, LogsFault, DiskFault, SinkFault, ParseErrors}
+use Rattle.reports.specs.declared.status.Status.TheVariants.{Done, Memory, Clock, Usage, Query, NotBuilt, NoSuchLog, BadName, NameClash, TooManyOutputs, TooManyLogs, Template, InputTooLong, LogsFault, SourceFault, DiskFault, SinkFault, ParseErrors, LostLog, Shrunk, InputChanged, IntoNeeded, LedgerFault}
 
 -- the names behind FROM
 abbrev pub from_names : model.Query → List (List ℕ)
 from_names q = map (λ name. name.text) (names_in q)
 
 -- these are the logs of the FROM names, each with its length at some moment between two
-pub record AreLogs (before now : Option Folder) (q : model.Query) (logs : List NameLength) : Type 0 where
+pub record AreListed (before now : Option Folder) (q : model.Query) (logs : List NameLength) : Type 0 where
   pub listed : Lists now (from_names q) (listed_names logs)
   pub lengths : All (IsLength before now) logs
   pub few : length logs ≤ 100000
 
--- these are the spans of the logs of the FROM names, each whole
+-- these are what a query reads: the logs of its FROM names, or standard input alone
+abbrev pub AreLogsOf : Bool → Option Folder → Option Folder → model.Query → List NameLength → Type 0
+AreLogsOf false before now q logs = AreListed before now q logs
+AreLogsOf true before now q logs = logs ≡ input_logs
+
+abbrev pub AreLogs : Option Folder → Option Folder → model.Query → List NameLength → Type 0
+AreLogs before now q logs = AreLogsOf (reads_stdin (names_in q)) before now q logs
+
+-- these are the spans of what a query reads, each whole
 pub record AreSpans (before now : Option Folder) (q : model.Query) (spans : List Span) : Type 0 where
   pub logs : List NameLength
   pub are_logs : AreLogs before now q logs
@@ -44,10 +54,17 @@ IsUnlisted now q (NameClash name) = ⊥
 IsUnlisted now q TooManyOutputs = ⊥
 IsUnlisted now q TooManyLogs = IsRefused now (from_names q) L.TooManyLogs
 IsUnlisted now q (Template fault) = ⊥
+IsUnlisted now q InputTooLong = ⊥
 IsUnlisted now q LogsFault = ⊤
+IsUnlisted now q SourceFault = ⊥
 IsUnlisted now q DiskFault = ⊥
 IsUnlisted now q SinkFault = ⊥
 IsUnlisted now q (ParseErrors log row) = ⊥
+IsUnlisted now q (LostLog stem number) = ⊥
+IsUnlisted now q (Shrunk lost kept found) = ⊥
+IsUnlisted now q (InputChanged kept given) = ⊥
+IsUnlisted now q IntoNeeded = ⊥
+IsUnlisted now q (LedgerFault part place) = ⊥
 
 -- what a refusal of the list of logs is
 abbrev pub unlisted : ListFault → Status

@@ -1,10 +1,11 @@
 -- What becomes of the rows of a query: what standard output has gained, and what files hold.
-use Rattle.std.specs.Prelude.{◌≡◌, ℕ, Bool, true, false, List, Option, Some, None}
+use Rattle.std.specs.Prelude.{◌≡◌, ℕ, Bool, true, false, List, Option, Some, None, option_map}
 use Rattle.disk_model.specs.Disk.{Files as Contents}
 use Rattle.lp_model.specs.Outside.{Folder, Gains, GainsSome}
 use Rattle.multiplex.specs.Splitting.{output_names}
 use Rattle.order_top.specs.Finish.{Row}
 use Rattle.row_output.specs.Asked.{Asked, AreGood, Files, OutputText, left_of, text_in}
+use Rattle.standard_input.specs.Streams.{stream_files}
 use Rattle.logparser_cli.specs.Files.{AreLeft, AreWritten}
 
 -- what the disk and standard output hold at one moment: the files, where the disk tells them, and what was written
@@ -16,7 +17,16 @@ pub record Held : Type 1 where
 abbrev pub held : Type 0 → Contents → Option (List ℕ) → Held
 held tells files out = record { tells = tells; files = files; out = out }
 
--- what is known of the outside at one moment: the logs' files, what the outputs hold, and how often each has failed
+-- what is known of standard input at one moment: what is left of it, where it tells that, and how many bytes it has given
+pub record Input : Type 0 where
+  pub left : Option (List ℕ)
+  pub given : ℕ
+  pub faults : ℕ
+
+abbrev pub input_at : {I : Type 0} → (I → Option (List ℕ)) → (I → ℕ) → (I → ℕ) → I → Input
+input_at left given faults input = record { left = left input; given = given input; faults = faults input }
+
+-- what is known of the outside at one moment: the logs' files, what the outputs hold, how often each has failed, and standard input
 pub record World : Type 1 where
   pub folder : Option Folder
   pub logs_faults : ℕ
@@ -25,10 +35,28 @@ pub record World : Type 1 where
   pub out_faults : ℕ
   pub err : Option (List ℕ)
   pub err_faults : ℕ
+  pub input : Input
 
-abbrev pub world : Option Folder → ℕ → Held → ℕ → ℕ → Option (List ℕ) → ℕ → World
-world folder logs_faults held disk_faults out_faults err err_faults =
-    record { folder = folder; logs_faults = logs_faults; held = held; disk_faults = disk_faults; out_faults = out_faults; err = err; err_faults = err_faults }
+abbrev pub world : Option Folder → ℕ → Held → ℕ → ℕ → Option (List ℕ) → ℕ → Input → World
+world folder logs_faults held disk_faults out_faults err err_faults input =
+    record { folder = folder; logs_faults = logs_faults; held = held; disk_faults = disk_faults; out_faults = out_faults; err = err; err_faults = err_faults; input = input }
+
+-- a world in which standard input stands where the logs do, as these files, and so many faults of it
+abbrev pub stream_world : Option Folder → ℕ → World → World
+stream_world files faults now = record {
+  folder = files;
+  logs_faults = faults;
+  held = now.held;
+  disk_faults = now.disk_faults;
+  out_faults = now.out_faults;
+  err = now.err;
+  err_faults = now.err_faults;
+  input = now.input;
+}
+
+-- what standard input gives is all that was left of it at the start
+abbrev pub input_world : World → World → World
+input_world start now = stream_world (option_map stream_files start.input.left) now.input.faults now
 
 -- nothing was written
 pub record IsUnwritten (old new : Held) : Type 0 where

@@ -6,10 +6,8 @@ use Rattle.command_words.specs.declared.formats.OutputFormat.TheVariants as O
 use Rattle.command_words.specs.declared.spec.Spec.{Spec}
 use Rattle.execution.specs.Texts.{output_of}
 use Rattle.requests.specs.Templates.{HoldsTemplate, HoldsFault}
-use Rattle.requests.specs.declared.fault.NoTemplate.{NoTemplate}
-use Rattle.requests.specs.declared.fault.NoTemplate.TheVariants as N
 use Rattle.reports.specs.declared.status.Status.{Status}
-use Rattle.reports.specs.declared.status.Status.TheVariants.{Done, Memory, Clock, Usage, Query, NotBuilt, NoSuchLog, BadName, NameClash, TooManyOutputs, TooManyLogs, Template, LogsFault, DiskFault, SinkFault, ParseErrors}
+use Rattle.reports.specs.declared.status.Status.TheVariants.{Done, Memory, Clock, Usage, Query, NotBuilt, NoSuchLog, BadName, NameClash, TooManyOutputs, TooManyLogs, Template, InputTooLong, LogsFault, SourceFault, DiskFault, SinkFault, ParseErrors, LostLog, Shrunk, InputChanged, IntoNeeded, LedgerFault}
 use Rattle.tpl_output.specs.Sections.{Sections}
 
 -- the file that `-tpl` names holds a template of these sections
@@ -36,10 +34,17 @@ IsUntemplated before now name (NameClash clash) = ⊥
 IsUntemplated before now name TooManyOutputs = ⊥
 IsUntemplated before now name TooManyLogs = ⊥
 IsUntemplated before now name (Template fault) = HoldsFault before now name fault
+IsUntemplated before now name InputTooLong = ⊥
 IsUntemplated before now name LogsFault = ⊤
+IsUntemplated before now name SourceFault = ⊥
 IsUntemplated before now name DiskFault = ⊥
 IsUntemplated before now name SinkFault = ⊥
 IsUntemplated before now name (ParseErrors log row) = ⊥
+IsUntemplated before now name (LostLog stem number) = ⊥
+IsUntemplated before now name (Shrunk lost kept found) = ⊥
+IsUntemplated before now name (InputChanged kept given) = ⊥
+IsUntemplated before now name IntoNeeded = ⊥
+IsUntemplated before now name (LedgerFault part place) = ⊥
 
 -- a run whose output is by a template has none
 pub record IsWithoutTemplate (before now : Option Folder) (spec : Spec) (q : model.Query) (status : Status) : Type 0 where
@@ -47,10 +52,3 @@ pub record IsWithoutTemplate (before now : Option Folder) (spec : Spec) (q : mod
   pub name : List ℕ
   pub named : spec.tpl ≡ Some name
   pub refused : IsUntemplated before now name status
-
--- what a refusal of a template is
-abbrev pub untemplated : NoTemplate → Status
-untemplated (N.NoSuchLog name) = NoSuchLog name
-untemplated (N.Fault fault) = Template fault
-untemplated N.Logs = LogsFault
-untemplated N.Memory = Memory

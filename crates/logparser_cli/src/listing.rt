@@ -1,29 +1,20 @@
 // The logs that a query reads.
-ghost use Rattle.std.specs.Prelude.{◌≡◌, ◌≤◌, length, map, IfOk, IfErr, IsErrOf};
+ghost use Rattle.std.specs.Prelude.{◌≡◌, ◌≤◌, false, length, IfOk, IfErr, IsErrOf};
 ghost use Rattle.lp_model.specs.Outside.{OnlyGrow, Rose, Told, bytes_in};
-ghost use Rattle.query_tree.specs.Views.{placed_all, query_of};
+ghost use Rattle.query_tree.specs.Views.{query_of};
+ghost use Rattle.query_text.specs.Stdin.{names_in};
+ghost use Rattle.execution.specs.Built.{reads_stdin};
 ghost use Rattle.log_reading.specs.Spans.{AllSpans, IsSpan};
 ghost use Rattle.reports.specs.declared.status.Status.TheVariants as S;
 ghost use Rattle.logparser_cli.specs.Logs.{AreSpans, IsUnlisted, unlisted};
 
 use checkpoint::{Spans, whole_spans};
+use checkpointed_command::texts_of;
 use log_listing::{ListFault, list_logs};
 use lp_outside::Logs;
-use lp_values::TextList;
-use query_tree::{PlacedList, Query};
+use query_tree::Query;
 use reports::Status;
-use std::alloc::{AllocError, Global};
-
-// The texts of names.
-fn texts_of(alloc: Global, names: &PlacedList) -> Result<TextList, AllocError>
-    ensures { IfOk result (λ texts. texts ≡ map (λ name. name.text) (placed_all names.now)) }
-{
-    let mut texts = TextList::with_capacity(alloc, names.items.len())?;
-    for name in &names.items {
-        texts.push(name.text.copy(alloc)?)?;
-    }
-    Ok(texts)
-}
+use std::alloc::Global;
 
 // What a refusal of the list of logs is.
 fn unlisted(fault: ListFault) -> Status
@@ -44,6 +35,7 @@ pub(crate) fn find_spans<L: Logs>(
     logs: &mut L,
     query: &Query,
 ) -> Result<Spans, Status>
+    requires files { reads_stdin (names_in (query_of query.now)) ≡ false }
     ensures grows { OnlyGrow (L.folder logs.old) (L.folder logs.new) }
     ensures later { L.faults logs.old ≤ L.faults logs.new }
     ensures found { IfOk result (AreSpans (L.folder logs.old) (L.folder logs.new) (query_of query.now)) }

@@ -1,84 +1,45 @@
 // The run.
-ghost use Rattle.std.specs.Prelude.{◌≡◌, ◌≤◌, ℕ, ℤ, true, IsSome};
-ghost use Rattle.lp_model.specs.Outside.{Rose, OnlyGrow};
-ghost use Rattle.command_words.specs.Table.{IsInRange};
+ghost use Rattle.std.specs.Prelude.{◌≡◌, ◌≤◌, ◌++◌, ℕ, List, codes, true, false, Option, None, Some, IsSome};
+ghost use Rattle.lp_model.specs.Outside.{Folder, Rose, OnlyGrow};
+ghost use Rattle.command_words.specs.Table.{IsAsked, IsInRange, checkpoint_of};
+ghost use Rattle.command_words.specs.Usage.{AreFine};
 ghost use Rattle.command_words.specs.declared.formats.OutputFormat.TheVariants as O;
 ghost use Rattle.query_tree.specs.Views.{query_of};
-ghost use Rattle.execution.specs.Built.{all_built};
+ghost use Rattle.query_text.specs.Stdin.{names_in};
+ghost use Rattle.execution.specs.Built.{all_built, reads_stdin};
 ghost use Rattle.execution.specs.Executed.{IsMoment};
 ghost use Rattle.execution.specs.Texts.{output_of, sections_in};
+ghost use Rattle.lp_outside.specs.NameFault.{name_fault};
 ghost use Rattle.file_stage.specs.FileTexts.{AlwaysTells};
+ghost use Rattle.checkpointed_command.specs.Given.{ReadsKept};
 ghost use Rattle.reports.specs.Messages.{message};
 ghost use Rattle.reports.specs.Status.{OnRefused};
-ghost use Rattle.logparser_cli.specs.Answers.{Answers, AnswersBuilt, AnswersQuery, AnswersRun, stopped, unasked, unplaced};
+ghost use Rattle.logparser_cli.specs.Answers.{AnswersBuilt, AnswersInput, AnswersPlainly, AnswersQuery, AnswersRun};
+ghost use Rattle.logparser_cli.specs.Kept.{Answers, AnswersLedger, ReadsLedger};
 ghost use Rattle.logparser_cli.specs.Given.{ReadsLogs, ReadsQuery, ReadsWords};
-ghost use Rattle.logparser_cli.specs.Outputs.{held, world};
+ghost use Rattle.logparser_cli.specs.Input.{AsksNoInput, IsReadOn, stopped_input};
+ghost use Rattle.logparser_cli.specs.Outputs.{held, input_at, world};
 ghost use Rattle.logparser_cli.specs.Whole.{Tells, told_statistics};
 
 use crate::Status;
 use crate::listing::find_spans;
 use crate::template::find_template;
 use crate::writing::write_rows;
+use checkpointed_command::{run_with_checkpoint, stopped, unasked};
 use command_words::Spec;
-use execution::{RunFault, all_built, is_standard};
-use lp_outside::{Disk, Logs, Sink, Source};
+use execution::{RunFault, all_built, is_standard, reads_stdin};
+use lp_outside::{Disk, Logs, Name, Sink, Source};
 use lp_values::TextList;
 use query_run::Counts;
-use query_text::QueryFault;
 use query_tree::Query;
 use reports::{write_message, write_statistics};
-use requests::{RequestFault, read_request};
-use row_output::Refused;
+use requests::{WrittenQuery, read_query_word, read_spec};
+use standard_input::{InputLog, input_spans};
 use std::alloc::Global;
 use std::rc::Rc;
 use tpl_output::Template;
 
 const MOMENTS: i64 = 253402300800;
-
-// What a refusal of the words or the query is.
-fn unasked(fault: RequestFault) -> Status
-    ensures { result ≡ unasked fault }
-{
-    match fault {
-        RequestFault::Usage(fault) => Status::Usage(fault),
-        RequestFault::BadName(fault) => Status::BadName(fault),
-        RequestFault::NoSuchLog(name) => Status::NoSuchLog(name),
-        RequestFault::Query(fault) => Status::Query(fault),
-        RequestFault::Logs => Status::LogsFault,
-        RequestFault::Memory => Status::Memory,
-    }
-}
-
-// Why an output is refused.
-fn unplaced(why: Refused) -> Status
-    ensures { result ≡ unplaced why }
-{
-    match why {
-        Refused::TooManyOutputs => Status::TooManyOutputs,
-        Refused::BadName(fault) => Status::BadName(fault),
-        Refused::NameClash(name) => Status::NameClash(name),
-    }
-}
-
-// What a run of a query is that stopped, whose rows go to standard output or not.
-fn stopped(standard: bool, fault: RunFault) -> Status
-    ensures { result ≡ stopped standard fault }
-{
-    match fault {
-        RunFault::Plan(fault) => Status::Query(QueryFault::Plan(fault)),
-        RunFault::Refused(why) => unplaced(why),
-        RunFault::LogsFault => Status::LogsFault,
-        RunFault::StageFault => {
-            if standard {
-                Status::SinkFault
-            } else {
-                Status::DiskFault
-            }
-        }
-        RunFault::ParseErrors { log, row } => Status::ParseErrors { log, row },
-        RunFault::Memory => Status::Memory,
-    }
-}
 
 // Tells the statistics, unless they are switched off, as far as the output takes them.
 fn tell_statistics<E: Sink>(err: &mut E, stats: bool, counts: &Counts)
@@ -104,6 +65,17 @@ fn tell_refusal<E: Sink>(err: &mut E, status: &Status)
     }
 }
 
+// What a fault is as an answer, where standard input stands in the place of the logs.
+fn stopped_input(is_standard: bool, is_too_long: bool, fault: RunFault) -> Status
+    ensures { result ≡ stopped_input is_standard is_too_long fault }
+{
+    match fault {
+        RunFault::LogsFault if is_too_long => Status::InputTooLong,
+        RunFault::LogsFault => Status::SourceFault,
+        fault => stopped(is_standard, fault),
+    }
+}
+
 // Runs a query over the logs of its FROM names, before a refusal is told.
 fn run_logs<L: Logs, D: Disk, I: Source, S: Sink, E: Sink>(
     alloc: Global,
@@ -121,6 +93,7 @@ fn run_logs<L: Logs, D: Disk, I: Source, S: Sink, E: Sink>(
     requires range { IsInRange spec.now }
     requires template { output_of spec.now (query_of query.now) ≡ O.Tpl → IsSome template }
     requires built { all_built spec.now (query_of query.now) ≡ true }
+    requires files { reads_stdin (names_in (query_of query.now)) ≡ false }
     ensures grows { OnlyGrow (L.folder logs.old) (L.folder logs.new) }
     ensures later { L.faults logs.old ≤ L.faults logs.new }
     ensures honest { (D.state disk.old).honest → (D.state disk.new).honest }
@@ -128,8 +101,8 @@ fn run_logs<L: Logs, D: Disk, I: Source, S: Sink, E: Sink>(
     ensures later_out { S.faults out.old ≤ S.faults out.new }
     ensures later_err { E.faults err.old ≤ E.faults err.new }
     ensures answers { AnswersRun
-        (world (L.folder logs.old) (L.faults logs.old) (held (AlwaysTells D.state) (D.state disk.old).seen (S.written out.old)) (D.faults disk.old) (S.faults out.old) (E.written err.old) (E.faults err.old))
-        (world (L.folder logs.new) (L.faults logs.new) (held (AlwaysTells D.state) (D.state disk.new).seen (S.written out.new)) (D.faults disk.new) (S.faults out.new) (E.written err.new) (E.faults err.new))
+        (world (L.folder logs.old) (L.faults logs.old) (held (AlwaysTells D.state) (D.state disk.old).seen (S.written out.old)) (D.faults disk.old) (S.faults out.old) (E.written err.old) (E.faults err.old) (input_at I.left I.given I.faults input.old))
+        (world (L.folder logs.new) (L.faults logs.new) (held (AlwaysTells D.state) (D.state disk.new).seen (S.written out.new)) (D.faults disk.new) (S.faults out.new) (E.written err.new) (E.faults err.new) (input_at I.left I.given I.faults input.new))
         (sections_in (λ t. t.value) template) spec.now moment (query_of query.now) result }
     ensures given { ReadsLogs (L.folder logs.new) (query_of query.now) (L.given logs.old) (L.given logs.new) }
     ensures input { input.new ≡ input.old }
@@ -140,13 +113,59 @@ fn run_logs<L: Logs, D: Disk, I: Source, S: Sink, E: Sink>(
         Err(status) => return status,
     };
     match write_rows(
-        alloc, spec, query, template, moment, logs, disk, input, &spans, out,
+        alloc, spec, query, template, moment, logs, disk, &spans, out,
     ) {
         Ok(ran) => {
             tell_statistics(err, spec.stats, &ran.counts);
             Status::Done
         }
         Err(fault) => stopped(is_standard(query), fault),
+    }
+}
+
+// Runs a query over standard input, before a refusal is told.
+fn run_input<D: Disk, I: Source, S: Sink, E: Sink>(
+    alloc: Global,
+    spec: &Spec,
+    query: &Query,
+    template: Option<Rc<Template>>,
+    moment: i64,
+    disk: &mut D,
+    input: &mut I,
+    out: &mut S,
+    err: &mut E,
+) -> Status
+    requires moment { IsMoment moment }
+    requires range { IsInRange spec.now }
+    requires template { output_of spec.now (query_of query.now) ≡ O.Tpl → IsSome template }
+    requires built { all_built spec.now (query_of query.now) ≡ true }
+    requires stdin { reads_stdin (names_in (query_of query.now)) ≡ true }
+    ensures honest { (D.state disk.old).honest → (D.state disk.new).honest }
+    ensures later_disk { D.faults disk.old ≤ D.faults disk.new }
+    ensures later_out { S.faults out.old ≤ S.faults out.new }
+    ensures later_err { E.faults err.old ≤ E.faults err.new }
+    ensures answers { (folder : Option Folder) (faults : ℕ) → AnswersInput
+        (world folder faults (held (AlwaysTells D.state) (D.state disk.old).seen (S.written out.old)) (D.faults disk.old) (S.faults out.old) (E.written err.old) (E.faults err.old) (input_at I.left I.given I.faults input.old))
+        (world folder faults (held (AlwaysTells D.state) (D.state disk.new).seen (S.written out.new)) (D.faults disk.new) (S.faults out.new) (E.written err.new) (E.faults err.new) (input_at I.left I.given I.faults input.new))
+        (sections_in (λ t. t.value) template) spec.now moment (query_of query.now) result }
+    ensures read { IsReadOn (input_at I.left I.given I.faults input.old) (input_at I.left I.given I.faults input.new) }
+    ensures silent { OnRefused result (err.new ≡ err.old) }
+{
+    let Ok(spans) = input_spans(alloc) else {
+        return Status::Memory;
+    };
+    let mut log = InputLog::new(input);
+    let written = write_rows(
+        alloc, spec, query, template, moment, &mut log, disk, &spans, out,
+    );
+    let is_too_long = log.is_too_long();
+    drop(log);
+    match written {
+        Ok(ran) => {
+            tell_statistics(err, spec.stats, &ran.counts);
+            Status::Done
+        }
+        Err(fault) => stopped_input(is_standard(query), is_too_long, fault),
     }
 }
 
@@ -172,20 +191,25 @@ fn run_built<L: Logs, D: Disk, I: Source, S: Sink, E: Sink>(
     ensures later_out { S.faults out.old ≤ S.faults out.new }
     ensures later_err { E.faults err.old ≤ E.faults err.new }
     ensures answers { AnswersBuilt
-        (world (L.folder logs.old) (L.faults logs.old) (held (AlwaysTells D.state) (D.state disk.old).seen (S.written out.old)) (D.faults disk.old) (S.faults out.old) (E.written err.old) (E.faults err.old))
-        (world (L.folder logs.new) (L.faults logs.new) (held (AlwaysTells D.state) (D.state disk.new).seen (S.written out.new)) (D.faults disk.new) (S.faults out.new) (E.written err.new) (E.faults err.new))
+        (world (L.folder logs.old) (L.faults logs.old) (held (AlwaysTells D.state) (D.state disk.old).seen (S.written out.old)) (D.faults disk.old) (S.faults out.old) (E.written err.old) (E.faults err.old) (input_at I.left I.given I.faults input.old))
+        (world (L.folder logs.new) (L.faults logs.new) (held (AlwaysTells D.state) (D.state disk.new).seen (S.written out.new)) (D.faults disk.new) (S.faults out.new) (E.written err.new) (E.faults err.new) (input_at I.left I.given I.faults input.new))
         spec.now moment (query_of query.now) result }
     ensures given { ReadsQuery (L.folder logs.new) spec.now (query_of query.now) (L.given logs.old) (L.given logs.new) }
-    ensures input { input.new ≡ input.old }
+    ensures input { reads_stdin (names_in (query_of query.now)) ≡ false → input.new ≡ input.old }
+    ensures read { IsReadOn (input_at I.left I.given I.faults input.old) (input_at I.left I.given I.faults input.new) }
     ensures silent { OnRefused result (err.new ≡ err.old) }
 {
     let template = match find_template(alloc, logs, spec, query) {
         Ok(template) => template,
         Err(status) => return status,
     };
-    run_logs(
-        alloc, spec, query, template, moment, logs, disk, input, out, err,
-    )
+    if reads_stdin(&query.names) {
+        run_input(alloc, spec, query, template, moment, disk, input, out, err)
+    } else {
+        run_logs(
+            alloc, spec, query, template, moment, logs, disk, input, out, err,
+        )
+    }
 }
 
 // Runs a query, before a refusal is told.
@@ -209,17 +233,88 @@ fn run_query<L: Logs, D: Disk, I: Source, S: Sink, E: Sink>(
     ensures later_out { S.faults out.old ≤ S.faults out.new }
     ensures later_err { E.faults err.old ≤ E.faults err.new }
     ensures answers { AnswersQuery
-        (world (L.folder logs.old) (L.faults logs.old) (held (AlwaysTells D.state) (D.state disk.old).seen (S.written out.old)) (D.faults disk.old) (S.faults out.old) (E.written err.old) (E.faults err.old))
-        (world (L.folder logs.new) (L.faults logs.new) (held (AlwaysTells D.state) (D.state disk.new).seen (S.written out.new)) (D.faults disk.new) (S.faults out.new) (E.written err.new) (E.faults err.new))
+        (world (L.folder logs.old) (L.faults logs.old) (held (AlwaysTells D.state) (D.state disk.old).seen (S.written out.old)) (D.faults disk.old) (S.faults out.old) (E.written err.old) (E.faults err.old) (input_at I.left I.given I.faults input.old))
+        (world (L.folder logs.new) (L.faults logs.new) (held (AlwaysTells D.state) (D.state disk.new).seen (S.written out.new)) (D.faults disk.new) (S.faults out.new) (E.written err.new) (E.faults err.new) (input_at I.left I.given I.faults input.new))
         spec.now moment (query_of query.now) result }
     ensures given { ReadsQuery (L.folder logs.new) spec.now (query_of query.now) (L.given logs.old) (L.given logs.new) }
-    ensures input { input.new ≡ input.old }
+    ensures input { reads_stdin (names_in (query_of query.now)) ≡ false → input.new ≡ input.old }
+    ensures read { IsReadOn (input_at I.left I.given I.faults input.old) (input_at I.left I.given I.faults input.new) }
     ensures silent { OnRefused result (err.new ≡ err.old) }
 {
     if all_built(spec, query) {
         run_built(alloc, spec, query, moment, logs, disk, input, out, err)
     } else {
         Status::NotBuilt
+    }
+}
+
+// Does what the words ask for without a checkpoint, before a refusal is told. It speaks of all words that ask for these options.
+fn run_plainly<L: Logs, D: Disk, I: Source, S: Sink, E: Sink>(
+    alloc: Global,
+    spec: &Spec,
+    moment: i64,
+    logs: &mut L,
+    disk: &mut D,
+    input: &mut I,
+    out: &mut S,
+    err: &mut E,
+) -> Status
+    requires moment { IsMoment moment }
+    requires range { IsInRange spec.now }
+    ensures answers { (words : List (List ℕ)) → AreFine words → IsAsked words spec.now → AnswersPlainly moment words
+        (world (L.folder logs.old) (L.faults logs.old) (held (AlwaysTells D.state) (D.state disk.old).seen (S.written out.old)) (D.faults disk.old) (S.faults out.old) (E.written err.old) (E.faults err.old) (input_at I.left I.given I.faults input.old))
+        (world (L.folder logs.new) (L.faults logs.new) (held (AlwaysTells D.state) (D.state disk.new).seen (S.written out.new)) (D.faults disk.new) (S.faults out.new) (E.written err.new) (E.faults err.new) (input_at I.left I.given I.faults input.new))
+        result }
+    ensures grows { OnlyGrow (L.folder logs.old) (L.folder logs.new) }
+    ensures later { L.faults logs.old ≤ L.faults logs.new }
+    ensures honest { (D.state disk.old).honest → (D.state disk.new).honest }
+    ensures later_disk { D.faults disk.old ≤ D.faults disk.new }
+    ensures later_out { S.faults out.old ≤ S.faults out.new }
+    ensures later_err { E.faults err.old ≤ E.faults err.new }
+    ensures given { (words : List (List ℕ)) → AreFine words → IsAsked words spec.now → ReadsWords (L.folder logs.old) (L.folder logs.new) words (L.given logs.old) (L.given logs.new) }
+    ensures input { (words : List (List ℕ)) → AreFine words → IsAsked words spec.now → AsksNoInput (L.folder logs.old) (L.folder logs.new) words → input.new ≡ input.old }
+    ensures read { IsReadOn (input_at I.left I.given I.faults input.old) (input_at I.left I.given I.faults input.new) }
+    ensures silent { OnRefused result (err.new ≡ err.old) }
+{
+    match read_query_word(alloc, logs, spec.query.as_str()) {
+        Ok(WrittenQuery { query, text: _ }) => {
+            let status = run_query(alloc, spec, &query, moment, logs, disk, input, out, err);
+            drop(query);
+            status
+        }
+        Err(fault) => unasked(fault),
+    }
+}
+
+// Does what the words ask for with a checkpoint, before a refusal is told.
+fn run_kept<L: Logs, D: Disk, E: Sink>(
+    alloc: Global,
+    spec: &Spec,
+    ledger: &Name,
+    moment: i64,
+    logs: &mut L,
+    disk: &mut D,
+    err: &mut E,
+) -> Status
+    requires moment { IsMoment moment }
+    requires range { IsInRange spec.now }
+    requires ledger { spec.now.checkpoint ≡ Some ledger.now }
+    requires stage { name_fault (ledger.now ++ codes ".stage") ≡ None }
+    ensures now { IsMoment moment }
+    ensures grows { OnlyGrow (L.folder logs.old) (L.folder logs.new) }
+    ensures later { L.faults logs.old ≤ L.faults logs.new }
+    ensures later_disk { D.faults disk.old ≤ D.faults disk.new }
+    ensures later_err { E.faults err.old ≤ E.faults err.new }
+    ensures answers { AnswersLedger D.state disk.old disk.new spec.now ledger.now moment (L.folder logs.old) (L.folder logs.new) (E.written err.old) (E.written err.new) (Rose (L.faults logs.old) (L.faults logs.new)) (Rose (D.faults disk.old) (D.faults disk.new)) (Rose (E.faults err.old) (E.faults err.new)) result }
+    ensures given { ReadsKept D.state disk.old ledger.now (ledger.now ++ codes ".stage") (L.folder logs.old) (L.folder logs.new) spec.now (L.given logs.old) (L.given logs.new) }
+    ensures silent { OnRefused result (err.new ≡ err.old) }
+{
+    match run_with_checkpoint(alloc, spec, ledger, moment, logs, disk) {
+        Ok(counts) => {
+            tell_statistics(err, spec.stats, &counts);
+            Status::Done
+        }
+        Err(status) => status,
     }
 }
 
@@ -234,41 +329,37 @@ fn run_words<L: Logs, D: Disk, I: Source, S: Sink, E: Sink>(
     out: &mut S,
     err: &mut E,
 ) -> Status
-    ensures answers { Answers moment words.now
-        (world (L.folder logs.old) (L.faults logs.old) (held (AlwaysTells D.state) (D.state disk.old).seen (S.written out.old)) (D.faults disk.old) (S.faults out.old) (E.written err.old) (E.faults err.old))
-        (world (L.folder logs.new) (L.faults logs.new) (held (AlwaysTells D.state) (D.state disk.new).seen (S.written out.new)) (D.faults disk.new) (S.faults out.new) (E.written err.new) (E.faults err.new))
+    ensures answers { Answers D.state disk.old disk.new moment words.now
+        (world (L.folder logs.old) (L.faults logs.old) (held (AlwaysTells D.state) (D.state disk.old).seen (S.written out.old)) (D.faults disk.old) (S.faults out.old) (E.written err.old) (E.faults err.old) (input_at I.left I.given I.faults input.old))
+        (world (L.folder logs.new) (L.faults logs.new) (held (AlwaysTells D.state) (D.state disk.new).seen (S.written out.new)) (D.faults disk.new) (S.faults out.new) (E.written err.new) (E.faults err.new) (input_at I.left I.given I.faults input.new))
         result }
     ensures grows { OnlyGrow (L.folder logs.old) (L.folder logs.new) }
     ensures later { L.faults logs.old ≤ L.faults logs.new }
-    ensures honest { (D.state disk.old).honest → (D.state disk.new).honest }
+    ensures honest { checkpoint_of words.now ≡ None → (D.state disk.old).honest → (D.state disk.new).honest }
     ensures later_disk { D.faults disk.old ≤ D.faults disk.new }
     ensures later_out { S.faults out.old ≤ S.faults out.new }
     ensures later_err { E.faults err.old ≤ E.faults err.new }
-    ensures given { ReadsWords (L.folder logs.old) (L.folder logs.new) words.now (L.given logs.old) (L.given logs.new) }
-    ensures input { input.new ≡ input.old }
+    ensures given { checkpoint_of words.now ≡ None → ReadsWords (L.folder logs.old) (L.folder logs.new) words.now (L.given logs.old) (L.given logs.new) }
+    ensures kept { IsSome (checkpoint_of words.now) → ReadsLedger D.state disk.old (L.folder logs.old) (L.folder logs.new) words.now (L.given logs.old) (L.given logs.new) }
+    ensures input { AsksNoInput (L.folder logs.old) (L.folder logs.new) words.now → input.new ≡ input.old }
+    ensures read { IsReadOn (input_at I.left I.given I.faults input.old) (input_at I.left I.given I.faults input.new) }
     ensures silent { OnRefused result (err.new ≡ err.old) }
 {
     if moment < 0 || moment >= MOMENTS {
         return Status::Clock(moment);
     }
-    match read_request(alloc, words, logs) {
-        Ok(request) => {
-            let status = run_query(
-                alloc,
-                &request.spec,
-                &request.query,
-                moment,
-                logs,
-                disk,
-                input,
-                out,
-                err,
-            );
-            drop(request);
-            status
-        }
-        Err(fault) => unasked(fault),
+    let spec = match read_spec(alloc, words) {
+        Ok(spec) => spec,
+        Err(fault) => return unasked(fault),
+    };
+    if let Some(ledger) = &spec.checkpoint {
+        let status = run_kept(alloc, &spec, ledger, moment, logs, disk, err);
+        drop(spec);
+        return status;
     }
+    let status = run_plainly(alloc, &spec, moment, logs, disk, input, out, err);
+    drop(spec);
+    status
 }
 
 /// Does all that the words ask for, as the clock's whole seconds since 1970 are `moment`.
@@ -278,8 +369,8 @@ fn run_words<L: Logs, D: Disk, I: Source, S: Sink, E: Sink>(
 /// wants it, and no other file changed. `err` has gained the statistics; at every refusal it has gained its message. Of either
 /// `err` holds the front where it failed. A refusal behind the first row leaves the front of the text on `out`, or any part of
 /// theirs in the files of INTO. An output by a template is by the sections of the file that `-tpl` names, which is read before
-/// the logs are listed. `input` is left as it is. Of the query's file, the template and each log no more bytes are read than it
-/// has at the end.
+/// the logs are listed. Where STDIN is the one name behind FROM, `input` stands in the place of the logs, and is read from its front
+/// on; else it is left as it is. Of the query's file, the template and each log no more bytes are read than it has at the end.
 pub fn run<L: Logs, D: Disk, I: Source, S: Sink, E: Sink>(
     alloc: Global,
     words: &TextList,
@@ -290,19 +381,21 @@ pub fn run<L: Logs, D: Disk, I: Source, S: Sink, E: Sink>(
     out: &mut S,
     err: &mut E,
 ) -> Status
-    ensures answers { Answers moment words.now
-        (world (L.folder logs.old) (L.faults logs.old) (held (AlwaysTells D.state) (D.state disk.old).seen (S.written out.old)) (D.faults disk.old) (S.faults out.old) (E.written err.old) (E.faults err.old))
-        (world (L.folder logs.new) (L.faults logs.new) (held (AlwaysTells D.state) (D.state disk.new).seen (S.written out.new)) (D.faults disk.new) (S.faults out.new) (E.written err.new) (E.faults err.new))
+    ensures answers { Answers D.state disk.old disk.new moment words.now
+        (world (L.folder logs.old) (L.faults logs.old) (held (AlwaysTells D.state) (D.state disk.old).seen (S.written out.old)) (D.faults disk.old) (S.faults out.old) (E.written err.old) (E.faults err.old) (input_at I.left I.given I.faults input.old))
+        (world (L.folder logs.new) (L.faults logs.new) (held (AlwaysTells D.state) (D.state disk.new).seen (S.written out.new)) (D.faults disk.new) (S.faults out.new) (E.written err.new) (E.faults err.new) (input_at I.left I.given I.faults input.new))
         result }
     ensures told { OnRefused result (Tells (E.written err.old) (E.written err.new) (message result) (Rose (E.faults err.old) (E.faults err.new))) }
     ensures grows { OnlyGrow (L.folder logs.old) (L.folder logs.new) }
     ensures later { L.faults logs.old ≤ L.faults logs.new }
-    ensures honest { (D.state disk.old).honest → (D.state disk.new).honest }
+    ensures honest { checkpoint_of words.now ≡ None → (D.state disk.old).honest → (D.state disk.new).honest }
     ensures later_disk { D.faults disk.old ≤ D.faults disk.new }
     ensures later_out { S.faults out.old ≤ S.faults out.new }
     ensures later_err { E.faults err.old ≤ E.faults err.new }
-    ensures given { ReadsWords (L.folder logs.old) (L.folder logs.new) words.now (L.given logs.old) (L.given logs.new) }
-    ensures input { input.new ≡ input.old }
+    ensures given { checkpoint_of words.now ≡ None → ReadsWords (L.folder logs.old) (L.folder logs.new) words.now (L.given logs.old) (L.given logs.new) }
+    ensures kept { IsSome (checkpoint_of words.now) → ReadsLedger D.state disk.old (L.folder logs.old) (L.folder logs.new) words.now (L.given logs.old) (L.given logs.new) }
+    ensures input { AsksNoInput (L.folder logs.old) (L.folder logs.new) words.now → input.new ≡ input.old }
+    ensures read { IsReadOn (input_at I.left I.given I.faults input.old) (input_at I.left I.given I.faults input.new) }
 {
     match run_words(alloc, words, moment, logs, disk, input, out, err) {
         Status::Done => Status::Done,

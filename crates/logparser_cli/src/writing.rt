@@ -1,11 +1,11 @@
 // The rows of a query to standard output, or to files.
 ghost use Rattle.std.specs.Prelude.{◌≡◌, ◌≤◌, ◌+◌, true, false, length, IfOk, IsSome, OnErr, IsErrOf};
-ghost use Rattle.lp_model.specs.Outside.{Rose, OnlyGrow, Told, bytes_in};
+ghost use Rattle.lp_model.specs.Outside.{Rose, OnlyGrow};
 ghost use Rattle.command_words.specs.Table.{IsInRange};
 ghost use Rattle.command_words.specs.declared.formats.OutputFormat.TheVariants as O;
 ghost use Rattle.file_stage.specs.FileTexts.{AlwaysTells};
 ghost use Rattle.log_reading.specs.Page.{IsWithin};
-ghost use Rattle.log_reading.specs.Spans.{AllSpans, IsSpan, spans_size};
+ghost use Rattle.log_reading.specs.Spans.{AllSpans, AreReadable, IsSpan, spans_size};
 ghost use Rattle.query_tree.specs.Views.{query_of};
 ghost use Rattle.execution.specs.Built.{all_built};
 ghost use Rattle.execution.specs.Executed.{IsMoment, IsExecuted, IsParseError, IsStopped, IsUnplaced, IsUnplanned, IsUntouched};
@@ -19,14 +19,15 @@ use checkpoint::Spans;
 use command_words::Spec;
 use execution::{Ran, RunFault, execute, is_standard};
 use file_stage::FileStage;
-use lp_outside::{Disk, Logs, Sink, Source};
+use log_reading::LogSource;
+use lp_outside::{Disk, Sink};
 use query_tree::Query;
 use std::alloc::Global;
 use std::rc::Rc;
 use tpl_output::Template;
 
 /// Runs a query over spans of logs. Its rows go to standard output, and then the disk is left as it is, or to files.
-pub(crate) fn write_rows<L: Logs, D: Disk, I: Source, S: Sink>(
+pub(crate) fn write_rows<L: LogSource, D: Disk, S: Sink>(
     alloc: Global,
     spec: &Spec,
     query: &Query,
@@ -34,7 +35,6 @@ pub(crate) fn write_rows<L: Logs, D: Disk, I: Source, S: Sink>(
     moment: i64,
     logs: &mut L,
     disk: &mut D,
-    input: &mut I,
     spans: &Spans,
     out: &mut S,
 ) -> Result<Ran, RunFault>
@@ -44,8 +44,9 @@ pub(crate) fn write_rows<L: Logs, D: Disk, I: Source, S: Sink>(
     requires built { all_built spec.now (query_of query.now) ≡ true }
     requires few { length spans.now ≤ 100000 }
     requires spans { AllSpans spans.now IsSpan }
-    requires there { Told (L.folder logs.old) (λ folder. AllSpans spans.now (λ span. span.listed ≤ length (bytes_in folder span.name))) }
+    requires readable { AreReadable L.folder L.ready logs.old spans.now }
     ensures grows { OnlyGrow (L.folder logs.old) (L.folder logs.new) }
+    ensures goes_logs { L.goes logs.old logs.new }
     ensures ran { IfOk result (λ ran. IsExecuted (log_format spec.now (query_of query.now)) false (L.folder logs.new) (HasWritten (held (AlwaysTells D.state) (D.state disk.old).seen (S.written out.old)) (held (AlwaysTells D.state) (D.state disk.new).seen (S.written out.new))) (asked_in spec.now (sections_in (λ t. t.value) template) moment (query_of query.now) spans.now) spec.now moment (query_of query.now) spans.now ran.counts) }
     ensures within { IfOk result (λ ran. IsWithin spec.now.errors ran.counts.bad) }
     ensures stopped { OnErr result (IsStopped (log_format spec.now (query_of query.now)) false (L.folder logs.new) (IsUnwritten (held (AlwaysTells D.state) (D.state disk.old).seen (S.written out.old)) (held (AlwaysTells D.state) (D.state disk.new).seen (S.written out.new))) (HasFront (held (AlwaysTells D.state) (D.state disk.old).seen (S.written out.old)) (held (AlwaysTells D.state) (D.state disk.new).seen (S.written out.new))) (asked_in spec.now (sections_in (λ t. t.value) template) moment (query_of query.now) spans.now) spec.now moment (query_of query.now) spans.now) }
@@ -53,7 +54,6 @@ pub(crate) fn write_rows<L: Logs, D: Disk, I: Source, S: Sink>(
     ensures plan { IfPlan result (IsUnplanned (log_format spec.now (query_of query.now)) false (L.folder logs.new) spec.now moment (query_of query.now) spans.now) }
     ensures before { IfPlan result (λ fault. IsUntouched (log_format spec.now (query_of query.now)) false (L.folder logs.new) (IsUnwritten (held (AlwaysTells D.state) (D.state disk.old).seen (S.written out.old)) (held (AlwaysTells D.state) (D.state disk.new).seen (S.written out.new))) spec.now spans.now) }
     ensures parse { IfParse result (IsParseError (log_format spec.now (query_of query.now)) false (L.folder logs.new) spec.now moment (query_of query.now) spans.now) }
-    ensures input { input.new ≡ input.old }
     ensures given { L.given logs.new ≤ L.given logs.old + spans_size spans.now }
     ensures later_logs { L.faults logs.old ≤ L.faults logs.new }
     ensures logs { IsErrOf result RunFault.LogsFault → Rose (L.faults logs.old) (L.faults logs.new) }
@@ -65,11 +65,11 @@ pub(crate) fn write_rows<L: Logs, D: Disk, I: Source, S: Sink>(
     // without a checkpoint a last line without LF is a line too, so none waits
     if is_standard(query) {
         return execute(
-            alloc, spec, query, template, moment, logs, input, spans, false, out,
+            alloc, spec, query, template, moment, logs, spans, false, out,
         );
     }
     let mut stage = FileStage::new(disk);
     execute(
-        alloc, spec, query, template, moment, logs, input, spans, false, &mut stage,
+        alloc, spec, query, template, moment, logs, spans, false, &mut stage,
     )
 }

@@ -1,8 +1,8 @@
 // A plan over spans, by their format.
 ghost use Rattle.std.specs.Prelude.{◌≡◌, ◌≤◌, ◌+◌, ◌++◌, true, length, map, option_map, OnOk, OnErr, IfOk, IfErr, IsErrOf};
-ghost use Rattle.lp_model.specs.Outside.{Rose, OnlyGrow, Told, bytes_in};
+ghost use Rattle.lp_model.specs.Outside.{Rose, OnlyGrow, Told};
 ghost use Rattle.log_reading.specs.Page.{IsTooMany, IsWithin};
-ghost use Rattle.log_reading.specs.Spans.{AllSpans, IsSpan, AreKept, spans_found, spans_bad, spans_bad_lines, spans_size, took_of};
+ghost use Rattle.log_reading.specs.Spans.{AllSpans, AreReadable, IsSpan, AreKept, spans_found, spans_bad, spans_bad_lines, spans_size, took_of};
 ghost use Rattle.text_output.specs.Output.{kind_of};
 ghost use Rattle.row_output.specs.Asked.{left_of};
 ghost use Rattle.row_output.specs.Kept.{IsNew, asked_of};
@@ -16,8 +16,8 @@ ghost use Rattle.plan_run.specs.Rows.{plan_rows};
 use crate::running::run_reader;
 use input_tables::TableFormat;
 use line_input::{TextLines, TextWords};
-use log_reading::{Span, TookList};
-use lp_outside::{Logs, Stage};
+use log_reading::{LogSource, Span, TookList};
+use lp_outside::Stage;
 use ncsa_input::Ncsa;
 use query_run::{WriteFault, Written};
 use query_types::Plan;
@@ -26,7 +26,7 @@ use std::alloc::Global;
 use w3c_input::IisW3c;
 
 /// Writes the text of a plan's rows over the records of spans, which are read in a format and joined in order.
-pub fn run_plan<L: Logs, G: Stage>(
+pub fn run_plan<L: LogSource, G: Stage>(
     alloc: Global,
     format: TableFormat,
     output: RowOutput,
@@ -43,8 +43,9 @@ pub fn run_plan<L: Logs, G: Stage>(
     requires new { IsNew output }
     requires few { length spans.now ≤ 100000 }
     requires spans { AllSpans spans.now IsSpan }
-    requires there { Told (L.folder logs.old) (λ folder. AllSpans spans.now (λ span. span.listed ≤ length (bytes_in folder span.name))) }
+    requires readable { AreReadable L.folder L.ready logs.old spans.now }
     ensures grows { OnlyGrow (L.folder logs.old) (L.folder logs.new) }
+    ensures goes_logs { L.goes logs.old logs.new }
     ensures goes { G.goes stage.old stage.new }
     ensures holds { IfOk result (λ written. Told (L.folder logs.new) (λ folder. AreKept (lines_of format) waits spans.now folder
         → Holds (kind_of G.state G.ended) (asked_of output) stage.old (plan_rows (readings_of format) (planned_in plan) (lines_of format) waits folder spans.now) written.outputs stage.new)) }

@@ -1,8 +1,8 @@
 // A plan over spans, read by any reader of a format.
 ghost use Rattle.std.specs.Prelude.{◌≡◌, ◌≤◌, ◌+◌, ◌++◌, true, length, map, option_map, OnOk, OnErr, IfOk, IfErr, IsErrOf};
-ghost use Rattle.lp_model.specs.Outside.{Rose, OnlyGrow, Told, bytes_in};
+ghost use Rattle.lp_model.specs.Outside.{Rose, OnlyGrow, Told};
 ghost use Rattle.log_reading.specs.Page.{IsTooMany, IsWithin};
-ghost use Rattle.log_reading.specs.Spans.{AllSpans, IsSpan, AreKept, spans_found, spans_bad, spans_bad_lines, spans_size, took_of};
+ghost use Rattle.log_reading.specs.Spans.{AllSpans, AreReadable, IsSpan, AreKept, spans_found, spans_bad, spans_bad_lines, spans_size, took_of};
 ghost use Rattle.text_output.specs.Output.{kind_of};
 ghost use Rattle.row_output.specs.Asked.{left_of};
 ghost use Rattle.row_output.specs.Kept.{IsNew, asked_of};
@@ -15,8 +15,8 @@ ghost use Rattle.plan_run.specs.Rows.{plan_rows};
 
 use input_tables::{TableFormat, readings_of};
 use line_input::LineReader;
-use log_reading::{Span, TookList};
-use lp_outside::{Logs, Stage};
+use log_reading::{LogSource, Span, TookList};
+use lp_outside::Stage;
 use plan_rows::PlanPicker;
 use query_run::{WriteFault, Written, write_spans};
 use query_types::Plan;
@@ -40,7 +40,7 @@ fn make_picker(alloc: Global, format: TableFormat, plan: Plan) -> Result<PlanPic
 }
 
 /// Writes the output rows of a plan over the records of spans, joined in order, by a reader of their format.
-pub fn run_reader<R: LineReader, L: Logs, G: Stage>(
+pub fn run_reader<R: LineReader, L: LogSource, G: Stage>(
     alloc: Global,
     reader: &R,
     format: TableFormat,
@@ -59,8 +59,9 @@ pub fn run_reader<R: LineReader, L: Logs, G: Stage>(
     requires new { IsNew output }
     requires few { length spans.now ≤ 100000 }
     requires spans { AllSpans spans.now IsSpan }
-    requires there { Told (L.folder logs.old) (λ folder. AllSpans spans.now (λ span. span.listed ≤ length (bytes_in folder span.name))) }
+    requires readable { AreReadable L.folder L.ready logs.old spans.now }
     ensures grows { OnlyGrow (L.folder logs.old) (L.folder logs.new) }
+    ensures goes_logs { L.goes logs.old logs.new }
     ensures goes { G.goes stage.old stage.new }
     ensures holds { IfOk result (λ written. Told (L.folder logs.new) (λ folder. AreKept (lines_of format) waits spans.now folder
         → Holds (kind_of G.state G.ended) (asked_of output) stage.old (plan_rows (readings_of format) (planned_in plan) (lines_of format) waits folder spans.now) written.outputs stage.new)) }

@@ -1,8 +1,8 @@
 // A query over logs to a stage.
 ghost use Rattle.std.specs.Prelude.{◌≡◌, ◌≤◌, ◌<◌, ◌^◌, ◌+◌, ◌++◌, List, true, length, map, OnOk, OnErr, IfOk, IfErr, IsErrOf, IsSome};
-ghost use Rattle.lp_model.specs.Outside.{Rose, OnlyGrow, Told, bytes_in};
+ghost use Rattle.lp_model.specs.Outside.{Rose, OnlyGrow, Told};
 ghost use Rattle.log_reading.specs.Page.{IsTooMany, IsWithin};
-ghost use Rattle.log_reading.specs.Spans.{AllSpans, IsSpan, AreKept, spans_found, spans_bad, spans_bad_lines, spans_size, took_of};
+ghost use Rattle.log_reading.specs.Spans.{AllSpans, AreReadable, IsSpan, AreKept, spans_found, spans_bad, spans_bad_lines, spans_size, took_of};
 ghost use Rattle.order_top.specs.Finish.{Row};
 ghost use Rattle.text_output.specs.Output.{kind_of};
 ghost use Rattle.row_output.specs.Asked.{left_of};
@@ -17,8 +17,8 @@ ghost use Rattle.query_run.specs.Writer.{Starts};
 
 use crate::{Picker, WriteFault, Writer};
 use line_input::{Fields, LineReader, Splitter, Standing};
-use log_reading::{Page, RunFault, Span, TakeFault, TookList, take_spans};
-use lp_outside::{Logs, Stage};
+use log_reading::{LogSource, Page, RunFault, Span, TakeFault, TookList, take_spans};
+use lp_outside::Stage;
 use row_output::{OutputFault, Refused, RowOutput};
 use std::alloc::{AllocError, Global};
 use std::mem::replace;
@@ -169,7 +169,7 @@ fn end_page<P: Drop, G: Stage>(
 }
 
 // Takes the records of spans into a page that holds none, and ends its outputs.
-fn write_page<R: LineReader, L: Logs, P: Picker + Drop, G: Stage>(
+fn write_page<R: LineReader, L: LogSource, P: Picker + Drop, G: Stage>(
     alloc: Global,
     reader: &R,
     waits: bool,
@@ -179,13 +179,14 @@ fn write_page<R: LineReader, L: Logs, P: Picker + Drop, G: Stage>(
     took: &mut TookList,
     stage: &mut G,
 ) -> Result<Written, WriteFault>
-    requires there { Told (L.folder logs.old) (λ folder. AllSpans spans.now (λ span. span.listed ≤ length (bytes_in folder span.name))) }
+    requires readable { AreReadable L.folder L.ready logs.old spans.now }
     requires spans { AllSpans spans.now IsSpan }
     requires room { spans_size spans.now + length spans.now < 2 ^ 63 }
     requires taken { page.old.taker.taken ≡ 0 }
     requires rows { page.old.rows ≡ 0 }
     requires bad { page.old.bad ≡ 0 }
     ensures grows { OnlyGrow (L.folder logs.old) (L.folder logs.new) }
+    ensures goes_logs { L.goes logs.old logs.new }
     ensures goes { G.goes stage.old stage.new }
     ensures holds { IfOk result (λ written. (output : RowOutput) (picker : P) (first : G) → Starts (kind_of G.state G.ended) output picker first page.old.taker stage.old
         → Told (L.folder logs.new) (λ folder. AreKept (R.format reader.now) waits spans.now folder
@@ -226,7 +227,7 @@ fn write_page<R: LineReader, L: Logs, P: Picker + Drop, G: Stage>(
 }
 
 /// Puts the output rows of the records of spans, joined in order.
-pub fn write_spans<R: LineReader, L: Logs, P: Picker + Drop, G: Stage>(
+pub fn write_spans<R: LineReader, L: LogSource, P: Picker + Drop, G: Stage>(
     alloc: Global,
     reader: &R,
     waits: bool,
@@ -238,11 +239,12 @@ pub fn write_spans<R: LineReader, L: Logs, P: Picker + Drop, G: Stage>(
     took: &mut TookList,
     stage: &mut G,
 ) -> Result<Written, WriteFault>
-    requires there { Told (L.folder logs.old) (λ folder. AllSpans spans.now (λ span. span.listed ≤ length (bytes_in folder span.name))) }
+    requires readable { AreReadable L.folder L.ready logs.old spans.now }
     requires spans { AllSpans spans.now IsSpan }
     requires room { spans_size spans.now + length spans.now < 2 ^ 63 }
     requires new { IsNew output }
     ensures grows { OnlyGrow (L.folder logs.old) (L.folder logs.new) }
+    ensures goes_logs { L.goes logs.old logs.new }
     ensures goes { G.goes stage.old stage.new }
     ensures holds { IfOk result (λ written. Told (L.folder logs.new) (λ folder. AreKept (R.format reader.now) waits spans.now folder
         → Holds (kind_of G.state G.ended) (asked_of output) stage.old (picked (P.picks picker) (spans_found (R.format reader.now) waits folder spans.now)) written.outputs stage.new)) }

@@ -5,6 +5,8 @@
 #![tactic(auto)]
 
 #[cfg(test)]
+mod grouping;
+#[cfg(test)]
 mod queries;
 #[cfg(test)]
 mod tokens;

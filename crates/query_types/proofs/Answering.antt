@@ -1,7 +1,7 @@
 -- Answers handed on.
 use Rattle.std.proofs.Common.{◌≡◌, List, [], ◌∷◌, ◌++◌, Result, Ok, Err, IsErrAnd, refl, sym, ap, subst, append_assoc}
 use Rattle.query_types.specs.declared.fault.TypeFault.{TypeFault}
-use Rattle.query_types.specs.declared.fault.TypeFault.TheVariants.{UnknownField, UnknownFunction, KindMismatch, WrongArity, TooFewColumns, BadPattern, NotInSelect, Memory}
+use Rattle.query_types.specs.declared.fault.TypeFault.TheVariants.{UnknownField, UnknownFunction, KindMismatch, WrongArity, TooFewColumns, BadPattern, NotInSelect, NotGrouped, NestedAggregate, StarWithGroups, Memory}
 use Rattle.query_types.specs.Meanings.{Answers, added, joined}
 
 -- a fault that one call answers is another's
@@ -14,6 +14,9 @@ hands_on view other (WrongArity at) from to is next = next is
 hands_on view other (TooFewColumns at) from to is next = next is
 hands_on view other (BadPattern at) from to is next = next is
 hands_on view other (NotInSelect at) from to is next = next is
+hands_on view other (NotGrouped at) from to is next = next is
+hands_on view other (NestedAggregate at) from to is next = next is
+hands_on view other (StarWithGroups at) from to is next = next is
 hands_on view other Memory from to is next = tt
 
 -- a fault that a `?` hands on

@@ -1,12 +1,12 @@
-mod Answering
-mod Arguments
+pub mod Answering
+pub mod Arguments
 mod Existing
 pub mod Forms
-mod Lists
+pub mod Lists
 mod Meant
 mod Placing
-mod Parts
+pub mod Parts
 mod Spellings
-mod Steps
-mod Using
+pub mod Steps
+pub mod Using
 mod Whole

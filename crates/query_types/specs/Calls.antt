@@ -1,5 +1,5 @@
 -- What stands before parentheses, and how many arguments it takes.
-use Rattle.std.specs.Prelude.{ℕ, ◌==◌, Bool, false, List, [], ◌∷◌, codes, if◌then◌else◌, Option, Some, None}
+use Rattle.std.specs.Prelude.{ℕ, ◌==◌, Bool, false, not, ◌&&◌, List, [], ◌∷◌, codes, if◌then◌else◌, Option, Some, None}
 use Rattle.std.specs.List.{list_any}
 use Rattle.std.specs.Str.{str_eq_ignore_ascii_case}
 use Rattle.lp_values.specs.declared.part.Part.TheVariants.{Date, Time, Both}
@@ -15,6 +15,10 @@ aggregates = codes "COUNT" ∷ codes "SUM" ∷ codes "AVG" ∷ codes "MIN" ∷ c
 
 abbrev pub is_aggregate : List ℕ → Bool
 is_aggregate name = list_any (str_eq_ignore_ascii_case name) aggregates
+
+-- an aggregate, not GROUPING
+abbrev pub is_counting : List ℕ → Bool
+is_counting name = is_aggregate name && not (str_eq_ignore_ascii_case name (codes "GROUPING"))
 
 abbrev pub function_or_unknown : Option Function → Callee
 function_or_unknown (Some function) = C.Function function

@@ -41,6 +41,9 @@ Answers view (Err (F.WrongArity at)) wanted = wanted ≡ Err (F.WrongArity at)
 Answers view (Err (F.TooFewColumns at)) wanted = wanted ≡ Err (F.TooFewColumns at)
 Answers view (Err (F.BadPattern at)) wanted = wanted ≡ Err (F.BadPattern at)
 Answers view (Err (F.NotInSelect at)) wanted = wanted ≡ Err (F.NotInSelect at)
+Answers view (Err (F.NotGrouped at)) wanted = wanted ≡ Err (F.NotGrouped at)
+Answers view (Err (F.NestedAggregate at)) wanted = wanted ≡ Err (F.NestedAggregate at)
+Answers view (Err (F.StarWithGroups at)) wanted = wanted ≡ Err (F.StarWithGroups at)
 
 -- what follows where there is no fault yet
 abbrev pub followed : {A B : Type 0} → Result A TypeFault → (A → Result B TypeFault) → Result B TypeFault

@@ -10,6 +10,7 @@ use Rattle.lp_values.specs.Printed.{printed_real}
 use Rattle.query_types.specs.declared.table.NamedKind.{NamedKind}
 use Rattle.query_types.specs.declared.table.TableColumns.{TableColumns}
 use Rattle.query_types.specs.declared.alias.Alias.{Alias}
+use Rattle.query_types.specs.Calls.{is_counting}
 use Rattle.query_types.specs.Meanings.{alias_named}
 
 -- a quote is doubled
@@ -36,8 +37,12 @@ word_spelled table aliases name = column_spelled (find (λ column. str_eq_ignore
 abbrev pub stamp_spelled : Placed → Placed → List ℕ
 stamp_spelled value pattern = codes "TIMESTAMP(" ++ quoted value.text ++ codes ", " ++ quoted pattern.text ++ codes ")"
 
+-- what stands before the argument of an aggregate
+abbrev pub all_of : List ℕ → List ℕ
+all_of name = if is_counting name then codes "ALL " else []
+
 abbrev mutual
-  -- an expression as the name of its column; aggregates aren't built yet
+  -- an expression as the name of its column
   pub spelled : TableColumns → List Alias → Tree → List ℕ
   spelled table aliases (tree.Integer at value) = signed_decimal value
   spelled table aliases (tree.Real at value) = printed_real value
@@ -45,9 +50,9 @@ abbrev mutual
   spelled table aliases (tree.Null at) = codes "NULL"
   spelled table aliases (tree.Timestamp at value pattern) = stamp_spelled value pattern
   spelled table aliases (tree.Word at name) = word_spelled table aliases name
-  spelled table aliases (tree.Call at name es) = map to_ascii_uppercase name ++ codes "(" ++ all_spelled table aliases [] es ++ codes ")"
-  spelled table aliases (tree.CountAll at) = []
-  spelled table aliases (tree.PropCountAll at) = []
+  spelled table aliases (tree.Call at name es) = map to_ascii_uppercase name ++ codes "(" ++ all_spelled table aliases (all_of name) es ++ codes ")"
+  spelled table aliases (tree.CountAll at) = codes "COUNT(ALL *)"
+  spelled table aliases (tree.PropCountAll at) = codes "PROPCOUNT(*)"
   spelled table aliases (tree.Case at subject branches otherwise) =
       codes "CASE " ++ spelled table aliases subject ++ branches_spelled table aliases branches ++ else_spelled table aliases otherwise ++ codes " END"
 

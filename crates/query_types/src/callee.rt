@@ -1,6 +1,6 @@
 // What stands before parentheses.
 ghost use Rattle.std.specs.Prelude.{◌≡◌};
-ghost use Rattle.query_types.specs.Calls.{callee, function_or_unknown, has_arity, is_aggregate};
+ghost use Rattle.query_types.specs.Calls.{callee, function_or_unknown, has_arity, is_aggregate, is_counting};
 ghost use Rattle.lp_functions.specs.Names.{named};
 
 use lp_functions::Function;
@@ -8,7 +8,7 @@ use lp_values::Part;
 
 /// What a name before parentheses stands for.
 #[derive(Clone, Copy, Debug, PartialEq, Eq)]
-pub(crate) enum Callee {
+pub enum Callee {
     Function(Function),
     /// The moment of the run, its day or its time of day.
     Now(Part),
@@ -18,7 +18,7 @@ pub(crate) enum Callee {
 }
 
 /// Whether a name is that of an aggregate, or of GROUPING.
-pub(crate) fn is_aggregate(name: &str) -> bool
+pub fn is_aggregate(name: &str) -> bool
     ensures { result ≡ is_aggregate name.now }
 {
     name.eq_ignore_ascii_case("COUNT")
@@ -27,6 +27,13 @@ pub(crate) fn is_aggregate(name: &str) -> bool
         || name.eq_ignore_ascii_case("MIN")
         || name.eq_ignore_ascii_case("MAX")
         || name.eq_ignore_ascii_case("GROUPING")
+}
+
+/// Whether a name is that of an aggregate.
+pub fn is_counting(name: &str) -> bool
+    ensures { result ≡ is_counting name.now }
+{
+    is_aggregate(name) && !name.eq_ignore_ascii_case("GROUPING")
 }
 
 fn function_or_unknown(name: &str) -> Callee
@@ -40,7 +47,7 @@ fn function_or_unknown(name: &str) -> Callee
 
 impl Callee {
     /// What a name stands for, whatever its case.
-    pub(crate) fn of(name: &str) -> Callee
+    pub fn of(name: &str) -> Callee
         ensures { result ≡ callee name.now }
     {
         if name.eq_ignore_ascii_case("SYSTEM_TIMESTAMP") {
@@ -57,7 +64,7 @@ impl Callee {
     }
 
     /// Whether it takes so many arguments.
-    pub(crate) fn has_arity(self, many: usize) -> bool
+    pub fn has_arity(self, many: usize) -> bool
         ensures { result ≡ has_arity self many }
     {
         match self {

@@ -18,7 +18,7 @@ use std::alloc::{AllocError, Global};
 use std::rc::Rc;
 
 /// What stands before parentheses, where it is known and takes so many arguments.
-pub(crate) fn known(at: u32, many: usize, found: Callee) -> Result<Callee, TypeFault>
+pub fn known(at: u32, many: usize, found: Callee) -> Result<Callee, TypeFault>
     ensures { Answers (λ callee. callee) result (known at many found) }
 {
     match found {
@@ -41,8 +41,11 @@ fn pattern_given(argument: Option<&Expr>) -> Result<Option<Pattern>, TypeFault>
     }
 }
 
-// The pattern among arguments, where the function wants one.
-fn pattern_among(place: Option<usize>, arguments: &ExprList) -> Result<Option<Pattern>, TypeFault>
+/// The pattern among arguments, where the function wants one.
+pub fn pattern_among(
+    place: Option<usize>,
+    arguments: &ExprList,
+) -> Result<Option<Pattern>, TypeFault>
     ensures { Answers (λ pattern. pattern) result (pattern_among place (listed (trees_of arguments.now))) }
 {
     match place {
@@ -51,8 +54,8 @@ fn pattern_among(place: Option<usize>, arguments: &ExprList) -> Result<Option<Pa
     }
 }
 
-// How a function makes its value.
-fn operation_of(
+/// How a function makes its value.
+pub fn operation_of(
     alloc: Global,
     function: Function,
     pattern: Option<Pattern>,

@@ -21,6 +21,12 @@ pub enum TypeFault {
     BadPattern { at: u32 },
     /// An expression of ORDER BY that is none of SELECT's.
     NotInSelect { at: u32 },
+    /// A field of a grouped query outside aggregates and keys; GROUPING of what is no key; or HAVING without groups.
+    NotGrouped { at: u32 },
+    /// An aggregate where none may stand.
+    NestedAggregate { at: u32 },
+    /// `*` in a grouped query.
+    StarWithGroups { at: u32 },
     /// There was no memory.
     Memory,
 }

@@ -6,8 +6,8 @@ ghost use Rattle.query_types.specs.Meanings.{fits as kinds_fit};
 use crate::{Meaning, TableColumns, TypeFault};
 use lp_values::Kind;
 
-// Whether two kinds fit: where they are equal, one is Any, or both are numbers.
-fn fits(left: Kind, right: Kind) -> bool
+/// Whether two kinds fit: where they are equal, one is Any, or both are numbers.
+pub fn fits(left: Kind, right: Kind) -> bool
     ensures { result ≡ kinds_fit left right }
 {
     match (left, right) {
@@ -19,8 +19,8 @@ fn fits(left: Kind, right: Kind) -> bool
     }
 }
 
-// Whether two kinds agree: where they are equal, or one is Any.
-fn agree(left: Kind, right: Kind) -> bool
+/// Whether two kinds agree: where they are equal, or one is Any.
+pub fn agree(left: Kind, right: Kind) -> bool
     ensures { result ≡ agree left right }
 {
     match (left, right) {
@@ -34,7 +34,7 @@ fn agree(left: Kind, right: Kind) -> bool
 }
 
 /// Of two kinds that agree the one that isn't Any.
-pub(crate) fn sharper(kind: Kind, other: Kind) -> Kind
+pub fn sharper(kind: Kind, other: Kind) -> Kind
     ensures { result ≡ sharper kind other }
 {
     match kind {

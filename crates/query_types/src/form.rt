@@ -58,7 +58,7 @@ impl Operation {
 }
 
 /// What is made of others.
-pub(crate) fn made(kind: Kind, by: Operation, of: Vec<Form>) -> Form
+pub fn made(kind: Kind, by: Operation, of: Vec<Form>) -> Form
     ensures { term_of result ≡ term.made kind (maker_of by) (terms_of (map term_of of.items)) }
 {
     Form::Made { kind, by, of }

@@ -2,7 +2,7 @@
 //!
 //! To the crates above: [`plan`] answers exactly the plan that `specs::Planned` gives a query and a table, or exactly the
 //! first fault of its clauses, with its place. A plan names no column: it holds places in the row, constants, and the
-//! condition over them, so nothing is looked up while rows go by, and a pattern is read once. Groups aren't built yet.
+//! condition over them, so nothing is looked up while rows go by, and a pattern is read once. Queries with groups are group_planning's.
 #![tactic(auto)]
 
 mod alias;
@@ -27,12 +27,20 @@ mod stamps;
 mod table;
 mod using_columns;
 
+pub use alias::{Alias, AliasList};
 pub use built::is_built;
+pub use callee::{Callee, is_aggregate, is_counting};
+pub use calls::{known, operation_of, pattern_among};
 pub use condition::Condition;
 pub use fault::TypeFault;
-pub use form::{Form, Operation};
+pub use fitting::{agree, fits, sharper};
+pub use form::{Form, Operation, made};
 pub use meaning::{Meaning, MeaningList};
-pub use planning::plan;
-pub use plans::{KindList, PlaceList, Plan, UsedList};
+pub use naming::item_names;
+pub use ordering::is_same_operation;
+pub use planning::{has_too_few, plan};
+pub use plans::{GroupShape, KindList, PlaceList, Plan, UsedList};
+pub use selecting::{add_aliases, every_column};
+pub use stamps::{moment_as, moment_said, moment_value, stamp_means};
 pub use table::{NamedKind, NamedKinds, TableColumns};
-pub use using_columns::mentions;
+pub use using_columns::{mentions, used_columns};

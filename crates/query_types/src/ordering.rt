@@ -50,8 +50,8 @@ fn is_unlisted(name: &Text, other: &Operation) -> bool
     }
 }
 
-// Whether two operations are equal by form; of what is written or read the pattern stands among the parts.
-fn is_same_operation(by: &Operation, other: &Operation) -> bool
+/// Whether two operations are equal by form; of what is written or read the pattern stands among the parts.
+pub fn is_same_operation(by: &Operation, other: &Operation) -> bool
     ensures { result ≡ same_maker (maker_of by.now) (maker_of other.now) }
 {
     match by {

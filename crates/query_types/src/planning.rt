@@ -39,8 +39,8 @@ fn where_meant(
     }
 }
 
-// Whether an INTO name has a star for each output column, or more.
-fn has_too_few(columns: usize, into: &Placed) -> bool
+/// Whether an INTO name has a star for each output column, or more.
+pub fn has_too_few(columns: usize, into: &Placed) -> bool
     ensures { result ≡ has_too_few columns (Some (placed_of into.now)) }
 {
     let stars = into

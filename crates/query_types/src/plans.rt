@@ -2,7 +2,7 @@
 ghost use Rattle.std.specs.Prelude.{◌≡◌, false, get_or};
 
 use crate::{Condition, MeaningList};
-use lp_values::{Kind, ListOf, TextList};
+use lp_values::{AggList, Kind, ListOf, TextList};
 
 pub type KindList = ListOf<Kind>;
 
@@ -11,6 +11,14 @@ pub type UsedList = ListOf<bool>;
 
 /// Places of output columns.
 pub type PlaceList = ListOf<usize>;
+
+/// Which groups a query asks for: how many keys it has, its aggregates, and whether shorter lists of keys have groups too.
+#[derive(Drop)]
+pub struct GroupShape {
+    pub keys: u32,
+    pub aggregates: AggList,
+    pub rollup: bool,
+}
 
 /// What a query asks of each row of a table, by places.
 #[derive(Drop)]

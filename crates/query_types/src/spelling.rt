@@ -8,9 +8,10 @@ ghost use Rattle.grammar.specs.Trees.{trees_of as listed};
 ghost use Rattle.grammar.specs.Trees.{whens_of as branched};
 ghost use Rattle.query_tree.specs.Views.{placed_of, tree_of, trees_of, whens_of};
 ghost use Rattle.lp_values.specs.Printed.{printed};
-ghost use Rattle.query_types.specs.Names.{branches_spelled, quoted, spelled, stamp_spelled, word_spelled};
+ghost use Rattle.query_types.specs.Names.{all_of, branches_spelled, quoted, spelled, stamp_spelled, word_spelled};
 
 use crate::alias::{Alias, find_alias};
+use crate::callee::is_counting;
 use crate::{NamedKind, TableColumns};
 use lp_values::{Bytes, Text, Value, print};
 use query_tree::{Expr, ExprList, Placed, WhenList};
@@ -86,6 +87,13 @@ fn spell_stamp(value: &Placed, pattern: &Placed, to: &mut Bytes) -> Result<(), A
     spell(")", to)
 }
 
+// What stands before the argument of an aggregate.
+fn all_of(name: &str) -> &'static str
+    ensures { result.now ≡ all_of name.now }
+{
+    if is_counting(name) { "ALL " } else { "" }
+}
+
 // A call.
 #[cycle(spelling)]
 fn spell_call(
@@ -99,7 +107,7 @@ fn spell_call(
 {
     spell_capitals(name.as_str(), to)?;
     spell("(", to)?;
-    let mut separator = "";
+    let mut separator = all_of(name.as_str());
     for argument in &arguments.items {
         spell(separator, to)?;
         spell_expression(table, aliases, argument, to)?;
@@ -153,8 +161,8 @@ pub(crate) fn spell_expression(
             name,
             arguments,
         } => spell_call(table, aliases, name, arguments, to),
-        Expr::CountAll { at: _ } => Ok(()),
-        Expr::PropCountAll { at: _ } => Ok(()),
+        Expr::CountAll { at: _ } => spell("COUNT(ALL *)", to),
+        Expr::PropCountAll { at: _ } => spell("PROPCOUNT(*)", to),
         Expr::Case {
             at: _,
             subject,

@@ -50,7 +50,7 @@ fn said_by_two(
 }
 
 /// The moment of a run, as a call says it.
-pub(crate) fn moment_said(alloc: Global, value: Value) -> Meaning
+pub fn moment_said(alloc: Global, value: Value) -> Meaning
     ensures { result ≡ said value [] }
 {
     let kind = value.kind();
@@ -73,11 +73,7 @@ fn stamp_read(
 }
 
 /// TIMESTAMP.
-pub(crate) fn stamp_means(
-    alloc: Global,
-    value: &Placed,
-    pattern: &Placed,
-) -> Result<Meaning, TypeFault>
+pub fn stamp_means(alloc: Global, value: &Placed, pattern: &Placed) -> Result<Meaning, TypeFault>
     ensures { Answers (λ meaning. meaning) result (stamp_means (placed_of value.now) (placed_of pattern.now)) }
 {
     let pieces = pattern_of(pattern.at, &pattern.text)?;
@@ -85,7 +81,7 @@ pub(crate) fn stamp_means(
 }
 
 /// The moment of a run as a stamp; NULL outside the years of stamps.
-pub(crate) fn moment_value(moment: i64) -> Value
+pub fn moment_value(moment: i64) -> Value
     ensures { result ≡ stamp_value Both moment }
 {
     match Stamp::new(moment, Part::Both) {
@@ -95,7 +91,7 @@ pub(crate) fn moment_value(moment: i64) -> Value
 }
 
 /// The moment of a run, its day or its time of day.
-pub(crate) fn moment_as(alloc: Global, part: Part, moment: &Value) -> Result<Value, AllocError>
+pub fn moment_as(alloc: Global, part: Part, moment: &Value) -> Result<Value, AllocError>
     ensures { IfOk result (λ value. value ≡ moment_as part moment.now) }
 {
     match part {

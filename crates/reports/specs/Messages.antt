@@ -1,6 +1,8 @@
 -- What a refusal is called.
 use Rattle.std.specs.Prelude.{ℕ, List, [], ◌∷◌, ◌++◌, codes, decimal, Option, Some, None}
 use Rattle.command_words.specs.Usage.{usage_text}
+use Rattle.ledger.specs.declared.refused.Part2.{Part2}
+use Rattle.ledger.specs.declared.refused.Part2.TheVariants.{Ledger, Stage}
 use Rattle.query_lexer.specs.declared.fault.LexFault.{LexFault}
 use Rattle.query_lexer.specs.declared.fault.LexFault.TheVariants as lex
 use Rattle.query_parser.specs.declared.fault.ParseFault.{ParseFault}
@@ -12,7 +14,7 @@ use Rattle.query_text.specs.declared.fault.QueryFault.TheVariants as query
 use Rattle.tpl_output.specs.declared.fault.TemplateFault.{TemplateFault}
 use Rattle.tpl_output.specs.declared.fault.TemplateFault.TheVariants as template
 use Rattle.reports.specs.declared.status.Status.{Status}
-use Rattle.reports.specs.declared.status.Status.TheVariants.{Done, Memory, Clock, Usage, Query, NotBuilt, NoSuchLog, BadName, NameClash, TooManyOutputs, TooManyLogs, Template, LogsFault, DiskFault, SinkFault, ParseErrors}
+use Rattle.reports.specs.declared.status.Status.TheVariants.{Done, Memory, Clock, Usage, Query, NotBuilt, NoSuchLog, BadName, NameClash, TooManyOutputs, TooManyLogs, Template, InputTooLong, LogsFault, SourceFault, DiskFault, SinkFault, ParseErrors, LostLog, Shrunk, InputChanged, IntoNeeded, LedgerFault}
 
 -- a number, where there is one, with what parts it from the text behind
 abbrev pub counted : Option ℕ → List ℕ
@@ -42,6 +44,9 @@ type_reason (type.KindMismatch at) = at_place at (codes "kind mismatch")
 type_reason (type.WrongArity at) = at_place at (codes "wrong arity")
 type_reason (type.TooFewColumns at) = at_place at (codes "too few columns")
 type_reason (type.NotInSelect at) = at_place at (codes "not in select")
+type_reason (type.NotGrouped at) = at_place at (codes "not grouped")
+type_reason (type.NestedAggregate at) = at_place at (codes "nested aggregate")
+type_reason (type.StarWithGroups at) = at_place at (codes "star with groups")
 type_reason (type.BadPattern at) = at_place at (codes "bad pattern")
 type_reason type.Memory = codes "out of memory"
 
@@ -64,12 +69,12 @@ template_reason (template.OutsideText at) = in_template at (codes "outside text"
 template_reason (template.TooLarge at) = in_template at (codes "too large")
 template_reason template.Memory = codes "out of memory"
 
--- the number of a line that a refusal names
-abbrev pub row_text : Option ℕ → List ℕ
-row_text None = []
-row_text (Some row) = codes " row " ++ decimal row
+-- which file is damaged
+abbrev pub part_text : Part2 → List ℕ
+part_text Ledger = codes "ledger at "
+part_text Stage = codes "stage at "
 
--- what a refusal is called, but for the number of a line
+-- what a refusal is called, but for its details
 abbrev pub named : Status → List ℕ
 named Done = []
 named Memory = codes "out of memory"
@@ -83,18 +88,30 @@ named (NameClash name) = codes "input: name clash " ++ name
 named TooManyOutputs = codes "input: more than 10000 outputs"
 named TooManyLogs = codes "input: more than 100000 logs"
 named (Template fault) = template_reason fault
+named InputTooLong = codes "input: standard input too long"
 named LogsFault = codes "read fault: logs"
+named SourceFault = codes "read fault: standard input"
 named DiskFault = codes "disk fault"
 named SinkFault = codes "write fault"
 named (ParseErrors log row) = codes "parse errors: " ++ log
+named (LostLog stem number) = codes "input: lost log " ++ stem
+named (Shrunk name kept found) = codes "input: " ++ name
+named (InputChanged kept given) = codes "input: the ledger has "
+named IntoNeeded = codes "query: INTO needed"
+named (LedgerFault part at) = codes "ledger: " ++ part_text part
 
-abbrev pub row_in : Status → Option ℕ
-row_in (ParseErrors log row) = Some row
-row_in other = None
+-- the numbers and the inputs that a refusal names behind
+abbrev pub details : Status → List ℕ
+details (ParseErrors log row) = codes " row " ++ decimal row
+details (LostLog stem number) = codes "." ++ decimal number
+details (Shrunk name kept found) = codes " is " ++ decimal found ++ codes " bytes, " ++ decimal kept ++ codes " were read"
+details (InputChanged kept given) = kept ++ codes ", given " ++ given
+details (LedgerFault part at) = decimal at
+details other = []
 
 -- what a refusal is called
 abbrev pub reason : Status → List ℕ
-reason status = named status ++ row_text (row_in status)
+reason status = named status ++ details status
 
 -- the line that tells of a refusal
 abbrev pub message : Status → List ℕ

@@ -1,8 +1,9 @@
 // What a refusal is called: a text, a number where there is one, and a text behind it.
 ghost use Rattle.std.specs.Prelude.{◌≡◌, ◌++◌};
-ghost use Rattle.reports.specs.Messages.{counted, lex_reason, parse_reason, type_reason, query_reason, template_reason, named, row_in};
+ghost use Rattle.reports.specs.Messages.{counted, lex_reason, parse_reason, type_reason, query_reason, template_reason, part_text, named};
 
 use crate::Status;
+use ledger::Part2;
 use query_lexer::LexFault;
 use query_parser::ParseFault;
 use query_text::QueryFault;
@@ -41,6 +42,9 @@ fn type_reason(fault: TypeFault) -> (&'static str, Option<u32>, &'static str)
         TypeFault::WrongArity { at } => ("query: at ", Some(at), "wrong arity"),
         TypeFault::TooFewColumns { at } => ("query: at ", Some(at), "too few columns"),
         TypeFault::NotInSelect { at } => ("query: at ", Some(at), "not in select"),
+        TypeFault::NotGrouped { at } => ("query: at ", Some(at), "not grouped"),
+        TypeFault::NestedAggregate { at } => ("query: at ", Some(at), "nested aggregate"),
+        TypeFault::StarWithGroups { at } => ("query: at ", Some(at), "star with groups"),
         TypeFault::BadPattern { at } => ("query: at ", Some(at), "bad pattern"),
         TypeFault::Memory => ("out of memory", None, ""),
     }
@@ -71,6 +75,15 @@ fn template_reason(fault: TemplateFault) -> (&'static str, Option<u32>, &'static
     }
 }
 
+fn part_text(part: Part2) -> &'static str
+    ensures { result.now ≡ part_text part }
+{
+    match part {
+        Part2::Ledger => "ledger at ",
+        Part2::Stage => "stage at ",
+    }
+}
+
 pub(crate) fn named(status: &Status) -> (&str, Option<u32>, &str)
     ensures { result.0.now ++ counted result.1 ++ result.2.now ≡ named status.now }
 {
@@ -87,19 +100,16 @@ pub(crate) fn named(status: &Status) -> (&str, Option<u32>, &str)
         Status::TooManyOutputs => ("input: more than 10000 outputs", None, ""),
         Status::TooManyLogs => ("input: more than 100000 logs", None, ""),
         Status::Template(fault) => template_reason(*fault),
+        Status::InputTooLong => ("input: standard input too long", None, ""),
         Status::LogsFault => ("read fault: logs", None, ""),
+        Status::SourceFault => ("read fault: standard input", None, ""),
         Status::DiskFault => ("disk fault", None, ""),
         Status::SinkFault => ("write fault", None, ""),
         Status::ParseErrors { log, .. } => ("parse errors: ", None, log.as_str()),
-    }
-}
-
-// The number of a line that a refusal names.
-pub(crate) fn row_in(status: &Status) -> Option<u64>
-    ensures { result ≡ row_in status.now }
-{
-    match status {
-        Status::ParseErrors { row, .. } => Some(*row),
-        _ => None,
+        Status::LostLog { stem, .. } => ("input: lost log ", None, stem.as_str()),
+        Status::Shrunk { name, .. } => ("input: ", None, name.as_str()),
+        Status::InputChanged { .. } => ("input: the ledger has ", None, ""),
+        Status::IntoNeeded => ("query: INTO needed", None, ""),
+        Status::LedgerFault { part, .. } => ("ledger: ", None, part_text(*part)),
     }
 }

@@ -2,10 +2,10 @@
 ghost use Rattle.std.specs.Prelude.{◌≡◌, ◌++◌, ◌∷◌, [], codes, decimal, OnOk, OnErr};
 ghost use Rattle.lp_model.specs.Outside.{Gains, GainsSome, HasCause};
 ghost use Rattle.lp_model.specs.Report.{statistics, bad_report};
-ghost use Rattle.reports.specs.Messages.{counted, message, reason, row_text};
+ghost use Rattle.reports.specs.Messages.{counted, details, message, reason};
 
 use crate::Status;
-use crate::reason::{named, row_in};
+use crate::reason::named;
 use itoa::Buffer;
 use lp_outside::{Sink, SinkFailed, write_all};
 
@@ -105,15 +105,42 @@ fn write_reason<E: Sink>(
     Ok(())
 }
 
-// Writes the number of a line, where there is one.
-fn write_row<E: Sink>(err: &mut E, row: Option<u64>) -> Result<(), SinkFailed>
-    ensures ok { OnOk result (Gains (E.written err.old) (E.written err.new) (row_text row)) }
-    ensures err { OnErr result (GainsSome (E.written err.old) (E.written err.new) (row_text row)) }
+// Writes a number behind a text.
+fn write_behind<E: Sink>(err: &mut E, head: &[u8], number: u64) -> Result<(), SinkFailed>
+    ensures ok { OnOk result (Gains (E.written err.old) (E.written err.new) (head.now ++ decimal number)) }
+    ensures err { OnErr result (GainsSome (E.written err.old) (E.written err.new) (head.now ++ decimal number)) }
     ensures cause { HasCause (E.faults err.old) (E.faults err.new) result }
 {
-    match row {
-        None => Ok(()),
-        Some(row) => write_number(err, b" row ", row, b""),
+    write_number(err, head, number, b"")
+}
+
+// Writes how long a log is, and how much of it was read.
+fn write_sizes<E: Sink>(err: &mut E, found: u64, kept: u64) -> Result<(), SinkFailed>
+    ensures ok { OnOk result (Gains (E.written err.old) (E.written err.new) (codes " is " ++ decimal found ++ codes " bytes, " ++ decimal kept ++ codes " were read")) }
+    ensures err { OnErr result (GainsSome (E.written err.old) (E.written err.new) (codes " is " ++ decimal found ++ codes " bytes, " ++ decimal kept ++ codes " were read")) }
+    ensures cause { HasCause (E.faults err.old) (E.faults err.new) result }
+{
+    write_number(err, b" is ", found, b" bytes, ")?;
+    write_behind(err, b"", kept)?;
+    write_all(err, b" were read")?;
+    Ok(())
+}
+
+// Writes the numbers and the inputs that a refusal names behind.
+fn write_details<E: Sink>(err: &mut E, status: &Status) -> Result<(), SinkFailed>
+    ensures ok { OnOk result (Gains (E.written err.old) (E.written err.new) (details status.now)) }
+    ensures err { OnErr result (GainsSome (E.written err.old) (E.written err.new) (details status.now)) }
+    ensures cause { HasCause (E.faults err.old) (E.faults err.new) result }
+{
+    match status {
+        Status::ParseErrors { row, .. } => write_behind(err, b" row ", *row),
+        Status::LostLog { number, .. } => write_behind(err, b".", *number),
+        Status::Shrunk { kept, found, .. } => write_sizes(err, *found, *kept),
+        Status::InputChanged { kept, given } => {
+            write_three(err, kept.as_slice(), b", given ", given.as_slice())
+        }
+        Status::LedgerFault { at, .. } => write_behind(err, b"", *at),
+        _ => Ok(()),
     }
 }
 
@@ -125,7 +152,7 @@ fn write_called<E: Sink>(err: &mut E, status: &Status) -> Result<(), SinkFailed>
 {
     let (head, number, tail) = named(status);
     write_reason(err, head.as_bytes(), number, tail.as_bytes())?;
-    write_row(err, row_in(status))?;
+    write_details(err, status)?;
     Ok(())
 }
 

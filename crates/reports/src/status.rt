@@ -2,8 +2,9 @@
 ghost use Rattle.std.specs.Prelude.{◌≡◌};
 
 use command_words::UsageFault;
+use ledger::Part2;
 use lp_outside::{Name, NameFault};
-use lp_values::Text;
+use lp_values::{Bytes, Text};
 use query_text::QueryFault;
 use tpl_output::TemplateFault;
 
@@ -34,14 +35,28 @@ pub enum Status {
     TooManyLogs,
     /// The bytes of the template's file are no template.
     Template(TemplateFault),
+    /// Standard input gave 2^40 bytes.
+    InputTooLong,
     /// A log couldn't be read.
     LogsFault,
+    /// Standard input couldn't be read.
+    SourceFault,
     /// The file of an output couldn't be written.
     DiskFault,
     /// Standard output couldn't be written.
     SinkFault,
     /// A bad line is one too many: the log's identity, and the line's number.
     ParseErrors { log: Name, row: u64 },
+    /// A rotated log isn't there: its stem and its number.
+    LostLog { stem: Name, number: u64 },
+    /// A log is shorter than what was read of it: its bytes that were read, and those that are there.
+    Shrunk { name: Name, kept: u64, found: u64 },
+    /// The ledger was begun with another input: the ledger's, and the one that is given.
+    InputChanged { kept: Bytes, given: Bytes },
+    /// A query over a ledger names no output.
+    IntoNeeded,
+    /// The ledger or its stage is damaged: which of them, and at which byte.
+    LedgerFault { part: Part2, at: u64 },
 }
 
 impl Status {
@@ -55,17 +70,22 @@ impl Status {
             Status::Done => 0,
             Status::Memory => 1,
             Status::Clock(_) | Status::Usage(_) | Status::NotBuilt => 2,
-            Status::Query(_) => 3,
+            Status::Query(_) | Status::IntoNeeded => 3,
             Status::NoSuchLog(_)
             | Status::BadName(_)
             | Status::NameClash(_)
             | Status::TooManyOutputs
             | Status::TooManyLogs
-            | Status::Template(_) => 4,
-            Status::LogsFault => 5,
+            | Status::Template(_)
+            | Status::InputTooLong
+            | Status::LostLog { .. }
+            | Status::Shrunk { .. }
+            | Status::InputChanged { .. } => 4,
+            Status::LogsFault | Status::SourceFault => 5,
             Status::DiskFault => 6,
             Status::SinkFault => 7,
             Status::ParseErrors { .. } => 8,
+            Status::LedgerFault { .. } => 9,
         }
     }
 }

@@ -22,7 +22,7 @@ reads_file (Some x) (Some y) name cut before later grow there given =
 pub sizes_more : (folder : Folder) (name : List ℕ) (names : List (List ℕ)) → sizes folder (name ∷ names) ≡ (0 + length (bytes_in folder name)) + sizes folder names
 sizes_more folder name names = sum_by-append (λ (n : List ℕ). length (bytes_in folder n)) (name ∷ []) names
 
-sizes_grown : (x y : Folder) (names : List (List ℕ)) → Grows x y → sizes x names ≤ sizes y names
+pub sizes_grown : (x y : Folder) (names : List (List ℕ)) → Grows x y → sizes x names ≤ sizes y names
 sizes_grown x y [] grow = omega arith
 sizes_grown x y (name ∷ names) grow =
     let first = length_grown x y name (length (bytes_in x name)) grow (omega arith) in

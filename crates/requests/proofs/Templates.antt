@@ -20,7 +20,7 @@ least_since (Some x) (Some y) name cut grow least =
     omega arith
 
 -- what was read of a file since a moment was read since an earlier one
-cut_since : (before mid now : Option Folder) (name text : List ℕ) → OnlyGrow before mid → Told now (λ folder. IsCut mid folder name text) → Told now (λ folder. IsCut before folder name text)
+pub cut_since : (before mid now : Option Folder) (name text : List ℕ) → OnlyGrow before mid → Told now (λ folder. IsCut mid folder name text) → Told now (λ folder. IsCut before folder name text)
 cut_since before mid None name text grow h = tt
 cut_since before mid (Some folder) name text grow h = record { there = h.there; cut = h.cut; at_least = least_since before mid name h.cut grow h.at_least; at_most = h.at_most; bytes_are = h.bytes_are }
 

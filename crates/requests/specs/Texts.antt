@@ -26,9 +26,8 @@ IsTextOf before now word text (Some name) = (name_fault name ≡ None) × Told n
 abbrev pub HoldsText : Option Folder → Option Folder → List ℕ → List ℕ → Type 0
 HoldsText before now word text = IsTextOf before now word text (file_in word)
 
--- the text of a query word is this query, and no other
-pub record HoldsQuery (before now : Option Folder) (word : List ℕ) (q : model.Query) : Type 0 where
-  pub text : List ℕ
+-- this is the text of a query word, and it is this query, and no other
+pub record HoldsQuery (before now : Option Folder) (word text : List ℕ) (q : model.Query) : Type 0 where
   pub holds : HoldsText before now word text
   pub query : IsQuery text q
   pub only : IsOnlyQuery text q

@@ -1,18 +1,42 @@
 // A query file, and the bytes of any file.
-ghost use Rattle.std.specs.Prelude.{◌≡◌, ◌≤◌, ◌+◌, ◌∷◌, [], take, length, IfOk, IfErr, IsErrOf};
-ghost use Rattle.lp_model.specs.Outside.{OnlyGrow, Rose, Told, bytes_in};
+ghost use Rattle.std.specs.Prelude.{◌≡◌, ◌≤◌, ◌<◌, ◌+◌, ◌∷◌, [], take, length, IfOk, IfErr, IsErrOf, MatchResult};
+ghost use Rattle.lp_model.specs.Outside.{HasCause, OnlyGrow, Rose, Told, bytes_in};
+ghost use Rattle.lp_model.specs.Pieces.{IsPiece};
 ghost use Rattle.requests.specs.Given.{ReadsOnce};
 ghost use Rattle.requests.specs.Texts.{IsCut};
 ghost use Rattle.requests.specs.Files.{IsFailure, IsFileFault};
 ghost use Rattle.requests.specs.declared.fault.RequestFault.TheVariants as F;
 
 use crate::RequestFault;
-use log_reading::read_some;
-use lp_outside::{Logs, Name};
+use lp_outside::{Logs, LogsFailed, Name};
 use lp_values::Bytes;
 use query_lexer::LONGEST_QUERY;
 use query_text::QueryFault;
 use std::alloc::Global;
+
+// Reads some more of a file below a cut, at least one byte.
+fn read_some<L: Logs>(
+    logs: &mut L,
+    name: &Name,
+    at: u64,
+    cut: u64,
+    chunk: &mut [u8],
+) -> Result<usize, LogsFailed>
+    requires there { Told (L.folder logs.old) (λ folder. cut ≤ length (bytes_in folder name.now)) }
+    requires below { at < cut }
+    requires chunk { 0 < length chunk.old }
+    ensures grows { OnlyGrow (L.folder logs.old) (L.folder logs.new) }
+    ensures piece { IfOk result (λ count. IsPiece (L.folder logs.new) name.now at cut (take count chunk.new)) }
+    ensures some { IfOk result (λ count. 0 < count) }
+    ensures fits { IfOk result (λ count. count ≤ length chunk.new) }
+    ensures below { IfOk result (λ count. at + count ≤ cut) }
+    ensures given { MatchResult result (λ count. L.given logs.new ≡ L.given logs.old + count) (λ _. L.given logs.new ≡ L.given logs.old) }
+    ensures cause { HasCause (L.faults logs.old) (L.faults logs.new) result }
+{
+    let want = (cut - at).min(chunk.len() as u64) as usize;
+    let count = logs.read_at(name, at, &mut chunk[..want])?;
+    Ok(count)
+}
 
 /// A file's bytes up to a cut.
 pub(crate) fn read_bytes<L: Logs>(

@@ -1,6 +1,7 @@
 // A template's file.
-ghost use Rattle.std.specs.Prelude.{◌≡◌, ◌≤◌, ◌∷◌, [], IfOk, IfErr, IsErrOf};
+ghost use Rattle.std.specs.Prelude.{◌≡◌, ◌≤◌, ◌∷◌, [], length, None, IfOk, IfErr, IsErrOf};
 ghost use Rattle.lp_model.specs.Outside.{OnlyGrow, Rose, Told};
+ghost use Rattle.tpl_output.specs.Sections.{fault_of, sections_of};
 ghost use Rattle.requests.specs.Given.{ReadsOnce};
 ghost use Rattle.requests.specs.Texts.{IsCut};
 ghost use Rattle.requests.specs.Templates.{HoldsTemplate, IsNoTemplate, IsUnread};
@@ -12,6 +13,13 @@ use lp_outside::{Logs, Name};
 use lp_values::Bytes;
 use std::alloc::Global;
 use tpl_output::{Template, TemplateFault};
+
+/// A template, and the bytes that it was written as.
+#[derive(Drop)]
+pub struct WrittenTemplate {
+    pub template: Template,
+    pub bytes: Bytes,
+}
 
 // A file's bytes. All are wanted, also of a file that is too large: an earlier fault is told before that, and whether a
 // section's end follows is seen only behind it.
@@ -35,14 +43,20 @@ fn file_bytes<L: Logs>(alloc: Global, logs: &mut L, name: &Name) -> Result<Bytes
     }
 }
 
-/// The template that a file holds; or why it holds none: it isn't there, or its bytes have a fault, of which the first is told.
+/// The template that a file holds, with the bytes that it is, which are the file's up to its length at some moment of the call;
+/// or why it holds none: it isn't there, or its bytes have a fault, of which the first is told; a call of the logs failed, or
+/// memory was refused. The file is read once.
 pub fn read_template<L: Logs>(
     alloc: Global,
     logs: &mut L,
     name: &Name,
-) -> Result<Template, NoTemplate>
+) -> Result<WrittenTemplate, NoTemplate>
     ensures grows { OnlyGrow (L.folder logs.old) (L.folder logs.new) }
-    ensures template { IfOk result (HoldsTemplate (L.folder logs.old) (L.folder logs.new) name.now) }
+    ensures template { IfOk result (λ written. HoldsTemplate (L.folder logs.old) (L.folder logs.new) name.now written.template) }
+    ensures bytes { IfOk result (λ written. Told (L.folder logs.new) (λ folder. IsCut (L.folder logs.old) folder name.now written.bytes)) }
+    ensures good { IfOk result (λ written. fault_of written.bytes ≡ None) }
+    ensures sections { IfOk result (λ written. written.template ≡ sections_of written.bytes) }
+    ensures small { IfOk result (λ written. length written.bytes ≤ 1_048_576) }
     ensures refused { IfErr result (IsNoTemplate (L.folder logs.old) (L.folder logs.new) name.now) }
     ensures given { ReadsOnce (L.folder logs.new) (name.now ∷ []) (L.given logs.old) (L.given logs.new) }
     ensures later { L.faults logs.old ≤ L.faults logs.new }
@@ -50,7 +64,7 @@ pub fn read_template<L: Logs>(
 {
     let bytes = file_bytes(alloc, logs, name)?;
     match Template::read(alloc, bytes.as_slice()) {
-        Ok(template) => Ok(template),
+        Ok(template) => Ok(WrittenTemplate { template, bytes }),
         Err(TemplateFault::Memory) => Err(NoTemplate::Memory),
         Err(fault) => Err(NoTemplate::Fault(fault)),
     }

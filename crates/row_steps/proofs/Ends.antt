@@ -27,7 +27,7 @@ use Rattle.row_output.specs.declared.kept.RowOutput.{RowOutput}
 use Rattle.row_steps.specs.Grouped.{records_of, group_output, grouped_output}
 use Rattle.query_run.proofs.WholeRun.{told_map}
 use Rattle.row_steps.specs.Gathered.{GatheredAt, Gathers}
-use Rattle.row_steps.specs.declared.gathering.GroupShape.{GroupShape}
+use Rattle.query_types.specs.declared.plans.GroupShape.{GroupShape}
 use Rattle.row_steps.specs.Rows.{OnGroups, Rows, PutsRows, StopsBy}
 
 -- these are the groups of a table

@@ -4,18 +4,11 @@ ghost use Rattle.group_rollup.specs.Tables.{Holds};
 ghost use Rattle.row_steps.specs.Grouped.{HasWidth};
 
 use group_rollup::Groups;
-use lp_values::{AggList, ValueList};
+use lp_values::ValueList;
 use plan_rows::{PlanPicker, ReadyPlan};
 use query_run::Picker;
+use query_types::GroupShape;
 use std::alloc::{AllocError, Global};
-
-/// Which groups a query asks for: how many keys it has, its aggregates, and whether shorter lists of keys have groups too.
-#[derive(Drop)]
-pub struct GroupShape {
-    pub keys: u32,
-    pub aggregates: AggList,
-    pub rollup: bool,
-}
 
 /// Adds the rows that a picker makes, each its keys and behind them the arguments of the aggregates, to groups.
 #[derive(Drop)]

@@ -15,5 +15,5 @@ mod spans;
 mod taking;
 
 pub use finishing::finish_groups;
-pub use gathering::{GroupRows, GroupShape, plan_groups};
+pub use gathering::{GroupRows, plan_groups};
 pub use spans::group_spans;

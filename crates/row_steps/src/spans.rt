@@ -1,8 +1,8 @@
 // A grouped query over logs to a stage.
 ghost use Rattle.std.specs.Prelude.{◌≡◌, ◌≤◌, ◌<◌, ◌^◌, ◌+◌, ◌++◌, [], true, length, map, OnOk, OnErr, IfOk, IfErr, IsErrOf};
-ghost use Rattle.lp_model.specs.Outside.{Rose, OnlyGrow, Told, bytes_in};
+ghost use Rattle.lp_model.specs.Outside.{Rose, OnlyGrow, Told};
 ghost use Rattle.log_reading.specs.Page.{IsTooMany, IsWithin};
-ghost use Rattle.log_reading.specs.Spans.{AllSpans, IsSpan, AreKept, spans_found, spans_bad, spans_bad_lines, spans_size, took_of};
+ghost use Rattle.log_reading.specs.Spans.{AllSpans, AreReadable, IsSpan, AreKept, spans_found, spans_bad, spans_bad_lines, spans_size, took_of};
 ghost use Rattle.group_rollup.specs.Tables.{Holds as AreOf};
 ghost use Rattle.text_output.specs.Output.{kind_of};
 ghost use Rattle.row_output.specs.Asked.{left_of};
@@ -12,12 +12,13 @@ ghost use Rattle.query_run.specs.Faults.{OnBad, OnRefusedOutput};
 ghost use Rattle.row_steps.specs.Grouped.{HasWidth, grouped_output};
 ghost use Rattle.row_steps.specs.Rows.{OnGroups, Rows};
 
-use crate::{GroupRows, GroupShape, finish_groups};
+use crate::{GroupRows, finish_groups};
 use line_input::LineReader;
-use log_reading::{Page, Span, TookList, take_spans};
-use lp_outside::{Logs, Stage};
+use log_reading::{LogSource, Page, Span, TookList, take_spans};
+use lp_outside::Stage;
 use plan_rows::ReadyPlan;
 use query_run::{Counts, Picker, WriteFault, Written, ended_by, first_page, new_chunk, stopped_in};
+use query_types::GroupShape;
 use row_output::RowOutput;
 use std::alloc::Global;
 
@@ -98,7 +99,7 @@ fn end_page<P: Picker + Drop, G: Stage>(
 }
 
 /// Puts the output rows of the groups of the records of spans, joined in order.
-pub fn group_spans<R: LineReader, L: Logs, P: Picker + Drop, G: Stage>(
+pub fn group_spans<R: LineReader, L: LogSource, P: Picker + Drop, G: Stage>(
     alloc: Global,
     reader: &R,
     waits: bool,
@@ -112,12 +113,13 @@ pub fn group_spans<R: LineReader, L: Logs, P: Picker + Drop, G: Stage>(
     took: &mut TookList,
     stage: &mut G,
 ) -> Result<Written, WriteFault>
-    requires there { Told (L.folder logs.old) (λ folder. AllSpans spans.now (λ span. span.listed ≤ length (bytes_in folder span.name))) }
+    requires readable { AreReadable L.folder L.ready logs.old spans.now }
     requires spans { AllSpans spans.now IsSpan }
     requires room { spans_size spans.now + length spans.now < 2 ^ 63 }
     requires new { IsNew output }
     requires wide { HasWidth (P.picks picker) (asks.now.keys + length asks.now.aggregates) }
     ensures grows { OnlyGrow (L.folder logs.old) (L.folder logs.new) }
+    ensures goes_logs { L.goes logs.old logs.new }
     ensures goes { G.goes stage.old stage.new }
     ensures holds { IfOk result (λ written. Told (L.folder logs.new) (λ folder. AreKept (R.format reader.now) waits spans.now folder
         → Holds (kind_of G.state G.ended) (asked_of output) stage.old (grouped_output asks.now.keys asks.now.aggregates asks.now.rollup (P.picks picker) plan.plan (spans_found (R.format reader.now) waits folder spans.now)) written.outputs stage.new)) }

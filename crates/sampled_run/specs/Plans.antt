@@ -14,6 +14,9 @@ unplanned (T.WrongArity at) = U.Refused (T.WrongArity at)
 unplanned (T.TooFewColumns at) = U.Refused (T.TooFewColumns at)
 unplanned (T.BadPattern at) = U.Refused (T.BadPattern at)
 unplanned (T.NotInSelect at) = U.Refused (T.NotInSelect at)
+unplanned (T.NotGrouped at) = U.Refused (T.NotGrouped at)
+unplanned (T.NestedAggregate at) = U.Refused (T.NestedAggregate at)
+unplanned (T.StarWithGroups at) = U.Refused (T.StarWithGroups at)
 unplanned T.Memory = U.Memory
 
 -- the fault of a plan, where that is why none is made

@@ -1,8 +1,8 @@
 // A query over CSV or TSV logs.
 ghost use Rattle.std.specs.Prelude.{◌≡◌, ◌≤◌, ◌+◌, ◌++◌, true, length, map, OnOk, IfOk, IfErr, IsErrOf};
-ghost use Rattle.lp_model.specs.Outside.{Rose, OnlyGrow, Told, bytes_in};
+ghost use Rattle.lp_model.specs.Outside.{Rose, OnlyGrow, Told};
 ghost use Rattle.log_reading.specs.Page.{IsTooMany, IsWithin};
-ghost use Rattle.log_reading.specs.Spans.{AllSpans, AreKept, IsSpan, spans_bad_lines, spans_size, took_of};
+ghost use Rattle.log_reading.specs.Spans.{AllSpans, AreReadable, AreKept, IsSpan, spans_bad_lines, spans_size, took_of};
 ghost use Rattle.delimited_input.specs.Lines.{delimited_lines};
 ghost use Rattle.delimited_input.specs.Separators.{IsRefused};
 ghost use Rattle.any_format.specs.Wanted.{IsMoment, wanted_text};
@@ -19,8 +19,8 @@ use crate::running::sample_reader;
 use crate::{Moment, SampleFault};
 use any_format::Wanted;
 use delimited_input::{Delimited, DelimitedOptions};
-use log_reading::{Span, TookList};
-use lp_outside::{Logs, Stage};
+use log_reading::{LogSource, Span, TookList};
+use lp_outside::Stage;
 use lp_time::Pattern;
 use query_run::Written;
 use query_tree::Query;
@@ -28,7 +28,7 @@ use row_output::Into;
 use std::alloc::Global;
 
 /// Writes a query's rows over the records of CSV or TSV spans, joined in order, whose columns the spans tell.
-pub fn run_sampled<'a, L: Logs, G: Stage>(
+pub fn run_sampled<'a, L: LogSource, G: Stage>(
     alloc: Global,
     options: DelimitedOptions,
     limit: u32,
@@ -50,8 +50,9 @@ pub fn run_sampled<'a, L: Logs, G: Stage>(
     requires none { IsUnplaced into }
     requires few { length spans.now ≤ 100000 }
     requires spans { AllSpans spans.now IsSpan }
-    requires there { Told (L.folder logs.old) (λ folder. AllSpans spans.now (λ span. span.listed ≤ length (bytes_in folder span.name))) }
+    requires readable { AreReadable L.folder L.ready logs.old spans.now }
     ensures grows { OnlyGrow (L.folder logs.old) (L.folder logs.new) }
+    ensures goes_logs { L.goes logs.old logs.new }
     ensures ran { IfOk result (λ run. Told (L.folder logs.new) (λ folder. AreKept (delimited_lines options) waits spans.now folder
         → IsSampled (kind_of G.state G.ended) (rules_of limit pattern.now moment.seconds (query_of query.now) (asked_by (files_for into) (wanted_text wanted moment.seconds) (query_of query.now))) stage.old (past_of (delimited_lines options) waits folder spans.now) (delimited_lines options) waits folder spans.now run stage.new)) }
     ensures stopped { IfErr result (λ fault. Told (L.folder logs.new) (λ folder. AreKept (delimited_lines options) waits spans.now folder

@@ -1,8 +1,8 @@
 // A query over logs whose columns they tell, by any reader of their format.
 ghost use Rattle.std.specs.Prelude.{◌≡◌, ◌≤◌, ◌+◌, ◌++◌, true, [], length, map, None, OnOk, IfOk, IfErr, IsErrOf};
-ghost use Rattle.lp_model.specs.Outside.{Rose, OnlyGrow, Told, bytes_in};
+ghost use Rattle.lp_model.specs.Outside.{Rose, OnlyGrow, Told};
 ghost use Rattle.log_reading.specs.Page.{IsTooMany, IsWithin};
-ghost use Rattle.log_reading.specs.Spans.{AllSpans, AreKept, IsSpan, spans_bad_lines, spans_size, took_of};
+ghost use Rattle.log_reading.specs.Spans.{AllSpans, AreReadable, AreKept, IsSpan, spans_bad_lines, spans_size, took_of};
 ghost use Rattle.any_format.specs.Wanted.{IsMoment, wanted_text};
 ghost use Rattle.text_output.specs.Output.{kind_of};
 ghost use Rattle.row_output.specs.Sinks.{IsUnplaced, files_for};
@@ -22,8 +22,8 @@ use crate::{Moment, RowMaker, SampleFault};
 use any_format::Wanted;
 use column_kinds::{Gathering, KeptRows, Phase, Sampled};
 use line_input::{Fields, LineReader, Splitter, Standing};
-use log_reading::{Page, RunFault, Span, TookList, take_spans};
-use lp_outside::{Logs, Stage};
+use log_reading::{LogSource, Page, RunFault, Span, TookList, take_spans};
+use lp_outside::Stage;
 use lp_time::Pattern;
 use query_run::{Counts, Writer, Written};
 use query_tree::Query;
@@ -126,7 +126,7 @@ fn first_page<'a, G>(
 }
 
 // Reads all lines of spans, by a reader of their format.
-fn read_page<'a, R: LineReader, L: Logs, G: Stage>(
+fn read_page<'a, R: LineReader, L: LogSource, G: Stage>(
     alloc: Global,
     reader: &R,
     limit: u32,
@@ -147,8 +147,9 @@ fn read_page<'a, R: LineReader, L: Logs, G: Stage>(
     requires none { IsUnplaced into }
     requires few { length spans.now ≤ 100000 }
     requires spans { AllSpans spans.now IsSpan }
-    requires there { Told (L.folder logs.old) (λ folder. AllSpans spans.now (λ span. span.listed ≤ length (bytes_in folder span.name))) }
+    requires readable { AreReadable L.folder L.ready logs.old spans.now }
     ensures grows { OnlyGrow (L.folder logs.old) (L.folder logs.new) }
+    ensures goes_logs { L.goes logs.old logs.new }
     ensures read { IfOk result (HasRead (writer_kind (kind_of G.state G.ended)) (R.format reader.now) waits (L.folder logs.new) spans.now limit pattern.now moment.seconds (query_of query.now) wanted into stage.old stage.new) }
     ensures stopped { IfErr result (λ fault. Told (L.folder logs.new) (λ folder. AreKept (R.format reader.now) waits spans.now folder
         → IsStoppedBy (kind_of G.state G.ended) (rules_of limit pattern.now moment.seconds (query_of query.now) (asked_by (files_for into) (wanted_text wanted moment.seconds) (query_of query.now))) stage.old (past_behind (R.format reader.now) waits folder (record { first = None; founds = [] }) spans.now) fault stage.new)) }
@@ -180,7 +181,7 @@ fn read_page<'a, R: LineReader, L: Logs, G: Stage>(
 }
 
 /// Writes the output rows of a query over the records of spans, joined in order, whose columns they tell, by a reader of their format.
-pub(crate) fn sample_reader<'a, R: LineReader, L: Logs, G: Stage>(
+pub(crate) fn sample_reader<'a, R: LineReader, L: LogSource, G: Stage>(
     alloc: Global,
     reader: &R,
     limit: u32,
@@ -201,8 +202,9 @@ pub(crate) fn sample_reader<'a, R: LineReader, L: Logs, G: Stage>(
     requires none { IsUnplaced into }
     requires few { length spans.now ≤ 100000 }
     requires spans { AllSpans spans.now IsSpan }
-    requires there { Told (L.folder logs.old) (λ folder. AllSpans spans.now (λ span. span.listed ≤ length (bytes_in folder span.name))) }
+    requires readable { AreReadable L.folder L.ready logs.old spans.now }
     ensures grows { OnlyGrow (L.folder logs.old) (L.folder logs.new) }
+    ensures goes_logs { L.goes logs.old logs.new }
     ensures ran { IfOk result (λ run. Told (L.folder logs.new) (λ folder. AreKept (R.format reader.now) waits spans.now folder
         → IsSampled (kind_of G.state G.ended) (rules_of limit pattern.now moment.seconds (query_of query.now) (asked_by (files_for into) (wanted_text wanted moment.seconds) (query_of query.now))) stage.old (past_behind (R.format reader.now) waits folder (record { first = None; founds = [] }) spans.now) (R.format reader.now) waits folder spans.now run stage.new)) }
     ensures stopped { IfErr result (λ fault. Told (L.folder logs.new) (λ folder. AreKept (R.format reader.now) waits spans.now folder

@@ -1,12 +1,12 @@
-use Rattle.std.proofs.Common.{Ok, Err, FitsSigned, w64}
+use Rattle.std.proofs.Common.{Ok, Err, FitsSigned, sym, ◌∙◌, w64}
 use Rattle.std.proofs.lemmas.Int.{to_z-of_z}
-use Rattle.lp_model.proofs.Growing.{OnlyGrow-trans}
+use Rattle.lp_model.proofs.Growing.{OnlyGrow-refl, OnlyGrow-trans}
 use Rattle.execution.specs.Texts.{sections_in}
 use Rattle.query_tree.specs.Views.{query_of}
 use Rattle.checkpointed_run.specs.Staged.{request_of}
-use Rattle.checkpointed_run.specs.Steps.{ledger_ending}
-use Rattle.checkpointed_run.proofs.Causes.{damage_rested}
-use Rattle.checkpointed_run.proofs.OverDisk.{ledger_not_well, spans_as, steps_not_begun, steps_over}
+use Rattle.checkpointed_run.specs.declared.over.LedgerStop.TheVariants as L
+use Rattle.checkpointed_run.proofs.Causes.{damage_rested, none_loaded}
+use Rattle.checkpointed_run.proofs.OverDisk.{spans_as, steps_not_begun, steps_over}
 use Rattle.checkpointed_run.proofs.over.run_over_ledger.Goals as goal
 
 pub returns-in-Ok-run_over_spans-clause-grows : goal.returns-in-Ok-run_over_spans-clause-grows
@@ -16,30 +16,58 @@ pub returns-clause-grows : goal.returns-clause-grows
 returns-clause-grows g c = OnlyGrow-trans _ _ _ c.spans_over.ensures.grows c.run_over_spans.ensures.grows
 
 pub returns-in-Err-clause-step : goal.returns-in-Err-clause-step
-returns-in-Err-clause-step g c =
+returns-in-Err-clause-step g c = λ earlier since near front.
     steps_not_begun g.D.Disk.state g.met.D.Disk.only_now g.met.D.Disk.seen_left g.met.D.Disk.counts_now g.met.D.Disk.honest_tells
     (request_of c.args.spec.now (query_of c.args.query.now) c.args.text c.args.bytes c.args.moment) (c.input_texts_tell_their_format.ensures c.args.spec.now (query_of c.args.query.now)) (sections_in (λ t. t.value) c.args.template) c.requires.sections
-    c.args.files c.args.disk.now c.spans_over.new.disk c.spans_over.ensures.rests _ _ (ledger_ending c.in-Err.stop) (ledger_not_well c.in-Err.stop)
+    c.args.files earlier c.args.disk.now c.spans_over.new.disk near c.spans_over.ensures.rests since _ c.in-Err.stop
+    (λ can. none_loaded (g.D.Disk.state c.args.disk.now) c.args.files.ledger c.args.files.stage _ _ _ _ _ c.in-Err.stop (g.met.D.Disk.honest_tells c.args.disk.now can.honest) (g.met.D.Disk.seen_left c.args.disk.now can.honest) can c.in-Err.ensures.not_begun)
+
+pub returns-in-Some-clause-step : goal.returns-in-Some-clause-step
+returns-in-Some-clause-step g c = λ earlier since near front.
+    steps_not_begun g.D.Disk.state g.met.D.Disk.only_now g.met.D.Disk.seen_left g.met.D.Disk.counts_now g.met.D.Disk.honest_tells
+    (request_of c.args.spec.now (query_of c.args.query.now) c.args.text c.args.bytes c.args.moment) (c.input_texts_tell_their_format.ensures c.args.spec.now (query_of c.args.query.now)) (sections_in (λ t. t.value) c.args.template) c.requires.sections
+    c.args.files earlier c.args.disk.now c.spans_over.new.disk near c.spans_over.ensures.rests since _ (L.Clash c.in-Some.name) (λ can told. told)
+
+pub returns-in-Some-clause-refused : goal.returns-in-Some-clause-refused
+returns-in-Some-clause-refused g c = record { listed = _; grows = OnlyGrow-refl _; spans = c.in-Ok.spans; has = c.in-Ok.ensures.spans; is = sym c.in-Some.ensures }
 
 pub returns-in-Ok-run_over_spans-clause-step : goal.returns-in-Ok-run_over_spans-clause-step
-returns-in-Ok-run_over_spans-clause-step g c =
+returns-in-Ok-run_over_spans-clause-step g c = λ earlier since near front.
     let range : FitsSigned w64 c.args.moment = c.ranges.moment in
     steps_over g.D.Disk.state g.met.D.Disk.only_now g.met.D.Disk.seen_left g.met.D.Disk.counts_now g.met.D.Disk.honest_tells
     (request_of c.args.spec.now (query_of c.args.query.now) c.args.text c.args.bytes c.args.moment) (c.input_texts_tell_their_format.ensures c.args.spec.now (query_of c.args.query.now)) (sections_in (λ t. t.value) c.args.template) c.requires.sections
-    c.args.files c.args.disk.now c.spans_over.new.disk c.spans_over.ensures.rests c.requires.ledger c.requires.stage
-    _ _ _ c.spans_over.ensures.grows c.run_over_spans.ensures.grows c.in-Ok.spans c.in-Ok.ensures.low
+    c.args.files earlier c.args.disk.now c.spans_over.new.disk near c.spans_over.ensures.rests c.requires.ledger c.requires.stage
+    since _ _ _ front c.spans_over.ensures.grows c.run_over_spans.ensures.grows c.in-Ok.spans c.in-Ok.ensures.low
     (spans_as _ _ _ _ _ _ _ _ _ _ c.requires.rotation c.requires.names c.in-Ok.ensures.spans) c.run_over_spans.new.disk
     (Ok c.in-Ok-run_over_spans.counts) (simp to_z-of_z at c.in-Ok-run_over_spans.ensures.runs)
 
 pub returns-clause-step : goal.returns-clause-step
-returns-clause-step g c =
+returns-clause-step g c = λ earlier since near front.
     let range : FitsSigned w64 c.args.moment = c.ranges.moment in
     steps_over g.D.Disk.state g.met.D.Disk.only_now g.met.D.Disk.seen_left g.met.D.Disk.counts_now g.met.D.Disk.honest_tells
     (request_of c.args.spec.now (query_of c.args.query.now) c.args.text c.args.bytes c.args.moment) (c.input_texts_tell_their_format.ensures c.args.spec.now (query_of c.args.query.now)) (sections_in (λ t. t.value) c.args.template) c.requires.sections
-    c.args.files c.args.disk.now c.spans_over.new.disk c.spans_over.ensures.rests c.requires.ledger c.requires.stage
-    _ _ _ c.spans_over.ensures.grows c.run_over_spans.ensures.grows c.in-Ok.spans c.in-Ok.ensures.low
+    c.args.files earlier c.args.disk.now c.spans_over.new.disk near c.spans_over.ensures.rests c.requires.ledger c.requires.stage
+    since _ _ _ front c.spans_over.ensures.grows c.run_over_spans.ensures.grows c.in-Ok.spans c.in-Ok.ensures.low
     (spans_as _ _ _ _ _ _ _ _ _ _ c.requires.rotation c.requires.names c.in-Ok.ensures.spans) c.run_over_spans.new.disk
     (Err c.in-Err-run_over_spans.stop) (simp to_z-of_z at c.in-Err-run_over_spans.ensures.runs)
 
 pub returns-clause-damaged : goal.returns-clause-damaged
 returns-clause-damaged g c = damage_rested (g.D.Disk.state c.args.disk.now) (g.D.Disk.state c.spans_over.new.disk) _ _ c.spans_over.ensures.rests c.in-Err-run_over_spans.stop c.in-Err-run_over_spans.ensures.damaged
+
+pub returns-in-Ok-run_over_spans-clause-ran : goal.returns-in-Ok-run_over_spans-clause-ran
+returns-in-Ok-run_over_spans-clause-ran g c =
+    let range : FitsSigned w64 c.args.moment = c.ranges.moment in
+    let runs = simp to_z-of_z at c.in-Ok-run_over_spans.ensures.runs in
+    let stages = runs.committed.comes.stages in
+    record {
+      listed = g.L.Logs.folder c.spans_over.new.logs;
+      grows = c.run_over_spans.ensures.grows;
+      spans = c.in-Ok.spans;
+      has = c.in-Ok.ensures.spans;
+      free = sym c.clash_in.ensures ∙ c.in_default.is;
+      started = stages.started;
+      staged = runs.committed.comes.staged;
+      took = stages.took;
+      outputs = stages.outputs;
+      carried = stages.carried;
+    }

@@ -14,4 +14,5 @@ returns-clause-runs g c =
       committed = simp to_z-of_z at c.commit_run.ensures.committed;
       before = c.commit_run.ensures.before;
       behind = simp to_z-of_z at c.commit_run.ensures.behind;
+      undamaged = c.commit_run.ensures.undamaged;
     }

@@ -4,7 +4,7 @@ use Rattle.ledger.specs.Written.{entry_of}
 use Rattle.execution.specs.Texts.{sections_in}
 use Rattle.query_tree.specs.Views.{query_of}
 use Rattle.checkpointed_run.specs.Staged.{request_of}
-use Rattle.checkpointed_run.proofs.Causes.{damage_is, refused_for}
+use Rattle.checkpointed_run.proofs.Causes.{damage_is, none_told, refused_for}
 use Rattle.commit.proofs.Composing.{either_on, goes_keeps, preserves_on, same_on, settles_on}
 use Rattle.checkpointed_run.proofs.running.commit_run.Goals as goal
 
@@ -35,6 +35,7 @@ returns-in-Err-open_gate-clause-behind g c = λ is.
         seals = record { same = c.seal.ensures.same; any_moment = c.seal.ensures.any_moment; small = c.in-Ok-seal.ensures.small; sealed = c.in-Ok-seal.ensures.sealed };
       };
       opens = record { same = c.open_gate.ensures.same; any_moment = c.open_gate.ensures.any_moment };
+      undamaged = λ told. absurd told;
     }
 
 pub returns-in-Ok-finish-clause-committed : goal.returns-in-Ok-finish-clause-committed
@@ -80,7 +81,14 @@ returns-clause-behind g c = λ is.
             either_on g.D.Disk.state g.met.D.Disk.only_now g.met.D.Disk.seen_left c.seal.new.self c.open_gate.new.self c.finish.new.self entries entry before after c.open_gate.ensures.same
             (c.open_gate.ensures.any_moment entry entries before after is) (c.finish.ensures.any_moment entry (entries ++ entry ∷ []) after (c.in-Ok-open_gate.ensures.opened entry entries before after is));
       };
+      undamaged = λ told entries before after is. none_told c.in-Err-finish.fault
+          (λ part p e. c.in-Err-finish.ensures.no_fault part p e (entry_of c.in-Ok-stage_run.run'.entry) (entries ++ entry_of c.in-Ok-stage_run.run'.entry ∷ []) after
+          (c.in-Ok-open_gate.ensures.opened (entry_of c.in-Ok-stage_run.run'.entry) entries before after is))
+          told;
     }
+
+pub returns-in-Err-clause-undamaged : goal.returns-in-Err-clause-undamaged
+returns-in-Err-clause-undamaged g c = λ is told can. none_told c.in-Err.fault (λ part p e. c.in-Err.ensures.no_fault part p e can) told
 
 pub returns-in-Err-clause-damaged : goal.returns-in-Err-clause-damaged
 returns-in-Err-clause-damaged g c = damage_is (g.D.Disk.state c.args.commit.now.disk.now) c.args.commit.now.files.ledger c.args.commit.now.files.stage c.in-Err.fault c.in-Err.ensures.fault

@@ -1,4 +1,4 @@
-use Rattle.std.proofs.Common.{ℕ, refl, sym, ◌∙◌, subst, FitsSigned, w64}
+use Rattle.std.proofs.Common.{ℕ, inl, refl, sym, ◌∙◌, subst, FitsSigned, w64}
 use Rattle.std.proofs.lemmas.Int.{to_z-of_z}
 use Rattle.query_tree.specs.Views.{query_of}
 use Rattle.commit.specs.Going.{goes_on}
@@ -33,3 +33,6 @@ returns-in-Ok-make_entry-clause-staged g c =
       parts = c.in-Ok-make_entry.ensures.parts;
       formed = λ form. (simp to_z-of_z at c.in-Ok-make_entry.ensures.formed) (subst (λ (bytes : ℕ). HasForm request c.in_ok-ran.ran.took c.in_ok-ran.ran.outputs bytes c.in_ok-ran.ran.counts) (sym c.staged.ensures) form);
     }
+
+pub execute-requires-clause-readable : goal.execute-requires-clause-readable
+execute-requires-clause-readable g c = inl (record { there = c.requires.there; ready = λ later name place. tt })

@@ -42,7 +42,7 @@ returns-in_default-clause-stopped g c = stopped_at_once (log_format c.args.spec.
 pub returns-in-Tabled-clause-ran : goal.returns-in-Tabled-clause-ran
 returns-in-Tabled-clause-ran g c =
     let range : FitsSigned w64 c.args.moment = c.ranges.moment in
-    let told = g.L.Logs.folder c.execute_tabled.new.logs in
+    let told = g.L.LogSource.folder c.execute_tabled.new.logs in
     let kind = kind_of g.G.Stage.state g.G.Stage.ended in
     let u = c.args.stage.now in
     let v = c.execute_tabled.new.stage in
@@ -55,7 +55,7 @@ returns-in-Tabled-clause-ran g c =
 pub returns-in-Tabled-clause-stopped : goal.returns-in-Tabled-clause-stopped
 returns-in-Tabled-clause-stopped g c =
     let range : FitsSigned w64 c.args.moment = c.ranges.moment in
-    let told = g.L.Logs.folder c.execute_tabled.new.logs in
+    let told = g.L.LogSource.folder c.execute_tabled.new.logs in
     let kind = kind_of g.G.Stage.state g.G.Stage.ended in
     let u = c.args.stage.now in
     let v = c.execute_tabled.new.stage in
@@ -68,7 +68,7 @@ returns-in-Tabled-clause-stopped g c =
 pub returns-in-Tabled-clause-refused : goal.returns-in-Tabled-clause-refused
 returns-in-Tabled-clause-refused g c =
     let range : FitsSigned w64 c.args.moment = c.ranges.moment in
-    let told = g.L.Logs.folder c.execute_tabled.new.logs in
+    let told = g.L.LogSource.folder c.execute_tabled.new.logs in
     let q = query_of c.args.query.now in
     let Of : LogFormat → (Planned → Asked) → Type 0 = λ f a. IfRefused c.execute_tabled.result (λ (why : Refused). IsUnplaced f c.args.waits told a c.args.spec.now c.args.moment q c.args.spans.now why) in
     let asked = as_asked c.args.spec.now q c.args.spans.now c.output_of.result _ c.args.moment (files_for c.in-Ok.into) (wanted_text c.wanted_as-wanted.result c.args.moment) c.in-Ok.ensures.files c.output_of.ensures (c.wanted_as-wanted.ensures c.args.moment) in
@@ -78,29 +78,29 @@ returns-in-Tabled-clause-refused g c =
 pub returns-in-Tabled-clause-plan : goal.returns-in-Tabled-clause-plan
 returns-in-Tabled-clause-plan g c =
     let range : FitsSigned w64 c.args.moment = c.ranges.moment in
-    let told = g.L.Logs.folder c.execute_tabled.new.logs in
+    let told = g.L.LogSource.folder c.execute_tabled.new.logs in
     subst (λ (f : LogFormat). IfPlan c.execute_tabled.result (λ (fault : TypeFault). IsUnplanned f c.args.waits told c.args.spec.now c.args.moment (query_of c.args.query.now) c.args.spans.now fault)) (sym c.in-Tabled.is ∙ c.log_format.ensures) (simp to_z-of_z at c.execute_tabled.ensures.plan)
 
 pub returns-in-Tabled-clause-before : goal.returns-in-Tabled-clause-before
 returns-in-Tabled-clause-before g c =
-    let told = g.L.Logs.folder c.execute_tabled.new.logs in
+    let told = g.L.LogSource.folder c.execute_tabled.new.logs in
     subst (λ (f : LogFormat). IfPlan c.execute_tabled.result (λ (fault : TypeFault). IsUntouched f c.args.waits told (c.execute_tabled.new.stage ≡ c.args.stage.now) c.args.spec.now c.args.spans.now)) (sym c.in-Tabled.is ∙ c.log_format.ensures) c.execute_tabled.ensures.before
 
 pub returns-in-Tabled-clause-parse : goal.returns-in-Tabled-clause-parse
 returns-in-Tabled-clause-parse g c =
     let range : FitsSigned w64 c.args.moment = c.ranges.moment in
-    let told = g.L.Logs.folder c.execute_tabled.new.logs in
+    let told = g.L.LogSource.folder c.execute_tabled.new.logs in
     subst (λ (f : LogFormat). IfParse c.execute_tabled.result (λ (line : BadLine). IsParseError f c.args.waits told c.args.spec.now c.args.moment (query_of c.args.query.now) c.args.spans.now line)) (sym c.in-Tabled.is ∙ c.log_format.ensures) (simp to_z-of_z at c.execute_tabled.ensures.parse)
 
 pub returns-in-Tabled-clause-took : goal.returns-in-Tabled-clause-took
 returns-in-Tabled-clause-took g c =
-    let told = g.L.Logs.folder c.execute_tabled.new.logs in
+    let told = g.L.LogSource.folder c.execute_tabled.new.logs in
     subst (λ (f : LogFormat). IfOk c.execute_tabled.result (λ (ran : Ran). c.args.waits ≡ true → Told told (λ folder. AreKept (lines_in f) true c.args.spans.now folder → ran.took ≡ map (took_of (lines_in f) folder) c.args.spans.now))) (sym c.in-Tabled.is ∙ c.log_format.ensures) c.execute_tabled.ensures.took
 
 pub returns-in-Sampled-clause-ran : goal.returns-in-Sampled-clause-ran
 returns-in-Sampled-clause-ran g c =
     let range : FitsSigned w64 c.args.moment = c.ranges.moment in
-    let told = g.L.Logs.folder c.execute_sampled.new.logs in
+    let told = g.L.LogSource.folder c.execute_sampled.new.logs in
     let kind = kind_of g.G.Stage.state g.G.Stage.ended in
     let u = c.args.stage.now in
     let v = c.execute_sampled.new.stage in
@@ -113,7 +113,7 @@ returns-in-Sampled-clause-ran g c =
 pub returns-in-Sampled-clause-stopped : goal.returns-in-Sampled-clause-stopped
 returns-in-Sampled-clause-stopped g c =
     let range : FitsSigned w64 c.args.moment = c.ranges.moment in
-    let told = g.L.Logs.folder c.execute_sampled.new.logs in
+    let told = g.L.LogSource.folder c.execute_sampled.new.logs in
     let kind = kind_of g.G.Stage.state g.G.Stage.ended in
     let u = c.args.stage.now in
     let v = c.execute_sampled.new.stage in
@@ -126,7 +126,7 @@ returns-in-Sampled-clause-stopped g c =
 pub returns-in-Sampled-clause-refused : goal.returns-in-Sampled-clause-refused
 returns-in-Sampled-clause-refused g c =
     let range : FitsSigned w64 c.args.moment = c.ranges.moment in
-    let told = g.L.Logs.folder c.execute_sampled.new.logs in
+    let told = g.L.LogSource.folder c.execute_sampled.new.logs in
     let q = query_of c.args.query.now in
     let Of : LogFormat → (Planned → Asked) → Type 0 = λ f a. IfRefused c.execute_sampled.result (λ (why : Refused). IsUnplaced f c.args.waits told a c.args.spec.now c.args.moment q c.args.spans.now why) in
     let asked = as_asked c.args.spec.now q c.args.spans.now c.output_of.result _ c.args.moment (files_for c.in-Ok.into) (wanted_text c.wanted_as-wanted.result c.args.moment) c.in-Ok.ensures.files c.output_of.ensures (c.wanted_as-wanted.ensures c.args.moment) in
@@ -136,21 +136,21 @@ returns-in-Sampled-clause-refused g c =
 pub returns-in-Sampled-clause-plan : goal.returns-in-Sampled-clause-plan
 returns-in-Sampled-clause-plan g c =
     let range : FitsSigned w64 c.args.moment = c.ranges.moment in
-    let told = g.L.Logs.folder c.execute_sampled.new.logs in
+    let told = g.L.LogSource.folder c.execute_sampled.new.logs in
     subst (λ (f : LogFormat). IfPlan c.execute_sampled.result (λ (fault : TypeFault). IsUnplanned f c.args.waits told c.args.spec.now c.args.moment (query_of c.args.query.now) c.args.spans.now fault)) (sym c.in-Sampled.is ∙ c.log_format.ensures) (simp to_z-of_z at c.execute_sampled.ensures.plan)
 
 pub returns-in-Sampled-clause-before : goal.returns-in-Sampled-clause-before
 returns-in-Sampled-clause-before g c =
-    let told = g.L.Logs.folder c.execute_sampled.new.logs in
+    let told = g.L.LogSource.folder c.execute_sampled.new.logs in
     subst (λ (f : LogFormat). IfPlan c.execute_sampled.result (λ (fault : TypeFault). IsUntouched f c.args.waits told (c.execute_sampled.new.stage ≡ c.args.stage.now) c.args.spec.now c.args.spans.now)) (sym c.in-Sampled.is ∙ c.log_format.ensures) c.execute_sampled.ensures.before
 
 pub returns-in-Sampled-clause-parse : goal.returns-in-Sampled-clause-parse
 returns-in-Sampled-clause-parse g c =
     let range : FitsSigned w64 c.args.moment = c.ranges.moment in
-    let told = g.L.Logs.folder c.execute_sampled.new.logs in
+    let told = g.L.LogSource.folder c.execute_sampled.new.logs in
     subst (λ (f : LogFormat). IfParse c.execute_sampled.result (λ (line : BadLine). IsParseError f c.args.waits told c.args.spec.now c.args.moment (query_of c.args.query.now) c.args.spans.now line)) (sym c.in-Sampled.is ∙ c.log_format.ensures) (simp to_z-of_z at c.execute_sampled.ensures.parse)
 
 pub returns-in-Sampled-clause-took : goal.returns-in-Sampled-clause-took
 returns-in-Sampled-clause-took g c =
-    let told = g.L.Logs.folder c.execute_sampled.new.logs in
+    let told = g.L.LogSource.folder c.execute_sampled.new.logs in
     subst (λ (f : LogFormat). IfOk c.execute_sampled.result (λ (ran : Ran). c.args.waits ≡ true → Told told (λ folder. AreKept (lines_in f) true c.args.spans.now folder → ran.took ≡ map (took_of (lines_in f) folder) c.args.spans.now))) (sym c.in-Sampled.is ∙ c.log_format.ensures) c.execute_sampled.ensures.took

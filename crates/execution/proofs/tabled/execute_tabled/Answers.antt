@@ -32,7 +32,7 @@ pub returns-in-Ok-run_plan-clause-ran : goal.returns-in-Ok-run_plan-clause-ran
 returns-in-Ok-run_plan-clause-ran g c =
     let run = c.in-Ok-run_plan.ensures in
     let Has : Asked → List (List Value) → Type 0 = λ asked rows. Holds (kind_of g.G.Stage.state g.G.Stage.ended) asked c.args.stage.now rows c.in-Ok-run_plan.run'.outputs c.run_plan.new.stage in
-    executed (g.L.Logs.folder c.run_plan.new.logs) Has (asked_with c.args.into c.args.wanted c.args.moment.seconds (query_of c.args.query.now)) c.args.spec.now c.args.moment.seconds (query_of c.args.query.now)
+    executed (g.L.LogSource.folder c.run_plan.new.logs) Has (asked_with c.args.into c.args.wanted c.args.moment.seconds (query_of c.args.query.now)) c.args.spec.now c.args.moment.seconds (query_of c.args.query.now)
     c.args.format c.args.waits (planned_in c.in-Ok.plan) c.as_slice.result.now c.args.spans.now c.in-Ok-run_plan.run'.counts (asked_of c.in-Ok-output_of_rows.output) c.as_slice.ensures c.in-Ok.ensures.plan c.in-Ok-output_of_rows.ensures.asked
     run.holds run.processed run.output run.bad
 
@@ -41,39 +41,39 @@ returns-in-Ok-run_plan-clause-within g c = subst (λ (most : Option ℕ). IsWith
 
 pub returns-in-Ok-run_plan-clause-took : goal.returns-in-Ok-run_plan-clause-took
 returns-in-Ok-run_plan-clause-took g c =
-    taken (g.L.Logs.folder c.run_plan.new.logs) (lines_of c.args.format) c.args.waits c.as_slice.result.now c.args.spans.now c.new-took.result c.run_plan.new.took c.as_slice.ensures c.new-took.ensures c.in-Ok-run_plan.ensures.took
+    taken (g.L.LogSource.folder c.run_plan.new.logs) (lines_of c.args.format) c.args.waits c.as_slice.result.now c.args.spans.now c.new-took.result c.run_plan.new.took c.as_slice.ensures c.new-took.ensures c.in-Ok-run_plan.ensures.took
 
 pub returns-in-Err-Memory-clause-stopped : goal.returns-in-Err-Memory-clause-stopped
 returns-in-Err-Memory-clause-stopped g c = inr
-    (front (g.L.Logs.folder c.run_plan.new.logs) (λ asked rows. Stops (kind_of g.G.Stage.state g.G.Stage.ended) asked c.args.stage.now rows c.run_plan.new.stage) (asked_with c.args.into c.args.wanted c.args.moment.seconds (query_of c.args.query.now)) c.args.spec.now c.args.moment.seconds (query_of c.args.query.now)
+    (front (g.L.LogSource.folder c.run_plan.new.logs) (λ asked rows. Stops (kind_of g.G.Stage.state g.G.Stage.ended) asked c.args.stage.now rows c.run_plan.new.stage) (asked_with c.args.into c.args.wanted c.args.moment.seconds (query_of c.args.query.now)) c.args.spec.now c.args.moment.seconds (query_of c.args.query.now)
     c.args.format c.args.waits (planned_in c.in-Ok.plan) c.as_slice.result.now c.args.spans.now (asked_of c.in-Ok-output_of_rows.output) c.as_slice.ensures c.in-Ok.ensures.plan c.in-Ok-output_of_rows.ensures.asked c.in-Err-Memory.ensures.stops)
 
 pub returns-in-Err-Logs-clause-stopped : goal.returns-in-Err-Logs-clause-stopped
 returns-in-Err-Logs-clause-stopped g c = inr
-    (front (g.L.Logs.folder c.run_plan.new.logs) (λ asked rows. Stops (kind_of g.G.Stage.state g.G.Stage.ended) asked c.args.stage.now rows c.run_plan.new.stage) (asked_with c.args.into c.args.wanted c.args.moment.seconds (query_of c.args.query.now)) c.args.spec.now c.args.moment.seconds (query_of c.args.query.now)
+    (front (g.L.LogSource.folder c.run_plan.new.logs) (λ asked rows. Stops (kind_of g.G.Stage.state g.G.Stage.ended) asked c.args.stage.now rows c.run_plan.new.stage) (asked_with c.args.into c.args.wanted c.args.moment.seconds (query_of c.args.query.now)) c.args.spec.now c.args.moment.seconds (query_of c.args.query.now)
     c.args.format c.args.waits (planned_in c.in-Ok.plan) c.as_slice.result.now c.args.spans.now (asked_of c.in-Ok-output_of_rows.output) c.as_slice.ensures c.in-Ok.ensures.plan c.in-Ok-output_of_rows.ensures.asked c.in-Err-Logs.ensures.stops)
 
 pub returns-in-Err-Output-clause-stopped : goal.returns-in-Err-Output-clause-stopped
 returns-in-Err-Output-clause-stopped g c = inr
-    (front (g.L.Logs.folder c.run_plan.new.logs) (λ asked rows. Stops (kind_of g.G.Stage.state g.G.Stage.ended) asked c.args.stage.now rows c.run_plan.new.stage) (asked_with c.args.into c.args.wanted c.args.moment.seconds (query_of c.args.query.now)) c.args.spec.now c.args.moment.seconds (query_of c.args.query.now)
+    (front (g.L.LogSource.folder c.run_plan.new.logs) (λ asked rows. Stops (kind_of g.G.Stage.state g.G.Stage.ended) asked c.args.stage.now rows c.run_plan.new.stage) (asked_with c.args.into c.args.wanted c.args.moment.seconds (query_of c.args.query.now)) c.args.spec.now c.args.moment.seconds (query_of c.args.query.now)
     c.args.format c.args.waits (planned_in c.in-Ok.plan) c.as_slice.result.now c.args.spans.now (asked_of c.in-Ok-output_of_rows.output) c.as_slice.ensures c.in-Ok.ensures.plan c.in-Ok-output_of_rows.ensures.asked c.in-Err-Output.ensures.stops)
 
 pub returns-in-Err-Refused-clause-stopped : goal.returns-in-Err-Refused-clause-stopped
 returns-in-Err-Refused-clause-stopped g c = inr
-    (front (g.L.Logs.folder c.run_plan.new.logs) (λ asked rows. Stops (kind_of g.G.Stage.state g.G.Stage.ended) asked c.args.stage.now rows c.run_plan.new.stage) (asked_with c.args.into c.args.wanted c.args.moment.seconds (query_of c.args.query.now)) c.args.spec.now c.args.moment.seconds (query_of c.args.query.now)
+    (front (g.L.LogSource.folder c.run_plan.new.logs) (λ asked rows. Stops (kind_of g.G.Stage.state g.G.Stage.ended) asked c.args.stage.now rows c.run_plan.new.stage) (asked_with c.args.into c.args.wanted c.args.moment.seconds (query_of c.args.query.now)) c.args.spec.now c.args.moment.seconds (query_of c.args.query.now)
     c.args.format c.args.waits (planned_in c.in-Ok.plan) c.as_slice.result.now c.args.spans.now (asked_of c.in-Ok-output_of_rows.output) c.as_slice.ensures c.in-Ok.ensures.plan c.in-Ok-output_of_rows.ensures.asked c.in-Err-Refused.ensures.stops)
 
 pub returns-clause-stopped : goal.returns-clause-stopped
 returns-clause-stopped g c = inr
-    (front (g.L.Logs.folder c.run_plan.new.logs) (λ asked rows. Stops (kind_of g.G.Stage.state g.G.Stage.ended) asked c.args.stage.now rows c.run_plan.new.stage) (asked_with c.args.into c.args.wanted c.args.moment.seconds (query_of c.args.query.now)) c.args.spec.now c.args.moment.seconds (query_of c.args.query.now)
+    (front (g.L.LogSource.folder c.run_plan.new.logs) (λ asked rows. Stops (kind_of g.G.Stage.state g.G.Stage.ended) asked c.args.stage.now rows c.run_plan.new.stage) (asked_with c.args.into c.args.wanted c.args.moment.seconds (query_of c.args.query.now)) c.args.spec.now c.args.moment.seconds (query_of c.args.query.now)
     c.args.format c.args.waits (planned_in c.in-Ok.plan) c.as_slice.result.now c.args.spans.now (asked_of c.in-Ok-output_of_rows.output) c.as_slice.ensures c.in-Ok.ensures.plan c.in-Ok-output_of_rows.ensures.asked c.in-Err-Bad.ensures.stops)
 
 pub returns-in-Err-Refused-clause-refused : goal.returns-in-Err-Refused-clause-refused
 returns-in-Err-Refused-clause-refused g c =
-    rw c.in-Err-Refused.field-0-is (front (g.L.Logs.folder c.run_plan.new.logs) (λ asked rows. IsRefused asked rows c.in-Err-Refused.why) (asked_with c.args.into c.args.wanted c.args.moment.seconds (query_of c.args.query.now)) c.args.spec.now c.args.moment.seconds (query_of c.args.query.now)
+    rw c.in-Err-Refused.field-0-is (front (g.L.LogSource.folder c.run_plan.new.logs) (λ asked rows. IsRefused asked rows c.in-Err-Refused.why) (asked_with c.args.into c.args.wanted c.args.moment.seconds (query_of c.args.query.now)) c.args.spec.now c.args.moment.seconds (query_of c.args.query.now)
     c.args.format c.args.waits (planned_in c.in-Ok.plan) c.as_slice.result.now c.args.spans.now (asked_of c.in-Ok-output_of_rows.output) c.as_slice.ensures c.in-Ok.ensures.plan c.in-Ok-output_of_rows.ensures.asked (rw c.in-Err-Refused.field-0-is at c.in-Err-Refused.ensures.refused))
 
 pub returns-clause-parse : goal.returns-clause-parse
 returns-clause-parse g c =
-    rw c.in-Err-Bad.field-0-is (parse_error (g.L.Logs.folder c.run_plan.new.logs) c.args.spec.now c.args.moment.seconds (query_of c.args.query.now)
+    rw c.in-Err-Bad.field-0-is (parse_error (g.L.LogSource.folder c.run_plan.new.logs) c.args.spec.now c.args.moment.seconds (query_of c.args.query.now)
     c.args.format c.args.waits (planned_in c.in-Ok.plan) c.as_slice.result.now c.args.spans.now c.most_bad.result _ c.as_slice.ensures c.in-Ok.ensures.plan c.most_bad.ensures (rw c.in-Err-Bad.field-0-is at c.in-Err-Bad.ensures.too_many))

@@ -1,6 +1,5 @@
-use Rattle.std.proofs.Common.{◌≡◌, Bool, true, length, ap, refl, ◌∙◌, arith}
+use Rattle.std.proofs.Common.{◌≡◌, Bool, true, length, ap, refl, subst, sym, ◌∙◌, arith}
 use Rattle.lp_model.proofs.Growing.{OnlyGrow-refl, OnlyGrow-trans}
-use Rattle.lp_model.proofs.Pieces.{there_grown}
 use Rattle.lp_model.proofs.Results.{on_err}
 use Rattle.log_reading.proofs.Spanning.{has_read_none, has_read_trans, stops_behind, exceeds_behind}
 use Rattle.log_reading.proofs.Ahead.{has_read_grown}
@@ -17,8 +16,10 @@ log-init g c =
     let start = c.requires.start in
     record {
       grows = OnlyGrow-refl _;
-      there = c.requires.there;
-      read = λ waits. has_read_none g.T.Taker.takes (g.R.LineReader.format c.args.reader.now) span.identity waits (g.L.Logs.folder c.args.logs.now) span.name span.listed page w (g.met.T.Taker.takes_none page.taker w) (omega arith) c.requires.there;
+      goes_logs = g.met.L.LogSource.goes_nowhere _;
+      ready = subst (g.L.LogSource.ready c.args.logs.now span.name) (sym (omega arith)) c.requires.ready;
+      ended = λ e. absurd cc;
+      read = λ waits. has_read_none g.T.Taker.takes (g.R.LineReader.format c.args.reader.now) span.identity waits (g.L.LogSource.folder c.args.logs.now) span.name span.listed page w (g.met.T.Taker.takes_none page.taker w) (omega arith);
       fits = omega arith;
       last = omega arith;
       within = c.requires.within;
@@ -36,8 +37,8 @@ pub log-preserved : goal.log-preserved
 log-preserved g c =
     let span = c.args.span.now in
     let so_far = c.log.invariant in
-    let here = c.in_ok-read_piece.ensures in
-    let longer = here.longer in
+    let here = c.in_ok-more.ensures in
+    let longer = here.further in
     let longer_before = so_far.longer in
     let given_before = so_far.given in
     let given_now = here.given in
@@ -47,7 +48,9 @@ log-preserved g c =
     let now = here.later in
     record {
       grows = OnlyGrow-trans _ _ _ so_far.grows here.grows;
-      there = there_grown _ _ span.name span.listed here.grows so_far.there;
+      goes_logs = g.met.L.LogSource.goes_on _ _ _ so_far.goes_logs here.goes_logs;
+      ready = here.ready;
+      ended = c.in_ok-more.ensures.end;
       read = λ waits. has_read_trans g.T.Taker.takes g.met.T.Taker.takes_more (g.R.LineReader.format c.args.reader.now) span.identity waits _ _ span.name span.listed _ _ _ _ _ _ here.grows (so_far.read waits) (here.read waits);
       fits = here.fits;
       last = here.last;
@@ -65,29 +68,29 @@ log-preserved g c =
       later = omega arith;
     }
 
-pub returns-in_err-read_piece-clause-stops : goal.returns-in_err-read_piece-clause-stops
-returns-in_err-read_piece-clause-stops g c = on_err _ c.from_residual.result (λ waits.
+pub returns-in_err-more-clause-stops : goal.returns-in_err-more-clause-stops
+returns-in_err-more-clause-stops g c = on_err _ c.from_residual.result (λ waits.
     let span = c.args.span.now in
-    let here = c.in_err-read_piece.ensures in
+    let here = c.in_err-more.ensures in
     stops_behind g.T.Taker.takes g.T.Taker.stops g.met.T.Taker.stops_later (g.R.LineReader.format c.args.reader.now) span.identity waits _ _ span.name span.listed _ _ _ _ _ _ here.grows (c.log.invariant.read waits) (here.stops waits))
 
-pub returns-in_err-read_piece-clause-too_many : goal.returns-in_err-read_piece-clause-too_many
-returns-in_err-read_piece-clause-too_many g c =
+pub returns-in_err-more-clause-too_many : goal.returns-in_err-more-clause-too_many
+returns-in_err-more-clause-too_many g c =
     let span = c.args.span.now in
     let page = c.args.page.now in
     let format = g.R.LineReader.format c.args.reader.now in
-    let here = c.in_err-read_piece.ensures in
+    let here = c.in_err-more.ensures in
     let so_far = c.log.invariant in
-    let Q : BadLine → Type 0 = λ line. (line.log ≡ span.identity) × ((waits : Bool) → ExceedsReading format waits (g.L.Logs.folder c.read_piece.new.logs) span.name span.listed page line.row) in
+    let Q : BadLine → Type 0 = λ line. (line.log ≡ span.identity) × ((waits : Bool) → ExceedsReading format waits (g.L.LogSource.folder c.read_piece.new.logs) span.name span.listed page line.row) in
     handed_on c.from_residual.result _ (λ fault. OnBadLine fault Q) c.from_residual.ensures.1
     (bad_line_so _ _ Q (λ line s. (s.0, λ waits. exceeds_behind g.T.Taker.takes format span.identity waits _ _ span.name span.listed page c.log.page _ _ line.row here.grows so_far.most (so_far.read waits) (s.1 waits)))
     here.too_many)
 
-pub returns-in_err-read_piece-clause-ahead : goal.returns-in_err-read_piece-clause-ahead
-returns-in_err-read_piece-clause-ahead g c =
+pub returns-in_err-more-clause-ahead : goal.returns-in_err-more-clause-ahead
+returns-in_err-more-clause-ahead g c =
     let span = c.args.span.now in
     let so_far = c.log.invariant in
-    let here = c.in_err-read_piece.ensures in
+    let here = c.in_err-more.ensures in
     let given_before = so_far.given in
     let once = here.once in
     let most = here.given_at_most in

@@ -13,7 +13,7 @@ pub returns-in_default-clause-stops : goal.returns-in_default-clause-stops
 returns-in_default-clause-stops g c =
     let page = c.args.page.now in
     let w = c.args.out.now in
-    told_at_once g.T.Taker.takes g.T.Taker.stops g.met.T.Taker.stops_here (g.R.LineReader.format c.args.reader.now) c.args.waits (g.L.Logs.folder c.args.logs.now) c.args.span.now page c.start_log.new.page w c.start_log.ensures.taker (g.met.T.Taker.takes_none page.taker w)
+    told_at_once g.T.Taker.takes g.T.Taker.stops g.met.T.Taker.stops_here (g.R.LineReader.format c.args.reader.now) c.args.waits (g.L.LogSource.folder c.args.logs.now) c.args.span.now page c.start_log.new.page w c.start_log.ensures.taker (g.met.T.Taker.takes_none page.taker w)
 
 pub returns-in_err-read_log-clause-stops : goal.returns-in_err-read_log-clause-stops
 returns-in_err-read_log-clause-stops g c = on_err _ c.from_residual.result (
@@ -119,7 +119,7 @@ returns-in_err-read_log-clause-too_many g c =
     let span = c.args.span.now in
     let page = c.args.page.now in
     let format = g.R.LineReader.format c.args.reader.now in
-    let folder = g.L.Logs.folder c.read_log.new.logs in
+    let folder = g.L.LogSource.folder c.read_log.new.logs in
     let start : IsStart span first = record { place = began.place; left = began.left; standing = began.standing } in
     let Q : BadLine → Type 0 = λ line. Told folder (λ folder. IsKept format c.args.waits (cut_of folder span) span → IsTooMany page.most_bad page.bad (span_bad_lines format c.args.waits folder span) line) in
     handed_on c.from_residual.result _ (λ fault. OnBadLine fault Q) c.from_residual.ensures.1
@@ -134,7 +134,7 @@ returns-in-Err-Bad-clause-too_many g c =
     let span = c.args.span.now in
     let page = c.args.page.now in
     let format = g.R.LineReader.format c.args.reader.now in
-    let folder = g.L.Logs.folder c.read_log.new.logs in
+    let folder = g.L.LogSource.folder c.read_log.new.logs in
     let start : IsStart span first = record { place = began.place; left = began.left; standing = began.standing } in
     let Q : BadLine → Type 0 = λ line. Told folder (λ folder. IsKept format c.args.waits (cut_of folder span) span → IsTooMany page.most_bad page.bad (span_bad_lines format c.args.waits folder span) line) in
     subst (λ (fault : RunFault). OnBadLine fault Q) (sym c.one_too_many.ensures)

@@ -1,7 +1,8 @@
 use Rattle.std.proofs.Common.{◌∙◌, arith}
 use Rattle.lp_model.proofs.Growing.{OnlyGrow-trans}
 use Rattle.lp_model.proofs.Results.{on_err}
-use Rattle.log_reading.proofs.SpansTaken.{there_all, spans_more, spans_stopped, spans_exceeded, size_more, took_more}
+use Rattle.log_reading.proofs.SpansTaken.{spans_more, spans_stopped, spans_exceeded, size_more, took_more}
+use Rattle.log_reading.proofs.Readable.{readable_next, readable_there}
 use Rattle.log_reading.proofs.Ahead.{spans_ahead}
 use Rattle.log_reading.proofs.Faults.{handed_on, bad_line_so}
 use Rattle.lp_model.specs.Outside.{Told}
@@ -17,7 +18,7 @@ returns-in_err-take_noted-clause-stops g c = on_err _ c.from_residual.result (
     let so_far = c.loop-span.invariant in
     let here = c.in_err-take_noted.ensures in
     spans_stopped g.T.Taker.takes g.T.Taker.stops g.met.T.Taker.stops_later g.met.T.Taker.stops_more (g.R.LineReader.format c.args.reader.now) c.args.waits _ _ c.args.spans.now c.loop-span.span-index c.span-item.result _ _ c.take_noted.new.page _ _ _ c.loop-span-test.true c.span-item.is
-    here.grows so_far.there so_far.takes here.stops)
+    here.grows (readable_there g.L.LogSource.folder g.L.LogSource.ready _ c.args.spans.now c.loop-span.span-index c.loop-span-test.true so_far.readable) so_far.takes here.stops)
 
 pub loop-span-preserved : goal.loop-span-preserved
 loop-span-preserved g c =
@@ -33,11 +34,12 @@ loop-span-preserved g c =
     let start = (c.requires.spans c.loop-span.span-index c.span-item.result c.loop-span-test.true c.span-item.is).start in
     record {
       grows = OnlyGrow-trans _ _ _ so_far.grows here.grows;
-      there = there_all _ _ c.args.spans.now here.grows so_far.there;
+      goes_logs = g.met.L.LogSource.goes_on _ _ _ so_far.goes_logs here.goes_logs;
+      readable = readable_next g.L.LogSource.folder g.L.LogSource.ready _ _ c.args.spans.now c.loop-span.span-index here.grows so_far.readable;
       takes = spans_more g.T.Taker.takes g.met.T.Taker.takes_more (g.R.LineReader.format c.args.reader.now) c.args.waits _ _ c.args.spans.now c.loop-span.span-index c.span-item.result _ _ _ _ _ _ c.loop-span-test.true c.span-item.is
-          here.grows so_far.there so_far.takes here.takes;
+          here.grows (readable_there g.L.LogSource.folder g.L.LogSource.ready _ c.args.spans.now c.loop-span.span-index c.loop-span-test.true so_far.readable) so_far.takes here.takes;
       took = λ waits. took_more (g.R.LineReader.format c.args.reader.now) _ _ c.args.spans.now c.loop-span.span-index c.span-item.result c.args.took.now _ _ c.loop-span-test.true c.span-item.is
-          here.grows so_far.there (so_far.took waits) (here.took waits);
+          here.grows (readable_there g.L.LogSource.folder g.L.LogSource.ready _ c.args.spans.now c.loop-span.span-index c.loop-span-test.true so_far.readable) (so_far.took waits) (here.took waits);
       within = here.within;
       most = here.most ∙ so_far.most;
       rows = omega arith;
@@ -56,9 +58,9 @@ returns-in_err-take_noted-clause-too_many g c =
     let spans = c.args.spans.now in
     let page = c.args.page.now in
     let format = g.R.LineReader.format c.args.reader.now in
-    let Q : BadLine → Type 0 = λ line. Told (g.L.Logs.folder c.take_noted.new.logs) (λ folder. AreKept format c.args.waits spans folder → IsTooMany page.most_bad page.bad (spans_bad_lines format c.args.waits folder spans) line) in
+    let Q : BadLine → Type 0 = λ line. Told (g.L.LogSource.folder c.take_noted.new.logs) (λ folder. AreKept format c.args.waits spans folder → IsTooMany page.most_bad page.bad (spans_bad_lines format c.args.waits folder spans) line) in
     handed_on c.from_residual.result _ (λ fault. OnBadLine fault Q) c.from_residual.ensures.1
-    (bad_line_so _ _ Q (λ line s. spans_exceeded g.T.Taker.takes format c.args.waits _ _ spans c.loop-span.span-index c.span-item.result page c.loop-span.page _ _ line c.loop-span-test.true c.span-item.is here.grows so_far.there so_far.most so_far.takes s)
+    (bad_line_so _ _ Q (λ line s. spans_exceeded g.T.Taker.takes format c.args.waits _ _ spans c.loop-span.span-index c.span-item.result page c.loop-span.page _ _ line c.loop-span-test.true c.span-item.is here.grows (readable_there g.L.LogSource.folder g.L.LogSource.ready _ c.args.spans.now c.loop-span.span-index c.loop-span-test.true so_far.readable) so_far.most so_far.takes s)
     here.too_many)
 
 pub returns-in_err-take_noted-clause-ahead : goal.returns-in_err-take_noted-clause-ahead
@@ -66,4 +68,4 @@ returns-in_err-take_noted-clause-ahead g c = on_err _ c.from_residual.result (
     let so_far = c.loop-span.invariant in
     let here = c.in_err-take_noted.ensures in
     spans_ahead g.T.Taker.takes g.T.Taker.goes g.met.T.Taker.takes_more (g.R.LineReader.format c.args.reader.now) c.args.waits _ _ c.args.spans.now c.loop-span.span-index c.span-item.result _ _ _ _ _ c.args.page.now c.loop-span.page _ _ _
-    c.loop-span-test.true c.span-item.is here.grows so_far.there so_far.takes so_far.given c.loop-span.auto.chunk here.ahead)
+    c.loop-span-test.true c.span-item.is here.grows (readable_there g.L.LogSource.folder g.L.LogSource.ready _ c.args.spans.now c.loop-span.span-index c.loop-span-test.true so_far.readable) so_far.takes so_far.given c.loop-span.auto.chunk here.ahead)

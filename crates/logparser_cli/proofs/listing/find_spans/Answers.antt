@@ -6,7 +6,8 @@ use Rattle.lp_model.proofs.Growing.{OnlyGrow-refl}
 use Rattle.reports.specs.declared.status.Status.{Status}
 use Rattle.reports.specs.declared.status.Status.TheVariants.{LogsFault}
 use Rattle.logparser_cli.specs.Logs.{IsUnlisted}
-use Rattle.logparser_cli.proofs.Wholes.{spans_of, there_of, is_unlisted, logs_failed, names_behind}
+use Rattle.logparser_cli.proofs.Wholes.{from_listed, spans_of, there_of, is_unlisted, logs_failed}
+use Rattle.checkpointed_command.proofs.Naming.{names_behind}
 use Rattle.logparser_cli.proofs.listing.find_spans.Goals as goal
 
 pub returns-in_default-clause-grows : goal.returns-in_default-clause-grows
@@ -15,11 +16,11 @@ returns-in_default-clause-grows g c = OnlyGrow-refl _
 pub returns-in-Ok-whole_spans-clause-found : goal.returns-in-Ok-whole_spans-clause-found
 returns-in-Ok-whole_spans-clause-found g c = record {
   logs = c.in-Ok-list_logs.list;
-  are_logs = record {
+  are_logs = from_listed (g.L.Logs.folder c.args.logs.now) (g.L.Logs.folder c.list_logs.new.logs) (query_of c.args.query.now) c.in-Ok-list_logs.list c.requires.files (record {
     listed = subst (λ (texts : List (List ℕ)). Lists (g.L.Logs.folder c.list_logs.new.logs) texts (names_in c.in-Ok-list_logs.list)) (c.in-Ok.ensures ∙ names_behind c.args.query.now) c.in-Ok-list_logs.ensures.listed;
     lengths = c.in-Ok-list_logs.ensures.lengths;
     few = c.in-Ok-list_logs.ensures.few;
-  };
+  });
   wholes = c.in-Ok-whole_spans.ensures;
 }
 

@@ -1,23 +1,24 @@
-use Rattle.std.proofs.Common.{◌≡◌, ℤ, subst, arith}
+use Rattle.std.proofs.Common.{◌≡◌, ℤ, subst, arith, FitsSigned, w64}
 use Rattle.std.proofs.lemmas.Int.{to_z-of_z}
 use Rattle.lp_model.specs.Outside.{Rose}
 use Rattle.reports.specs.Messages.{message}
-use Rattle.logparser_cli.specs.Answers.{Answers}
+use Rattle.logparser_cli.specs.Kept.{Answers}
 use Rattle.file_stage.specs.FileTexts.{AlwaysTells}
-use Rattle.logparser_cli.specs.Outputs.{World, held, world}
+use Rattle.logparser_cli.specs.Outputs.{World, held, input_at, world}
 use Rattle.logparser_cli.specs.Whole.{Tells}
-use Rattle.logparser_cli.proofs.Answering.{on_refused, refused_is, told_answers}
+use Rattle.logparser_cli.proofs.Answering.{on_refused, refused_is}
+use Rattle.logparser_cli.proofs.Keeping.{told_all}
 use Rattle.logparser_cli.proofs.running.run.Goals as goal
 
 pub returns-in_default : goal.returns-in_default
 returns-in_default g c =
-    let old : World = world (g.L.Logs.folder c.args.logs.now) (g.L.Logs.faults c.args.logs.now) (held (AlwaysTells g.D.Disk.state) (g.D.Disk.state c.args.disk.now).seen (g.S.Sink.written c.args.out.now)) (g.D.Disk.faults c.args.disk.now) (g.S.Sink.faults c.args.out.now) (g.E.Sink.written c.args.err.now) (g.E.Sink.faults c.args.err.now) in
-    let new : World = world (g.L.Logs.folder c.run_words.new.logs) (g.L.Logs.faults c.run_words.new.logs) (held (AlwaysTells g.D.Disk.state) (g.D.Disk.state c.run_words.new.disk).seen (g.S.Sink.written c.run_words.new.out)) (g.D.Disk.faults c.run_words.new.disk) (g.S.Sink.faults c.run_words.new.out) (g.E.Sink.written c.run_words.new.err) (g.E.Sink.faults c.run_words.new.err) in
+    let old : World = world (g.L.Logs.folder c.args.logs.now) (g.L.Logs.faults c.args.logs.now) (held (AlwaysTells g.D.Disk.state) (g.D.Disk.state c.args.disk.now).seen (g.S.Sink.written c.args.out.now)) (g.D.Disk.faults c.args.disk.now) (g.S.Sink.faults c.args.out.now) (g.E.Sink.written c.args.err.now) (g.E.Sink.faults c.args.err.now) (input_at g.I.Source.left g.I.Source.given g.I.Source.faults c.args.input.now) in
+    let new : World = world (g.L.Logs.folder c.run_words.new.logs) (g.L.Logs.faults c.run_words.new.logs) (held (AlwaysTells g.D.Disk.state) (g.D.Disk.state c.run_words.new.disk).seen (g.S.Sink.written c.run_words.new.out)) (g.D.Disk.faults c.run_words.new.disk) (g.S.Sink.faults c.run_words.new.out) (g.E.Sink.written c.run_words.new.err) (g.E.Sink.faults c.run_words.new.err) (input_at g.I.Source.left g.I.Source.given g.I.Source.faults c.run_words.new.input) in
     let status = c.run_words.result in
     let same : c.run_words.new.err ≡ c.args.err.now = refused_is status (c.run_words.new.err ≡ c.args.err.now) c.in_default.not-Done c.run_words.ensures.silent in
     record {
-      answers = told_answers old new (g.E.Sink.written c.tell_refusal.new.err) (g.E.Sink.faults c.tell_refusal.new.err) c.args.moment c.args.words.now status c.in_default.not-Done
-          (subst (λ (moment : ℤ). Answers moment c.args.words.now old new status) (to_z-of_z _ c.args.moment c.ranges.moment) c.run_words.ensures.answers);
+      answers = told_all g.D.Disk.state c.args.disk.now c.run_words.new.disk old new (g.E.Sink.written c.tell_refusal.new.err) (g.E.Sink.faults c.tell_refusal.new.err) c.args.moment c.args.words.now status c.in_default.not-Done
+          (subst (λ (moment : ℤ). Answers g.D.Disk.state c.args.disk.now c.run_words.new.disk moment c.args.words.now old new status) (to_z-of_z _ c.args.moment c.ranges.moment) c.run_words.ensures.answers);
       told = on_refused status (Tells (g.E.Sink.written c.args.err.now) (g.E.Sink.written c.tell_refusal.new.err) (message status) (Rose (g.E.Sink.faults c.args.err.now) (g.E.Sink.faults c.tell_refusal.new.err)))
           (subst (λ (err : g.row.E.Denot). Tells (g.E.Sink.written err) (g.E.Sink.written c.tell_refusal.new.err) (message status) (Rose (g.E.Sink.faults err) (g.E.Sink.faults c.tell_refusal.new.err))) same c.tell_refusal.ensures.told);
       grows = c.run_words.ensures.grows;
@@ -27,5 +28,12 @@ returns-in_default g c =
       later_out = c.run_words.ensures.later_out;
       later_err = let first = c.run_words.ensures.later_err in let second = c.tell_refusal.ensures.later in omega arith;
       given = c.run_words.ensures.given;
+      kept = c.run_words.ensures.kept;
       input = c.run_words.ensures.input;
+      read = c.run_words.ensures.read;
     }
+
+pub returns-in-Done-clause-answers : goal.returns-in-Done-clause-answers
+returns-in-Done-clause-answers g c =
+    let range : FitsSigned w64 c.args.moment = c.ranges.moment in
+    simp to_z-of_z at c.in-Done.ensures.answers

@@ -1,23 +1,44 @@
-use Rattle.std.proofs.Common.{FitsSigned, w64}
+use Rattle.std.proofs.Common.{◌≡◌, Bool, true, false, ap, sym, ◌∙◌, subst, FitsSigned, w64}
 use Rattle.std.proofs.lemmas.Int.{to_z-of_z}
+use Rattle.lp_model.proofs.Growing.{OnlyGrow-refl}
+use Rattle.query_text.specs.Stdin.{names_in}
 use Rattle.query_tree.specs.Views.{query_of}
+use Rattle.execution.specs.Built.{reads_stdin}
+use Rattle.execution.specs.Texts.{sections_in}
+use Rattle.tpl_output.specs.Sections.{Sections}
+use Rattle.logparser_cli.specs.Answers.{AnswersOf}
 use Rattle.file_stage.specs.FileTexts.{AlwaysTells}
-use Rattle.logparser_cli.specs.Outputs.{World, held, world}
+use Rattle.logparser_cli.specs.Outputs.{World, held, input_at, world}
 use Rattle.logparser_cli.proofs.Answering.{read_answers}
 use Rattle.logparser_cli.proofs.Given.{template_alone, template_then_logs}
+use Rattle.logparser_cli.proofs.Streamed.{names_read}
 use Rattle.logparser_cli.proofs.running.run_built.Goals as goal
 
-pub returns-clause-answers : goal.returns-clause-answers
-returns-clause-answers g c =
+pub returns-then-reads_stdin-clause-answers : goal.returns-then-reads_stdin-clause-answers
+returns-then-reads_stdin-clause-answers g c =
     let range : FitsSigned w64 c.args.moment = c.ranges.moment in
-    let mid : World = world (g.L.Logs.folder c.find_template.new.logs) (g.L.Logs.faults c.find_template.new.logs) (held (AlwaysTells g.D.Disk.state) (g.D.Disk.state c.args.disk.now).seen (g.S.Sink.written c.args.out.now)) (g.D.Disk.faults c.args.disk.now) (g.S.Sink.faults c.args.out.now) (g.E.Sink.written c.args.err.now) (g.E.Sink.faults c.args.err.now) in
-    let new : World = world (g.L.Logs.folder c.run_logs.new.logs) (g.L.Logs.faults c.run_logs.new.logs) (held (AlwaysTells g.D.Disk.state) (g.D.Disk.state c.run_logs.new.disk).seen (g.S.Sink.written c.run_logs.new.out)) (g.D.Disk.faults c.run_logs.new.disk) (g.S.Sink.faults c.run_logs.new.out) (g.E.Sink.written c.run_logs.new.err) (g.E.Sink.faults c.run_logs.new.err) in
-    read_answers mid new (g.L.Logs.folder c.args.logs.now) (g.L.Logs.faults c.args.logs.now) c.args.spec.now c.args.moment (query_of c.args.query.now) _ c.run_logs.result
-    c.in-Ok.ensures.grows c.in-Ok.ensures.later c.run_logs.ensures.grows c.in-Ok.ensures.found (simp to_z-of_z at c.run_logs.ensures.answers)
+    let mid : World = world (g.L.Logs.folder c.find_template.new.logs) (g.L.Logs.faults c.find_template.new.logs) (held (AlwaysTells g.D.Disk.state) (g.D.Disk.state c.args.disk.now).seen (g.S.Sink.written c.args.out.now)) (g.D.Disk.faults c.args.disk.now) (g.S.Sink.faults c.args.out.now) (g.E.Sink.written c.args.err.now) (g.E.Sink.faults c.args.err.now) (input_at g.I.Source.left g.I.Source.given g.I.Source.faults c.args.input.now) in
+    let new : World = world (g.L.Logs.folder c.find_template.new.logs) (g.L.Logs.faults c.find_template.new.logs) (held (AlwaysTells g.D.Disk.state) (g.D.Disk.state c.run_input.new.disk).seen (g.S.Sink.written c.run_input.new.out)) (g.D.Disk.faults c.run_input.new.disk) (g.S.Sink.faults c.run_input.new.out) (g.E.Sink.written c.run_input.new.err) (g.E.Sink.faults c.run_input.new.err) (input_at g.I.Source.left g.I.Source.given g.I.Source.faults c.run_input.new.input) in
+    let q = query_of c.args.query.now in
+    let template : Sections = sections_in (λ t. t.value) c.in-Ok.template in
+    let is : reads_stdin (names_in q) ≡ true = ap reads_stdin (sym (names_read c.args.query.now)) ∙ (sym c.reads_stdin.ensures ∙ c.if-reads_stdin.true) in
+    read_answers mid new (g.L.Logs.folder c.args.logs.now) (g.L.Logs.faults c.args.logs.now) c.args.spec.now c.args.moment q template c.run_input.result
+    c.in-Ok.ensures.grows c.in-Ok.ensures.later (OnlyGrow-refl (g.L.Logs.folder c.find_template.new.logs)) c.in-Ok.ensures.found (subst (λ (stdin : Bool). AnswersOf stdin mid new template c.args.spec.now c.args.moment q c.run_input.result) (sym is) ((simp to_z-of_z at c.run_input.ensures.answers) (g.L.Logs.folder c.find_template.new.logs) (g.L.Logs.faults c.find_template.new.logs)))
+
+pub returns-else-reads_stdin-clause-answers : goal.returns-else-reads_stdin-clause-answers
+returns-else-reads_stdin-clause-answers g c =
+    let range : FitsSigned w64 c.args.moment = c.ranges.moment in
+    let mid : World = world (g.L.Logs.folder c.find_template.new.logs) (g.L.Logs.faults c.find_template.new.logs) (held (AlwaysTells g.D.Disk.state) (g.D.Disk.state c.args.disk.now).seen (g.S.Sink.written c.args.out.now)) (g.D.Disk.faults c.args.disk.now) (g.S.Sink.faults c.args.out.now) (g.E.Sink.written c.args.err.now) (g.E.Sink.faults c.args.err.now) (input_at g.I.Source.left g.I.Source.given g.I.Source.faults c.args.input.now) in
+    let new : World = world (g.L.Logs.folder c.run_logs.new.logs) (g.L.Logs.faults c.run_logs.new.logs) (held (AlwaysTells g.D.Disk.state) (g.D.Disk.state c.run_logs.new.disk).seen (g.S.Sink.written c.run_logs.new.out)) (g.D.Disk.faults c.run_logs.new.disk) (g.S.Sink.faults c.run_logs.new.out) (g.E.Sink.written c.run_logs.new.err) (g.E.Sink.faults c.run_logs.new.err) (input_at g.I.Source.left g.I.Source.given g.I.Source.faults c.run_logs.new.input) in
+    let q = query_of c.args.query.now in
+    let template : Sections = sections_in (λ t. t.value) c.in-Ok.template in
+    let is : reads_stdin (names_in q) ≡ false = ap reads_stdin (sym (names_read c.args.query.now)) ∙ (sym c.reads_stdin.ensures ∙ c.if-reads_stdin.false) in
+    read_answers mid new (g.L.Logs.folder c.args.logs.now) (g.L.Logs.faults c.args.logs.now) c.args.spec.now c.args.moment q template c.run_logs.result
+    c.in-Ok.ensures.grows c.in-Ok.ensures.later c.run_logs.ensures.grows c.in-Ok.ensures.found (subst (λ (stdin : Bool). AnswersOf stdin mid new template c.args.spec.now c.args.moment q c.run_logs.result) (sym is) (simp to_z-of_z at c.run_logs.ensures.answers))
 
 pub returns-in-Err-clause-given : goal.returns-in-Err-clause-given
 returns-in-Err-clause-given g c = template_alone (g.L.Logs.folder c.find_template.new.logs) c.args.spec.now (query_of c.args.query.now) _ _ c.find_template.ensures.reads
 
-pub returns-clause-given : goal.returns-clause-given
-returns-clause-given g c =
+pub returns-else-reads_stdin-clause-given : goal.returns-else-reads_stdin-clause-given
+returns-else-reads_stdin-clause-given g c =
     template_then_logs (g.L.Logs.folder c.find_template.new.logs) (g.L.Logs.folder c.run_logs.new.logs) c.args.spec.now (query_of c.args.query.now) _ _ _ c.run_logs.ensures.grows c.find_template.ensures.reads c.run_logs.ensures.given

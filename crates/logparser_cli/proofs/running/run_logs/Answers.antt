@@ -1,14 +1,13 @@
-use Rattle.std.proofs.Common.{Bool, Err, ap, sym, subst, arith, FitsSigned, w64}
+use Rattle.std.proofs.Common.{Bool, Err, inl, ap, sym, subst, arith, FitsSigned, w64}
 use Rattle.std.proofs.lemmas.Int.{to_z-of_z}
 use Rattle.query_tree.specs.Views.{query_of}
 use Rattle.reports.specs.declared.status.Status.{Status}
-use Rattle.execution.specs.Outputs.{is_standard}
-use Rattle.execution.specs.Texts.{into_in, sections_in}
+use Rattle.execution.specs.Texts.{sections_in}
 use Rattle.file_stage.specs.FileTexts.{AlwaysTells}
 use Rattle.tpl_output.specs.Sections.{Sections}
 use Rattle.logparser_cli.specs.Answers.{AnswersRun}
 use Rattle.lp_model.specs.Outside.{Rose}
-use Rattle.logparser_cli.specs.Outputs.{OutputRose, World, held, world}
+use Rattle.logparser_cli.specs.Outputs.{OutputRose, World, held, input_at, world}
 use Rattle.logparser_cli.proofs.Answering.{rose_since, whole, stopped_answers}
 use Rattle.logparser_cli.proofs.Given.{logs_once, no_logs}
 use Rattle.logparser_cli.proofs.running.run_logs.Goals as goal
@@ -16,16 +15,16 @@ use Rattle.logparser_cli.proofs.running.run_logs.Goals as goal
 pub returns-in-Ok-write_rows-clause-answers : goal.returns-in-Ok-write_rows-clause-answers
 returns-in-Ok-write_rows-clause-answers g c =
     let range : FitsSigned w64 c.args.moment = c.ranges.moment in
-    let old : World = world (g.L.Logs.folder c.args.logs.now) (g.L.Logs.faults c.args.logs.now) (held (AlwaysTells g.D.Disk.state) (g.D.Disk.state c.args.disk.now).seen (g.S.Sink.written c.args.out.now)) (g.D.Disk.faults c.args.disk.now) (g.S.Sink.faults c.args.out.now) (g.E.Sink.written c.args.err.now) (g.E.Sink.faults c.args.err.now) in
-    let new : World = world (g.L.Logs.folder c.write_rows.new.logs) (g.L.Logs.faults c.write_rows.new.logs) (held (AlwaysTells g.D.Disk.state) (g.D.Disk.state c.write_rows.new.disk).seen (g.S.Sink.written c.write_rows.new.out)) (g.D.Disk.faults c.write_rows.new.disk) (g.S.Sink.faults c.write_rows.new.out) (g.E.Sink.written c.tell_statistics.new.err) (g.E.Sink.faults c.tell_statistics.new.err) in
+    let old : World = world (g.L.Logs.folder c.args.logs.now) (g.L.Logs.faults c.args.logs.now) (held (AlwaysTells g.D.Disk.state) (g.D.Disk.state c.args.disk.now).seen (g.S.Sink.written c.args.out.now)) (g.D.Disk.faults c.args.disk.now) (g.S.Sink.faults c.args.out.now) (g.E.Sink.written c.args.err.now) (g.E.Sink.faults c.args.err.now) (input_at g.I.Source.left g.I.Source.given g.I.Source.faults c.args.input.now) in
+    let new : World = world (g.L.Logs.folder c.write_rows.new.logs) (g.L.Logs.faults c.write_rows.new.logs) (held (AlwaysTells g.D.Disk.state) (g.D.Disk.state c.write_rows.new.disk).seen (g.S.Sink.written c.write_rows.new.out)) (g.D.Disk.faults c.write_rows.new.disk) (g.S.Sink.faults c.write_rows.new.out) (g.E.Sink.written c.tell_statistics.new.err) (g.E.Sink.faults c.tell_statistics.new.err) (input_at g.I.Source.left g.I.Source.given g.I.Source.faults c.args.input.now) in
     let template : Sections = sections_in (λ t. t.value) c.args.template in
     whole old new (g.L.Logs.folder c.find_spans.new.logs) template c.args.spec.now c.args.moment (query_of c.args.query.now) c.in-Ok.spans c.in-Ok-write_rows.ran.counts c.in-Ok.ensures.found c.in-Ok-write_rows.ensures.grows (simp to_z-of_z at c.in-Ok-write_rows.ensures.ran) c.in-Ok-write_rows.ensures.within c.tell_statistics.ensures.told
 
 pub returns-clause-answers : goal.returns-clause-answers
 returns-clause-answers g c =
     let range : FitsSigned w64 c.args.moment = c.ranges.moment in
-    let old : World = world (g.L.Logs.folder c.args.logs.now) (g.L.Logs.faults c.args.logs.now) (held (AlwaysTells g.D.Disk.state) (g.D.Disk.state c.args.disk.now).seen (g.S.Sink.written c.args.out.now)) (g.D.Disk.faults c.args.disk.now) (g.S.Sink.faults c.args.out.now) (g.E.Sink.written c.args.err.now) (g.E.Sink.faults c.args.err.now) in
-    let new : World = world (g.L.Logs.folder c.write_rows.new.logs) (g.L.Logs.faults c.write_rows.new.logs) (held (AlwaysTells g.D.Disk.state) (g.D.Disk.state c.write_rows.new.disk).seen (g.S.Sink.written c.write_rows.new.out)) (g.D.Disk.faults c.write_rows.new.disk) (g.S.Sink.faults c.write_rows.new.out) (g.E.Sink.written c.args.err.now) (g.E.Sink.faults c.args.err.now) in
+    let old : World = world (g.L.Logs.folder c.args.logs.now) (g.L.Logs.faults c.args.logs.now) (held (AlwaysTells g.D.Disk.state) (g.D.Disk.state c.args.disk.now).seen (g.S.Sink.written c.args.out.now)) (g.D.Disk.faults c.args.disk.now) (g.S.Sink.faults c.args.out.now) (g.E.Sink.written c.args.err.now) (g.E.Sink.faults c.args.err.now) (input_at g.I.Source.left g.I.Source.given g.I.Source.faults c.args.input.now) in
+    let new : World = world (g.L.Logs.folder c.write_rows.new.logs) (g.L.Logs.faults c.write_rows.new.logs) (held (AlwaysTells g.D.Disk.state) (g.D.Disk.state c.write_rows.new.disk).seen (g.S.Sink.written c.write_rows.new.out)) (g.D.Disk.faults c.write_rows.new.disk) (g.S.Sink.faults c.write_rows.new.out) (g.E.Sink.written c.args.err.now) (g.E.Sink.faults c.args.err.now) (input_at g.I.Source.left g.I.Source.given g.I.Source.faults c.args.input.now) in
     let q = query_of c.args.query.now in
     let template : Sections = sections_in (λ t. t.value) c.args.template in
     subst (λ (status : Status). AnswersRun old new template c.args.spec.now c.args.moment q status) (sym c.stopped.ensures)
@@ -40,10 +39,13 @@ pub returns-in-Ok-write_rows-clause-given : goal.returns-in-Ok-write_rows-clause
 returns-in-Ok-write_rows-clause-given g c =
     let same = c.find_spans.ensures.given in
     let most = c.write_rows.ensures.given in
-    logs_once (g.L.Logs.folder c.args.logs.now) (g.L.Logs.folder c.find_spans.new.logs) (g.L.Logs.folder c.write_rows.new.logs) (query_of c.args.query.now) c.in-Ok.spans _ _ c.in-Ok.ensures.found c.write_rows.ensures.grows (omega arith)
+    logs_once (g.L.Logs.folder c.args.logs.now) (g.L.Logs.folder c.find_spans.new.logs) (g.L.Logs.folder c.write_rows.new.logs) (query_of c.args.query.now) c.in-Ok.spans _ _ c.requires.files c.in-Ok.ensures.found c.write_rows.ensures.grows (omega arith)
 
 pub returns-clause-given : goal.returns-clause-given
 returns-clause-given g c =
     let same = c.find_spans.ensures.given in
     let most = c.write_rows.ensures.given in
-    logs_once (g.L.Logs.folder c.args.logs.now) (g.L.Logs.folder c.find_spans.new.logs) (g.L.Logs.folder c.write_rows.new.logs) (query_of c.args.query.now) c.in-Ok.spans _ _ c.in-Ok.ensures.found c.write_rows.ensures.grows (omega arith)
+    logs_once (g.L.Logs.folder c.args.logs.now) (g.L.Logs.folder c.find_spans.new.logs) (g.L.Logs.folder c.write_rows.new.logs) (query_of c.args.query.now) c.in-Ok.spans _ _ c.requires.files c.in-Ok.ensures.found c.write_rows.ensures.grows (omega arith)
+
+pub write_rows-requires-clause-readable : goal.write_rows-requires-clause-readable
+write_rows-requires-clause-readable g c = inl (record { there = c.in-Ok.ensures.there; ready = λ later name place. tt })

@@ -1,26 +1,30 @@
-use Rattle.std.proofs.Common.{rules, inl, arith, FitsSigned, w64}
+use Rattle.std.proofs.Common.{refl, inl, inr, sym, ◌∙◌, FitsSigned, w64}
 use Rattle.std.proofs.lemmas.Int.{to_z-of_z}
-use Rattle.query_tree.specs.Views.{query_of}
-use Rattle.execution.specs.Executed.{IsMoment}
-use Rattle.file_stage.specs.FileTexts.{AlwaysTells}
-use Rattle.logparser_cli.specs.Outputs.{World, held, world}
-use Rattle.logparser_cli.proofs.Answering.{asked_answers}
-use Rattle.logparser_cli.proofs.Given.{query_then_rest}
+use Rattle.logparser_cli.proofs.Keeping.{stage_named}
 use Rattle.logparser_cli.proofs.running.run_words.Goals as goal
 
-pub returns-in-Ok-clause-answers : goal.returns-in-Ok-clause-answers
-returns-in-Ok-clause-answers g c =
+pub run_kept-status-requires-clause-stage : goal.run_kept-status-requires-clause-stage
+run_kept-status-requires-clause-stage g c = stage_named c.args.words.now c.in-Ok.spec c.in-Some.ledger c.in-Ok.ensures.asked c.in-Some.is
+
+pub returns-in-Some-clause-answers : goal.returns-in-Some-clause-answers
+returns-in-Some-clause-answers g c =
     let range : FitsSigned w64 c.args.moment = c.ranges.moment in
-    let mid : World = world (g.L.Logs.folder c.read_request.new.logs) (g.L.Logs.faults c.read_request.new.logs) (held (AlwaysTells g.D.Disk.state) (g.D.Disk.state c.args.disk.now).seen (g.S.Sink.written c.args.out.now)) (g.D.Disk.faults c.args.disk.now) (g.S.Sink.faults c.args.out.now) (g.E.Sink.written c.args.err.now) (g.E.Sink.faults c.args.err.now) in
-    let new : World = world (g.L.Logs.folder c.run_query-status.new.logs) (g.L.Logs.faults c.run_query-status.new.logs) (held (AlwaysTells g.D.Disk.state) (g.D.Disk.state c.run_query-status.new.disk).seen (g.S.Sink.written c.run_query-status.new.out)) (g.D.Disk.faults c.run_query-status.new.disk) (g.S.Sink.faults c.run_query-status.new.out) (g.E.Sink.written c.run_query-status.new.err) (g.E.Sink.faults c.run_query-status.new.err) in
-    let now : IsMoment c.args.moment = search rules in
-    asked_answers mid new (g.L.Logs.folder c.args.logs.now) (g.L.Logs.faults c.args.logs.now) c.args.moment c.args.words.now c.in-Ok.request.spec (query_of c.in-Ok.request.query) c.run_query-status.result
-    now c.in-Ok.ensures.grows c.in-Ok.ensures.later c.run_query-status.ensures.grows c.in-Ok.ensures.asks (simp to_z-of_z at c.run_query-status.ensures.answers)
+    inr (record {
+      now = simp to_z-of_z at c.run_kept-status.ensures.now;
+      spec = c.in-Ok.spec;
+      fine = c.in-Ok.ensures.fine;
+      options = c.in-Ok.ensures.asked;
+      ledger = c.in-Some.ledger;
+      is_kept = c.in-Some.is;
+      out = refl;
+      answers = simp to_z-of_z at c.run_kept-status.ensures.answers;
+    })
 
-pub returns-in-Err-clause-given : goal.returns-in-Err-clause-given
-returns-in-Err-clause-given g c = inl c.read_request.ensures.given
+pub returns-clause-answers : goal.returns-clause-answers
+returns-clause-answers g c =
+    let range : FitsSigned w64 c.args.moment = c.ranges.moment in
+    let answers = simp to_z-of_z at c.run_plainly-status.ensures.answers in
+    inl (inl (sym c.in-Ok.ensures.asked.checkpoint ∙ c.in_default.is), answers c.args.words.now c.in-Ok.ensures.fine c.in-Ok.ensures.asked)
 
-pub returns-in-Ok-clause-given : goal.returns-in-Ok-clause-given
-returns-in-Ok-clause-given g c =
-    query_then_rest (g.L.Logs.folder c.args.logs.now) (g.L.Logs.folder c.read_request.new.logs) (g.L.Logs.folder c.run_query-status.new.logs) c.args.words.now c.in-Ok.request.spec (query_of c.in-Ok.request.query) _ _ _
-    c.run_query-status.ensures.grows c.in-Ok.ensures.asks c.read_request.ensures.given c.run_query-status.ensures.given
+pub returns-clause-given : goal.returns-clause-given
+returns-clause-given g c = λ none. c.run_plainly-status.ensures.given c.args.words.now c.in-Ok.ensures.fine c.in-Ok.ensures.asked

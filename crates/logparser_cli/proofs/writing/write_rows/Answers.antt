@@ -20,7 +20,7 @@ returns-then-is_standard-clause-ran g c =
     let asked = asked_in c.args.spec.now template c.args.moment q c.args.spans.now in
     let files = (g.D.Disk.state c.args.disk.now).seen in
     let standard : is_standard (into_in q) ≡ true = sym c.is_standard.ensures ∙ c.if-is_standard.true in
-    if_ok_map {T = Ran} {E = RunFault} _ _ _ (λ ran is. executed_map (log_format c.args.spec.now q) false (g.L.Logs.folder c.execute.new.logs) _ (HasWritten (held (AlwaysTells g.D.Disk.state) files (g.S.Sink.written c.args.out.now)) (held (AlwaysTells g.D.Disk.state) files (g.S.Sink.written c.execute.new.stage))) asked c.args.spec.now c.args.moment q c.args.spans.now ran.counts
+    if_ok_map {T = Ran} {E = RunFault} _ _ _ (λ ran is. executed_map (log_format c.args.spec.now q) false (g.L.LogSource.folder c.execute.new.logs) _ (HasWritten (held (AlwaysTells g.D.Disk.state) files (g.S.Sink.written c.args.out.now)) (held (AlwaysTells g.D.Disk.state) files (g.S.Sink.written c.execute.new.stage))) asked c.args.spec.now c.args.moment q c.args.spans.now ran.counts
     (λ plan rows holds. output_written g.S.Sink.written _ c.args.out.now c.execute.new.stage (asked plan) rows ran.outputs (AlwaysTells g.D.Disk.state) files (goes_to_files c.args.spec.now template c.args.moment q c.args.spans.now plan true standard) holds) is)
     (simp to_z-of_z at c.execute.ensures.ran)
 
@@ -34,7 +34,7 @@ returns-then-is_standard-clause-stopped g c =
     let standard : is_standard (into_in q) ≡ true = sym c.is_standard.ensures ∙ c.if-is_standard.true in
     let old = held (AlwaysTells g.D.Disk.state) files (g.S.Sink.written c.args.out.now) in
     let new = held (AlwaysTells g.D.Disk.state) files (g.S.Sink.written c.execute.new.stage) in
-    on_err_map _ _ _ (λ stop. stopped_map (log_format c.args.spec.now q) false (g.L.Logs.folder c.execute.new.logs) (c.execute.new.stage ≡ c.args.out.now) (IsUnwritten old new) _ (HasFront old new) asked c.args.spec.now c.args.moment q c.args.spans.now
+    on_err_map _ _ _ (λ stop. stopped_map (log_format c.args.spec.now q) false (g.L.LogSource.folder c.execute.new.logs) (c.execute.new.stage ≡ c.args.out.now) (IsUnwritten old new) _ (HasFront old new) asked c.args.spec.now c.args.moment q c.args.spans.now
     (λ same. record { out = ap g.S.Sink.written same; files = refl })
     (λ plan rows stops. output_cut g.S.Sink.written _ c.args.out.now c.execute.new.stage (asked plan) rows (AlwaysTells g.D.Disk.state) files (goes_to_files c.args.spec.now template c.args.moment q c.args.spans.now plan true standard) stops) stop)
     (simp to_z-of_z at c.execute.ensures.stopped)
@@ -52,7 +52,7 @@ returns-clause-ran g c =
     let asked = asked_in c.args.spec.now template c.args.moment q c.args.spans.now in
     let files : is_standard (into_in q) ≡ false = sym c.is_standard.ensures ∙ c.if-is_standard.false in
     let ends : c.execute-2.new.stage.disk.now ≡ c.disk-1.given.0 = search rules in
-    if_ok_map {T = Ran} {E = RunFault} _ _ _ (λ ran is. executed_map (log_format c.args.spec.now q) false (g.L.Logs.folder c.execute-2.new.logs) _ _ asked c.args.spec.now c.args.moment q c.args.spans.now ran.counts
+    if_ok_map {T = Ran} {E = RunFault} _ _ _ (λ ran is. executed_map (log_format c.args.spec.now q) false (g.L.LogSource.folder c.execute-2.new.logs) _ _ asked c.args.spec.now c.args.moment q c.args.spans.now ran.counts
     (λ plan rows holds. files_written g.D.Disk.state c.new-stage.result c.execute-2.new.stage c.args.disk.now c.disk-1.given.0 (asked plan) rows ran.outputs (g.S.Sink.written c.args.out.now) c.new-stage.ensures.same ends (goes_to_files c.args.spec.now template c.args.moment q c.args.spans.now plan false files) holds) is)
     (simp to_z-of_z at c.execute-2.ensures.ran)
 
@@ -65,7 +65,7 @@ returns-clause-stopped g c =
     let out = g.S.Sink.written c.args.out.now in
     let files : is_standard (into_in q) ≡ false = sym c.is_standard.ensures ∙ c.if-is_standard.false in
     let ends : c.execute-2.new.stage.disk.now ≡ c.disk-1.given.0 = search rules in
-    on_err_map _ _ _ (λ stop. stopped_map (log_format c.args.spec.now q) false (g.L.Logs.folder c.execute-2.new.logs) (c.execute-2.new.stage ≡ c.new-stage.result) _ _ _ asked c.args.spec.now c.args.moment q c.args.spans.now
+    on_err_map _ _ _ (λ stop. stopped_map (log_format c.args.spec.now q) false (g.L.LogSource.folder c.execute-2.new.logs) (c.execute-2.new.stage ≡ c.new-stage.result) _ _ _ asked c.args.spec.now c.args.moment q c.args.spans.now
     (λ same. files_unwritten g.D.Disk.state c.new-stage.result c.execute-2.new.stage c.args.disk.now c.disk-1.given.0 out c.new-stage.ensures.same ends same)
     (λ plan rows stops. files_cut g.D.Disk.state c.new-stage.result c.execute-2.new.stage c.args.disk.now c.disk-1.given.0 (asked plan) rows out c.new-stage.ensures.same ends (goes_to_files c.args.spec.now template c.args.moment q c.args.spans.now plan false files) stops) stop)
     (simp to_z-of_z at c.execute-2.ensures.stopped)

@@ -26,39 +26,39 @@ returns-in_default-clause-grows g c = OnlyGrow-refl _
 pub returns-in_default-clause-stops : goal.returns-in_default-clause-stops
 returns-in_default-clause-stops g c =
     let kind = kind_of g.G.Stage.state g.G.Stage.ended in
-    told_all (g.L.Logs.folder c.args.logs.now) c.args.waits c.args.spans.now (λ rows. Stops kind (asked_of c.args.output) c.args.stage.now rows c.args.stage.now) (lines_of c.args.format) (readings_of c.args.format) (planned_in c.args.plan)
+    told_all (g.L.LogSource.folder c.args.logs.now) c.args.waits c.args.spans.now (λ rows. Stops kind (asked_of c.args.output) c.args.stage.now rows c.args.stage.now) (lines_of c.args.format) (readings_of c.args.format) (planned_in c.args.plan)
     (λ rows. none_stops kind c.args.output c.args.stage.now rows c.requires.new)
 
 pub returns-clause-holds : goal.returns-clause-holds
 returns-clause-holds g c =
     let kind = kind_of g.G.Stage.state g.G.Stage.ended in
-    as_asked (λ format readings plan. IfOk c.write_spans.result (λ (written : Written). OnRows (g.L.Logs.folder c.write_spans.new.logs) c.args.waits c.args.spans.now (λ rows. Holds kind (asked_of c.args.output) c.args.stage.now rows written.outputs c.write_spans.new.stage) format readings plan))
+    as_asked (λ format readings plan. IfOk c.write_spans.result (λ (written : Written). OnRows (g.L.LogSource.folder c.write_spans.new.logs) c.args.waits c.args.spans.now (λ rows. Holds kind (asked_of c.args.output) c.args.stage.now rows written.outputs c.write_spans.new.stage) format readings plan))
     (g.R.LineReader.format c.args.reader.now) (lines_of c.args.format) c.in-Ok.picker.readings (readings_of c.args.format) c.in-Ok.picker.ready.plan c.args.plan c.requires.reads c.in-Ok.ensures.readings c.in-Ok.ensures.plan c.write_spans.ensures.holds
 
 pub returns-clause-output : goal.returns-clause-output
 returns-clause-output g c =
-    as_asked (λ format readings plan. IfOk c.write_spans.result (λ (written : Written). OnRows (g.L.Logs.folder c.write_spans.new.logs) c.args.waits c.args.spans.now (λ rows. written.counts.output ≡ length (left_of (asked_of c.args.output) rows)) format readings plan))
+    as_asked (λ format readings plan. IfOk c.write_spans.result (λ (written : Written). OnRows (g.L.LogSource.folder c.write_spans.new.logs) c.args.waits c.args.spans.now (λ rows. written.counts.output ≡ length (left_of (asked_of c.args.output) rows)) format readings plan))
     (g.R.LineReader.format c.args.reader.now) (lines_of c.args.format) c.in-Ok.picker.readings (readings_of c.args.format) c.in-Ok.picker.ready.plan c.args.plan c.requires.reads c.in-Ok.ensures.readings c.in-Ok.ensures.plan c.write_spans.ensures.output
 
 pub returns-clause-stops : goal.returns-clause-stops
 returns-clause-stops g c =
     let kind = kind_of g.G.Stage.state g.G.Stage.ended in
-    as_asked (λ format readings plan. OnErr c.write_spans.result (OnRows (g.L.Logs.folder c.write_spans.new.logs) c.args.waits c.args.spans.now (λ rows. Stops kind (asked_of c.args.output) c.args.stage.now rows c.write_spans.new.stage) format readings plan))
+    as_asked (λ format readings plan. OnErr c.write_spans.result (OnRows (g.L.LogSource.folder c.write_spans.new.logs) c.args.waits c.args.spans.now (λ rows. Stops kind (asked_of c.args.output) c.args.stage.now rows c.write_spans.new.stage) format readings plan))
     (g.R.LineReader.format c.args.reader.now) (lines_of c.args.format) c.in-Ok.picker.readings (readings_of c.args.format) c.in-Ok.picker.ready.plan c.args.plan c.requires.reads c.in-Ok.ensures.readings c.in-Ok.ensures.plan c.write_spans.ensures.stops
 
 pub returns-clause-refused : goal.returns-clause-refused
 returns-clause-refused g c =
-    as_asked (λ format readings plan. IfErr c.write_spans.result (OnRefusedOutput (λ why. OnRows (g.L.Logs.folder c.write_spans.new.logs) c.args.waits c.args.spans.now (λ rows. IsRefused (asked_of c.args.output) rows why) format readings plan)))
+    as_asked (λ format readings plan. IfErr c.write_spans.result (OnRefusedOutput (λ why. OnRows (g.L.LogSource.folder c.write_spans.new.logs) c.args.waits c.args.spans.now (λ rows. IsRefused (asked_of c.args.output) rows why) format readings plan)))
     (g.R.LineReader.format c.args.reader.now) (lines_of c.args.format) c.in-Ok.picker.readings (readings_of c.args.format) c.in-Ok.picker.ready.plan c.args.plan c.requires.reads c.in-Ok.ensures.readings c.in-Ok.ensures.plan c.write_spans.ensures.refused
 
 pub returns-clause-too_many : goal.returns-clause-too_many
 returns-clause-too_many g c =
-    let Of : Format → Type 0 = λ format. IfErr c.write_spans.result (OnBad (λ line. Told (g.L.Logs.folder c.write_spans.new.logs) (λ folder. AreKept format c.args.waits c.args.spans.now folder
+    let Of : Format → Type 0 = λ format. IfErr c.write_spans.result (OnBad (λ line. Told (g.L.LogSource.folder c.write_spans.new.logs) (λ folder. AreKept format c.args.waits c.args.spans.now folder
     → IsTooMany c.args.most_bad 0 (spans_bad_lines format c.args.waits folder c.args.spans.now) line))) in
     subst Of c.requires.reads c.write_spans.ensures.too_many
 
 pub returns-clause-took : goal.returns-clause-took
 returns-clause-took g c =
-    let Of : Format → Type 0 = λ format. OnOk c.write_spans.result (c.args.waits ≡ true → Told (g.L.Logs.folder c.write_spans.new.logs) (λ folder. AreKept format true c.args.spans.now folder
+    let Of : Format → Type 0 = λ format. OnOk c.write_spans.result (c.args.waits ≡ true → Told (g.L.LogSource.folder c.write_spans.new.logs) (λ folder. AreKept format true c.args.spans.now folder
     → c.write_spans.new.took ≡ c.args.took.now ++ map (took_of format folder) c.args.spans.now)) in
     subst Of c.requires.reads c.write_spans.ensures.took

@@ -34,13 +34,13 @@ stopped_in-requires g c = λ e. subst (λ (o : Option Refused). IsSome o) (sym c
 
 pub returns-clause-stops : goal.returns-clause-stops
 returns-clause-stops g c = λ output picker first s.
-    stops_in (kind_of g.G.Stage.state g.G.Stage.ended) output picker first g.P.Picker.picks (g.R.LineReader.format c.args.reader.now) c.args.waits (g.L.Logs.folder c.take_spans.new.logs) c.args.spans.now
+    stops_in (kind_of g.G.Stage.state g.G.Stage.ended) output picker first g.P.Picker.picks (g.R.LineReader.format c.args.reader.now) c.args.waits (g.L.LogSource.folder c.take_spans.new.logs) c.args.spans.now
     c.args.page.now c.take_spans.new.page c.args.stage.now c.take_spans.new.out s c.in-Err.ensures.stops
 
 pub returns-clause-refused : goal.returns-clause-refused
 returns-clause-refused g c = λ output picker first s.
     let format = g.R.LineReader.format c.args.reader.now in
-    let told = g.L.Logs.folder c.take_spans.new.logs in
+    let told = g.L.LogSource.folder c.take_spans.new.logs in
     let Q : Refused → Type 0 = λ why. Told told (λ folder. AreKept format c.args.waits c.args.spans.now folder → IsRefused (asked_of output) (picked (g.P.Picker.picks picker) (spans_found format c.args.waits folder c.args.spans.now)) why) in
     subst (OnRefusedOutput Q) (sym c.stopped_in.ensures) (refused_in c.in-Err.fault c.replace.result Q
     (subst (λ (o : Option Refused). IfSome o Q) (sym c.replace.ensures.value)
@@ -51,7 +51,7 @@ pub returns-clause-too_many : goal.returns-clause-too_many
 returns-clause-too_many g c =
     let page = c.args.page.now in
     let format = g.R.LineReader.format c.args.reader.now in
-    let told = g.L.Logs.folder c.take_spans.new.logs in
+    let told = g.L.LogSource.folder c.take_spans.new.logs in
     let Of : Option ℕ → ℕ → BadLine → Type 0 = λ most bad line. Told told (λ folder. AreKept format c.args.waits c.args.spans.now folder → IsTooMany most bad (spans_bad_lines format c.args.waits folder c.args.spans.now) line) in
     subst (OnBad (Of page.most_bad 0)) (sym c.stopped_in.ensures) (bad_in c.in-Err.fault c.replace.result (Of page.most_bad 0)
     (bad_line_so _ _ (Of page.most_bad 0)
@@ -67,7 +67,7 @@ pub returns-in-Ok-take_spans-clause-holds : goal.returns-in-Ok-take_spans-clause
 returns-in-Ok-take_spans-clause-holds g c =
     let kind = kind_of g.G.Stage.state g.G.Stage.ended in
     let format = g.R.LineReader.format c.args.reader.now in
-    let told = g.L.Logs.folder c.take_spans.new.logs in
+    let told = g.L.LogSource.folder c.take_spans.new.logs in
     IfOk-weaker c.end_page.result _ _ (λ written holds output picker first s.
     ends_with kind output picker first g.P.Picker.picks format c.args.waits told c.args.spans.now
     c.args.page.now c.take_spans.new.page c.args.stage.now c.take_spans.new.out (λ asked rows. Holds kind asked first rows written.outputs c.end_page.new.stage) s
@@ -77,7 +77,7 @@ pub returns-in-Ok-take_spans-clause-output : goal.returns-in-Ok-take_spans-claus
 returns-in-Ok-take_spans-clause-output g c =
     let kind = kind_of g.G.Stage.state g.G.Stage.ended in
     let format = g.R.LineReader.format c.args.reader.now in
-    let told = g.L.Logs.folder c.take_spans.new.logs in
+    let told = g.L.LogSource.folder c.take_spans.new.logs in
     IfOk-weaker c.end_page.result _ _ (λ written many output picker first s.
     ends_with kind output picker first g.P.Picker.picks format c.args.waits told c.args.spans.now
     c.args.page.now c.take_spans.new.page c.args.stage.now c.take_spans.new.out (λ asked rows. written.counts.output ≡ length (left_of asked rows)) s
@@ -87,7 +87,7 @@ pub returns-in-Ok-take_spans-clause-stops : goal.returns-in-Ok-take_spans-clause
 returns-in-Ok-take_spans-clause-stops g c =
     let kind = kind_of g.G.Stage.state g.G.Stage.ended in
     let format = g.R.LineReader.format c.args.reader.now in
-    let told = g.L.Logs.folder c.take_spans.new.logs in
+    let told = g.L.LogSource.folder c.take_spans.new.logs in
     on_err_weaker c.end_page.result (λ stops output picker first s.
     ends_with kind output picker first g.P.Picker.picks format c.args.waits told c.args.spans.now
     c.args.page.now c.take_spans.new.page c.args.stage.now c.take_spans.new.out (λ asked rows. Stops kind asked first rows c.end_page.new.stage) s
@@ -97,7 +97,7 @@ pub returns-in-Ok-take_spans-clause-refused : goal.returns-in-Ok-take_spans-clau
 returns-in-Ok-take_spans-clause-refused g c =
     let kind = kind_of g.G.Stage.state g.G.Stage.ended in
     let format = g.R.LineReader.format c.args.reader.now in
-    let told = g.L.Logs.folder c.take_spans.new.logs in
+    let told = g.L.LogSource.folder c.take_spans.new.logs in
     IfErr-weaker c.end_page.result _ _ (λ fault refused output picker first s. refused_so fault _ _ (λ why is.
     ends_with kind output picker first g.P.Picker.picks format c.args.waits told c.args.spans.now
     c.args.page.now c.take_spans.new.page c.args.stage.now c.take_spans.new.out (λ asked rows. IsRefused asked rows why) s
@@ -107,20 +107,20 @@ pub returns-in-Ok-take_spans-clause-too_many : goal.returns-in-Ok-take_spans-cla
 returns-in-Ok-take_spans-clause-too_many g c =
     let page = c.args.page.now in
     let format = g.R.LineReader.format c.args.reader.now in
-    let told = g.L.Logs.folder c.take_spans.new.logs in
+    let told = g.L.LogSource.folder c.take_spans.new.logs in
     let Of : BadLine → Type 0 = λ line. Told told (λ folder. AreKept format c.args.waits c.args.spans.now folder → IsTooMany page.most_bad 0 (spans_bad_lines format c.args.waits folder c.args.spans.now) line) in
     IfErr-weaker c.end_page.result _ _ (λ fault good. bad_so fault (λ line. ⊥) Of (λ line none. absurd none) good) c.end_page.ensures.good
 
 pub returns-in-Ok-take_spans-clause-processed : goal.returns-in-Ok-take_spans-clause-processed
 returns-in-Ok-take_spans-clause-processed g c =
     IfOk-weaker c.end_page.result _ _ (λ written same.
-    rows_taken _ (g.R.LineReader.format c.args.reader.now) c.args.waits (g.L.Logs.folder c.take_spans.new.logs) c.args.spans.now
+    rows_taken _ (g.R.LineReader.format c.args.reader.now) c.args.waits (g.L.LogSource.folder c.take_spans.new.logs) c.args.spans.now
     c.args.page.now c.take_spans.new.page c.args.stage.now c.take_spans.new.out written.counts.processed same c.requires.rows c.in-Ok-take_spans.ensures.takes) c.end_page.ensures.processed
 
 pub returns-in-Ok-take_spans-clause-bad : goal.returns-in-Ok-take_spans-clause-bad
 returns-in-Ok-take_spans-clause-bad g c =
     IfOk-weaker c.end_page.result _ _ (λ written same.
-    bad_taken _ (g.R.LineReader.format c.args.reader.now) c.args.waits (g.L.Logs.folder c.take_spans.new.logs) c.args.spans.now
+    bad_taken _ (g.R.LineReader.format c.args.reader.now) c.args.waits (g.L.LogSource.folder c.take_spans.new.logs) c.args.spans.now
     c.args.page.now c.take_spans.new.page c.args.stage.now c.take_spans.new.out written.counts.bad same c.requires.bad c.in-Ok-take_spans.ensures.takes) c.end_page.ensures.bad
 
 pub returns-in-Ok-take_spans-clause-within : goal.returns-in-Ok-take_spans-clause-within

@@ -31,7 +31,7 @@ returns-in_err-page-clause-stops g c =
 pub returns-in_err-page-clause-refused : goal.returns-in_err-page-clause-refused
 returns-in_err-page-clause-refused g c =
     let format = g.R.LineReader.format c.args.reader.now in
-    let told = g.L.Logs.folder c.args.logs.now in
+    let told = g.L.LogSource.folder c.args.logs.now in
     let rows : Folder → List (List Value) = λ folder. picked (g.P.Picker.picks c.args.picker) (spans_found format c.args.waits folder c.args.spans.now) in
     let Q : Refused → Type 0 = λ why. Told told (λ folder. AreKept format c.args.waits c.args.spans.now folder → IsRefused (asked_of c.args.output) (rows folder) why) in
     handed_on c.from_residual.result _ (OnRefusedOutput Q) c.from_residual.ensures.1
@@ -40,7 +40,7 @@ returns-in_err-page-clause-refused g c =
 pub returns-in_err-page-clause-too_many : goal.returns-in_err-page-clause-too_many
 returns-in_err-page-clause-too_many g c =
     let format = g.R.LineReader.format c.args.reader.now in
-    let told = g.L.Logs.folder c.args.logs.now in
+    let told = g.L.LogSource.folder c.args.logs.now in
     let Of : BadLine → Type 0 = λ line. Told told (λ folder. AreKept format c.args.waits c.args.spans.now folder → IsTooMany c.args.most_bad 0 (spans_bad_lines format c.args.waits folder c.args.spans.now) line) in
     handed_on c.from_residual.result _ (OnBad Of) c.from_residual.ensures.1 (bad_so _ (λ line. ⊥) Of (λ line none. absurd none) c.in_err-page.ensures.good)
 
@@ -62,6 +62,6 @@ returns-clause-within g c = IfOk-weaker c.write_page-written.result _ _ (λ writ
 pub returns-clause-too_many : goal.returns-clause-too_many
 returns-clause-too_many g c =
     let format = g.R.LineReader.format c.args.reader.now in
-    let told = g.L.Logs.folder c.write_page-written.new.logs in
+    let told = g.L.LogSource.folder c.write_page-written.new.logs in
     let Of : Option ℕ → BadLine → Type 0 = λ most line. Told told (λ folder. AreKept format c.args.waits c.args.spans.now folder → IsTooMany most 0 (spans_bad_lines format c.args.waits folder c.args.spans.now) line) in
     subst (λ (most : Option ℕ). IfErr c.write_page-written.result (OnBad (Of most))) c.in_ok-page.ensures.most c.write_page-written.ensures.too_many

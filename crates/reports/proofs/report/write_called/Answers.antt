@@ -2,7 +2,7 @@ use Rattle.std.proofs.Common.{◌≡◌, ◌++◌, ℕ, List, Option, ap, ◌∙
 use Rattle.lp_model.specs.Outside.{Gains, GainsSome}
 use Rattle.lp_model.proofs.Gaining.{Gains_trans, GainsSome_front, GainsSome_later}
 use Rattle.lp_model.proofs.Results.{on_err}
-use Rattle.reports.specs.Messages.{counted, named, row_in, row_text}
+use Rattle.reports.specs.Messages.{counted, named, details}
 use Rattle.reports.proofs.report.write_called.Goals as goal
 
 -- the pieces of a reason, read as bytes
@@ -13,18 +13,16 @@ pub returns-in_err-write_reason-clause-err : goal.returns-in_err-write_reason-cl
 returns-in_err-write_reason-clause-err g c =
     let same = of_bytes c.as_bytes.result.now c.as_bytes-2.result.now c.named-number.result.0.now c.named-number.result.2.now (named c.args.status.now) c.named-number.result.1 c.as_bytes.ensures.value c.as_bytes-2.ensures.value c.named-number.ensures in
     let Of : List ℕ → Type 0 = λ t. GainsSome (g.E.Sink.written c.args.err.now) (g.E.Sink.written c.write_reason.new.err) t in
-    on_err _ c.from_residual.result (GainsSome_front _ _ (named c.args.status.now) (row_text (row_in c.args.status.now)) (subst Of same c.in_err-write_reason.ensures.err))
+    on_err _ c.from_residual.result (GainsSome_front _ _ (named c.args.status.now) (details c.args.status.now) (subst Of same c.in_err-write_reason.ensures.err))
 
-pub returns-in_err-write_row-clause-err : goal.returns-in_err-write_row-clause-err
-returns-in_err-write_row-clause-err g c =
+pub returns-in_err-write_details-clause-err : goal.returns-in_err-write_details-clause-err
+returns-in_err-write_details-clause-err g c =
     let same = of_bytes c.as_bytes.result.now c.as_bytes-2.result.now c.named-number.result.0.now c.named-number.result.2.now (named c.args.status.now) c.named-number.result.1 c.as_bytes.ensures.value c.as_bytes-2.ensures.value c.named-number.ensures in
     let Of : List ℕ → Type 0 = λ t. Gains (g.E.Sink.written c.args.err.now) (g.E.Sink.written c.write_reason.new.err) t in
-    let Row : Option ℕ → Type 0 = λ r. GainsSome (g.E.Sink.written c.write_reason.new.err) (g.E.Sink.written c.write_row.new.err) (row_text r) in
-    on_err _ c.from_residual-in_err-write_row.result (GainsSome_later _ _ _ (named c.args.status.now) (row_text (row_in c.args.status.now)) (subst Of same c.in_ok-write_reason.ensures.ok) (subst Row c.row_in.ensures c.in_err-write_row.ensures.err))
+    on_err _ c.from_residual-in_err-write_details.result (GainsSome_later _ _ _ (named c.args.status.now) (details c.args.status.now) (subst Of same c.in_ok-write_reason.ensures.ok) c.in_err-write_details.ensures.err)
 
 pub returns-clause-ok : goal.returns-clause-ok
 returns-clause-ok g c =
     let same = of_bytes c.as_bytes.result.now c.as_bytes-2.result.now c.named-number.result.0.now c.named-number.result.2.now (named c.args.status.now) c.named-number.result.1 c.as_bytes.ensures.value c.as_bytes-2.ensures.value c.named-number.ensures in
     let Of : List ℕ → Type 0 = λ t. Gains (g.E.Sink.written c.args.err.now) (g.E.Sink.written c.write_reason.new.err) t in
-    let Row : Option ℕ → Type 0 = λ r. Gains (g.E.Sink.written c.write_reason.new.err) (g.E.Sink.written c.write_row.new.err) (row_text r) in
-    Gains_trans _ _ _ (named c.args.status.now) (row_text (row_in c.args.status.now)) (subst Of same c.in_ok-write_reason.ensures.ok) (subst Row c.row_in.ensures c.in_ok-write_row.ensures.ok)
+    Gains_trans _ _ _ (named c.args.status.now) (details c.args.status.now) (subst Of same c.in_ok-write_reason.ensures.ok) c.in_ok-write_details.ensures.ok

@@ -43,7 +43,7 @@ returns-in_err-page-clause-stops g c =
 
 pub returns-in_err-page-clause-refused : goal.returns-in_err-page-clause-refused
 returns-in_err-page-clause-refused g c =
-    let told = g.L.Logs.folder c.args.logs.now in
+    let told = g.L.LogSource.folder c.args.logs.now in
     let asks = c.args.asks.now in
     let format = g.R.LineReader.format c.args.reader.now in
     let rows : Folder → List (List Value) = λ folder. grouped_output asks.keys asks.aggregates asks.rollup (g.P.Picker.picks c.args.picker) c.args.plan.plan (spans_found format c.args.waits folder c.args.spans.now) in
@@ -54,7 +54,7 @@ returns-in_err-page-clause-refused g c =
 pub returns-in_err-page-clause-too_many : goal.returns-in_err-page-clause-too_many
 returns-in_err-page-clause-too_many g c =
     let format = g.R.LineReader.format c.args.reader.now in
-    let told = g.L.Logs.folder c.args.logs.now in
+    let told = g.L.LogSource.folder c.args.logs.now in
     let Of : BadLine → Type 0 = λ line. Told told (λ folder. AreKept format c.args.waits c.args.spans.now folder → IsTooMany c.args.most_bad 0 (spans_bad_lines format c.args.waits folder c.args.spans.now) line) in
     handed_on c.from_residual.result _ (OnBad Of) c.from_residual.ensures.1 (bad_so _ (λ line. ⊥) Of (λ line none. absurd none) c.in_err-page.ensures.good)
 
@@ -70,7 +70,7 @@ returns-in_default-clause-stops g c =
 pub returns-clause-stops : goal.returns-clause-stops
 returns-clause-stops g c =
     let kind = kind_of g.G.Stage.state g.G.Stage.ended in
-    let told = g.L.Logs.folder c.take_spans.new.logs in
+    let told = g.L.LogSource.folder c.take_spans.new.logs in
     let asks = c.args.asks.now in
     let format = g.R.LineReader.format c.args.reader.now in
     let rows : Folder → List (List Value) = λ folder. grouped_output asks.keys asks.aggregates asks.rollup (g.P.Picker.picks c.args.picker) c.args.plan.plan (spans_found format c.args.waits folder c.args.spans.now) in
@@ -81,7 +81,7 @@ returns-clause-stops g c =
 
 pub returns-clause-refused : goal.returns-clause-refused
 returns-clause-refused g c =
-    let told = g.L.Logs.folder c.take_spans.new.logs in
+    let told = g.L.LogSource.folder c.take_spans.new.logs in
     let asks = c.args.asks.now in
     let format = g.R.LineReader.format c.args.reader.now in
     let rows : Folder → List (List Value) = λ folder. grouped_output asks.keys asks.aggregates asks.rollup (g.P.Picker.picks c.args.picker) c.args.plan.plan (spans_found format c.args.waits folder c.args.spans.now) in
@@ -92,7 +92,7 @@ pub returns-clause-too_many : goal.returns-clause-too_many
 returns-clause-too_many g c =
     let page = c.in_ok-page.page in
     let format = g.R.LineReader.format c.args.reader.now in
-    let told = g.L.Logs.folder c.take_spans.new.logs in
+    let told = g.L.LogSource.folder c.take_spans.new.logs in
     let Of : Option ℕ → ℕ → BadLine → Type 0 = λ most bad line. Told told (λ folder. AreKept format c.args.waits c.args.spans.now folder → IsTooMany most bad (spans_bad_lines format c.args.waits folder c.args.spans.now) line) in
     subst (OnBad (Of c.args.most_bad 0)) (sym c.stopped_in.ensures) (bad_in c.in-Err.fault None (Of c.args.most_bad 0)
     (bad_line_so _ _ (Of c.args.most_bad 0)
@@ -112,7 +112,7 @@ returns-in-Ok-take_spans-clause-holds g c =
     let kind = kind_of g.G.Stage.state g.G.Stage.ended in
     let opened = c.in_ok-page.ensures in
     IfOk-weaker c.end_page.result _ _ (λ written holds.
-    spans_end g.P.Picker.picks (λ w s. gathered_at w.picker w.plan w.groups s) c.args.asks.now c.args.picker c.args.plan (g.R.LineReader.format c.args.reader.now) c.args.waits (g.L.Logs.folder c.take_spans.new.logs) c.args.spans.now
+    spans_end g.P.Picker.picks (λ w s. gathered_at w.picker w.plan w.groups s) c.args.asks.now c.args.picker c.args.plan (g.R.LineReader.format c.args.reader.now) c.args.waits (g.L.LogSource.folder c.take_spans.new.logs) c.args.spans.now
     c.in_ok-page.page c.take_spans.new.page c.open_page.new.stage c.take_spans.new.out (λ s. HasRows kind c.open_page.new.output c.args.stage.now [] s) (λ asked out. Holds kind asked c.args.stage.now out written.outputs c.end_page.new.stage) (asked_of c.open_page.new.output) (asked_of c.args.output) c.open_page.ensures.asked
     opened.groups opened.picker opened.plan c.in-Ok-take_spans.ensures.takes opened.has (holds c.args.stage.now)) c.end_page.ensures.holds
 
@@ -121,7 +121,7 @@ returns-in-Ok-take_spans-clause-output g c =
     let kind = kind_of g.G.Stage.state g.G.Stage.ended in
     let opened = c.in_ok-page.ensures in
     IfOk-weaker c.end_page.result _ _ (λ written output.
-    spans_end g.P.Picker.picks (λ w s. gathered_at w.picker w.plan w.groups s) c.args.asks.now c.args.picker c.args.plan (g.R.LineReader.format c.args.reader.now) c.args.waits (g.L.Logs.folder c.take_spans.new.logs) c.args.spans.now
+    spans_end g.P.Picker.picks (λ w s. gathered_at w.picker w.plan w.groups s) c.args.asks.now c.args.picker c.args.plan (g.R.LineReader.format c.args.reader.now) c.args.waits (g.L.LogSource.folder c.take_spans.new.logs) c.args.spans.now
     c.in_ok-page.page c.take_spans.new.page c.open_page.new.stage c.take_spans.new.out (λ s. HasRows kind c.open_page.new.output c.args.stage.now [] s) (λ asked out. written.counts.output ≡ length (left_of asked out)) (asked_of c.open_page.new.output) (asked_of c.args.output) c.open_page.ensures.asked
     opened.groups opened.picker opened.plan c.in-Ok-take_spans.ensures.takes opened.has (output c.args.stage.now)) c.end_page.ensures.output
 
@@ -130,7 +130,7 @@ returns-in-Ok-take_spans-clause-stops g c =
     let kind = kind_of g.G.Stage.state g.G.Stage.ended in
     let opened = c.in_ok-page.ensures in
     on_err_weaker c.end_page.result (λ stops.
-    spans_end g.P.Picker.picks (λ w s. gathered_at w.picker w.plan w.groups s) c.args.asks.now c.args.picker c.args.plan (g.R.LineReader.format c.args.reader.now) c.args.waits (g.L.Logs.folder c.take_spans.new.logs) c.args.spans.now
+    spans_end g.P.Picker.picks (λ w s. gathered_at w.picker w.plan w.groups s) c.args.asks.now c.args.picker c.args.plan (g.R.LineReader.format c.args.reader.now) c.args.waits (g.L.LogSource.folder c.take_spans.new.logs) c.args.spans.now
     c.in_ok-page.page c.take_spans.new.page c.open_page.new.stage c.take_spans.new.out (λ s. HasRows kind c.open_page.new.output c.args.stage.now [] s) (λ asked out. Stops kind asked c.args.stage.now out c.end_page.new.stage) (asked_of c.open_page.new.output) (asked_of c.args.output) c.open_page.ensures.asked
     opened.groups opened.picker opened.plan c.in-Ok-take_spans.ensures.takes opened.has (stops c.args.stage.now)) c.end_page.ensures.stops
 
@@ -142,27 +142,27 @@ returns-in-Ok-take_spans-clause-refused g c =
     let kind = kind_of g.G.Stage.state g.G.Stage.ended in
     let opened = c.in_ok-page.ensures in
     IfErr-weaker c.end_page.result _ _ (λ fault refused. refused_so fault _ _ (λ why is.
-    spans_end g.P.Picker.picks (λ w s. gathered_at w.picker w.plan w.groups s) c.args.asks.now c.args.picker c.args.plan (g.R.LineReader.format c.args.reader.now) c.args.waits (g.L.Logs.folder c.take_spans.new.logs) c.args.spans.now
+    spans_end g.P.Picker.picks (λ w s. gathered_at w.picker w.plan w.groups s) c.args.asks.now c.args.picker c.args.plan (g.R.LineReader.format c.args.reader.now) c.args.waits (g.L.LogSource.folder c.take_spans.new.logs) c.args.spans.now
     c.in_ok-page.page c.take_spans.new.page c.open_page.new.stage c.take_spans.new.out (λ s. HasRows kind c.open_page.new.output c.args.stage.now [] s) (λ asked out. IsRefused asked out why) (asked_of c.open_page.new.output) (asked_of c.args.output) c.open_page.ensures.asked
     opened.groups opened.picker opened.plan c.in-Ok-take_spans.ensures.takes opened.has (is c.args.stage.now)) refused) c.end_page.ensures.refused
 
 pub returns-in-Ok-take_spans-clause-too_many : goal.returns-in-Ok-take_spans-clause-too_many
 returns-in-Ok-take_spans-clause-too_many g c =
     let format = g.R.LineReader.format c.args.reader.now in
-    let told = g.L.Logs.folder c.take_spans.new.logs in
+    let told = g.L.LogSource.folder c.take_spans.new.logs in
     let Of : BadLine → Type 0 = λ line. Told told (λ folder. AreKept format c.args.waits c.args.spans.now folder → IsTooMany c.args.most_bad 0 (spans_bad_lines format c.args.waits folder c.args.spans.now) line) in
     IfErr-weaker c.end_page.result _ _ (λ fault good. bad_so fault (λ line. ⊥) Of (λ line none. absurd none) good) c.end_page.ensures.good
 
 pub returns-in-Ok-take_spans-clause-processed : goal.returns-in-Ok-take_spans-clause-processed
 returns-in-Ok-take_spans-clause-processed g c =
     IfOk-weaker c.end_page.result _ _ (λ written same.
-    rows_taken _ (g.R.LineReader.format c.args.reader.now) c.args.waits (g.L.Logs.folder c.take_spans.new.logs) c.args.spans.now c.in_ok-page.page c.take_spans.new.page c.open_page.new.stage c.take_spans.new.out
+    rows_taken _ (g.R.LineReader.format c.args.reader.now) c.args.waits (g.L.LogSource.folder c.take_spans.new.logs) c.args.spans.now c.in_ok-page.page c.take_spans.new.page c.open_page.new.stage c.take_spans.new.out
     written.counts.processed same c.in_ok-page.ensures.rows c.in-Ok-take_spans.ensures.takes) c.end_page.ensures.processed
 
 pub returns-in-Ok-take_spans-clause-bad : goal.returns-in-Ok-take_spans-clause-bad
 returns-in-Ok-take_spans-clause-bad g c =
     IfOk-weaker c.end_page.result _ _ (λ written same.
-    bad_taken _ (g.R.LineReader.format c.args.reader.now) c.args.waits (g.L.Logs.folder c.take_spans.new.logs) c.args.spans.now c.in_ok-page.page c.take_spans.new.page c.open_page.new.stage c.take_spans.new.out
+    bad_taken _ (g.R.LineReader.format c.args.reader.now) c.args.waits (g.L.LogSource.folder c.take_spans.new.logs) c.args.spans.now c.in_ok-page.page c.take_spans.new.page c.open_page.new.stage c.take_spans.new.out
     written.counts.bad same c.in_ok-page.ensures.bad c.in-Ok-take_spans.ensures.takes) c.end_page.ensures.bad
 
 pub returns-in-Ok-take_spans-clause-within : goal.returns-in-Ok-take_spans-clause-within

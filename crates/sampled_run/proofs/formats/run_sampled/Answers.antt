@@ -22,7 +22,7 @@ use Rattle.sampled_run.proofs.formats.run_sampled.Goals as goal
 
 pub returns-clause-ran : goal.returns-clause-ran
 returns-clause-ran g c =
-    let told = g.L.Logs.folder c.sample_reader.new.logs in
+    let told = g.L.LogSource.folder c.sample_reader.new.logs in
     let u = c.args.stage.now in
     let v = c.sample_reader.new.stage in
     let spans = c.args.spans.now in
@@ -39,7 +39,7 @@ returns-clause-ran g c =
 
 pub returns-clause-stopped : goal.returns-clause-stopped
 returns-clause-stopped g c =
-    let told = g.L.Logs.folder c.sample_reader.new.logs in
+    let told = g.L.LogSource.folder c.sample_reader.new.logs in
     let u = c.args.stage.now in
     let v = c.sample_reader.new.stage in
     let spans = c.args.spans.now in
@@ -56,7 +56,7 @@ returns-clause-stopped g c =
 
 pub returns-clause-too_many : goal.returns-clause-too_many
 returns-clause-too_many g c =
-    let told = g.L.Logs.folder c.sample_reader.new.logs in
+    let told = g.L.LogSource.folder c.sample_reader.new.logs in
     let spans = c.args.spans.now in
     let Of : DelimitedOptions → Type 0 = λ options. IfErr c.sample_reader.result (λ fault. OnBadOne fault (λ line. Told told (λ folder. AreKept (delimited_lines options) c.args.waits spans folder
     → IsTooMany c.args.most_bad 0 (spans_bad_lines (delimited_lines options) c.args.waits folder spans) line))) in
@@ -64,7 +64,7 @@ returns-clause-too_many g c =
 
 pub returns-clause-took : goal.returns-clause-took
 returns-clause-took g c =
-    let told = g.L.Logs.folder c.sample_reader.new.logs in
+    let told = g.L.LogSource.folder c.sample_reader.new.logs in
     let spans = c.args.spans.now in
     let Of : DelimitedOptions → Type 0 = λ options. OnOk c.sample_reader.result (c.args.waits ≡ true → Told told (λ folder. AreKept (delimited_lines options) true spans folder
     → c.sample_reader.new.took ≡ c.args.took.now ++ map (took_of (delimited_lines options) folder) spans)) in

@@ -49,13 +49,13 @@ returns-in_default-clause-grows g c = OnlyGrow-refl _
 
 pub returns-in_default-clause-stopped : goal.returns-in_default-clause-stopped
 returns-in_default-clause-stopped g c =
-    stopped_at_once (kind_of g.G.Stage.state g.G.Stage.ended) (rules_of c.args.limit c.args.pattern.now c.args.moment.seconds (query_of c.args.query.now) (asked_by (files_for c.args.into) (wanted_text c.args.wanted c.args.moment.seconds) (query_of c.args.query.now))) (g.R.LineReader.format c.args.reader.now) c.args.waits (g.L.Logs.folder c.args.logs.now) c.args.spans.now c.args.stage.now
+    stopped_at_once (kind_of g.G.Stage.state g.G.Stage.ended) (rules_of c.args.limit c.args.pattern.now c.args.moment.seconds (query_of c.args.query.now) (asked_by (files_for c.args.into) (wanted_text c.args.wanted c.args.moment.seconds) (query_of c.args.query.now))) (g.R.LineReader.format c.args.reader.now) c.args.waits (g.L.LogSource.folder c.args.logs.now) c.args.spans.now c.args.stage.now
 
 pub returns-clause-stopped : goal.returns-clause-stopped
 returns-clause-stopped g c =
     let rules = rules_of c.args.limit c.args.pattern.now c.args.moment.seconds (query_of c.args.query.now) (asked_by (files_for c.args.into) (wanted_text c.args.wanted c.args.moment.seconds) (query_of c.args.query.now)) in
     let format = g.R.LineReader.format c.args.reader.now in
-    let told = g.L.Logs.folder c.take_spans.new.logs in
+    let told = g.L.LogSource.folder c.take_spans.new.logs in
     let u = c.args.stage.now in
     let v = c.take_spans.new.out in
     let Of : SampleFault → Type 0 = λ fault. Told told (λ folder. AreKept format c.args.waits c.args.spans.now folder → IsStoppedBy (kind_of g.G.Stage.state g.G.Stage.ended) rules u (past_behind format c.args.waits folder (record { first = None; founds = [] }) c.args.spans.now) fault v) in
@@ -66,7 +66,7 @@ returns-clause-stopped g c =
 pub returns-clause-too_many : goal.returns-clause-too_many
 returns-clause-too_many g c =
     let format = g.R.LineReader.format c.args.reader.now in
-    let told = g.L.Logs.folder c.take_spans.new.logs in
+    let told = g.L.LogSource.folder c.take_spans.new.logs in
     let page = c.first_page-page.result in
     let Of : Option ℕ → ℕ → BadLine → Type 0 = λ most bad line. Told told (λ folder. AreKept format c.args.waits c.args.spans.now folder → IsTooMany most bad (spans_bad_lines format c.args.waits folder c.args.spans.now) line) in
     let On : SampleFault → Type 0 = λ fault. OnBadOne fault (Of c.args.most_bad 0) in
@@ -88,5 +88,5 @@ returns-in-Ok-take_spans-clause-read g c = record {
   is_fresh = c.first_page-page.ensures.fresh;
   rows = c.first_page-page.ensures.rows;
   bad = c.first_page-page.ensures.bad;
-  reads = samples_spans (writer_kind (kind_of g.G.Stage.state g.G.Stage.ended)) (g.R.LineReader.format c.args.reader.now) c.args.waits (g.L.Logs.folder c.take_spans.new.logs) c.args.spans.now c.first_page-page.result c.take_spans.new.page c.args.stage.now c.take_spans.new.out c.in-Ok-take_spans.ensures.takes;
+  reads = samples_spans (writer_kind (kind_of g.G.Stage.state g.G.Stage.ended)) (g.R.LineReader.format c.args.reader.now) c.args.waits (g.L.LogSource.folder c.take_spans.new.logs) c.args.spans.now c.first_page-page.result c.take_spans.new.page c.args.stage.now c.take_spans.new.out c.in-Ok-take_spans.ensures.takes;
 }

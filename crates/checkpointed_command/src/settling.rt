@@ -1,0 +1,29 @@
+// The disk, settled before anything else is done.
+ghost use Rattle.std.specs.Prelude.{◌≡◌, ◌≤◌, OnOk, IfErr, IsErrOf};
+ghost use Rattle.lp_model.specs.Outside.{Rose};
+ghost use Rattle.commit.specs.Faults.{FitsWhole, IsApart};
+ghost use Rattle.commit.specs.Resume.{CanSettle, Settles};
+ghost use Rattle.reports.specs.declared.status.Status.TheVariants as S;
+ghost use Rattle.checkpointed_command.specs.Refusals.{IsUnsettled};
+ghost use Rattle.checkpointed_command.specs.Steps.{IsDamaged};
+
+use crate::statuses::unsettled;
+use commit::{Commit, CommitFiles};
+use lp_outside::Disk;
+use reports::Status;
+
+/// Finishes what a run that was stopped has left, or says why it can't be.
+pub(crate) fn settle_ledger<D: Disk>(disk: &mut D, files: CommitFiles) -> Result<(), Status>
+    ensures settles { CanSettle (D.state disk.old) files.ledger files.stage → Settles (D.state disk.old) (D.state disk.new) files.ledger files.stage }
+    ensures fits { OnOk result ((D.state disk.old).tells → IsApart files.ledger files.stage (D.state disk.old).seen → FitsWhole files.ledger files.stage (D.state disk.old).seen) }
+    ensures refused { IfErr result (IsUnsettled (D.state disk.old) files.ledger files.stage) }
+    ensures undamaged { IfErr result (λ status. IsDamaged status → CanSettle (D.state disk.old) files.ledger files.stage → ⊥) }
+    ensures later { D.faults disk.old ≤ D.faults disk.new }
+    ensures failed { IsErrOf result S.DiskFault → Rose (D.faults disk.old) (D.faults disk.new) }
+{
+    let mut commit = Commit::new(disk, files);
+    match commit.settle() {
+        Ok(()) => Ok(()),
+        Err(fault) => Err(unsettled(fault)),
+    }
+}

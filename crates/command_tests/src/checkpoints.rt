@@ -1,0 +1,236 @@
+// Runs with a checkpoint, one after the other, over logs that grow and rotate and a disk that fails and stops.
+use headline::{
+    a_call_is_a_run, calls_go_on, calls_reach_worlds, each_line_once_by_calls, run_in_world,
+};
+use lp_outside::Name;
+use lp_values::{Bytes, Text, TextList};
+use memory_outside::{MemoryDisk, MemoryLogs, MemorySink, MemorySource, Torn, TornList};
+use std::alloc::Global;
+use std::test::Fail;
+
+fn name(text: &str) -> Result<Name, Fail> {
+    Ok(Name::read(text).map_err(|_| "no name")?)
+}
+
+// The bytes of a text in which `;` stands for a line's end.
+fn lines(alloc: Global, text: &str) -> Result<Bytes, Fail> {
+    let mut lines = Bytes::new(alloc);
+    for byte in text.as_bytes() {
+        lines.push(if *byte == b';' { b'\n' } else { *byte })?;
+    }
+    Ok(lines)
+}
+
+// Whether bytes are those of such a text.
+fn are_lines(alloc: Global, bytes: &[u8], text: &str) -> Result<bool, Fail> {
+    Ok(bytes == lines(alloc, text)?.as_slice())
+}
+
+// The words as they are typed: options, and the query behind them in quotes.
+fn words(alloc: Global, typed: &str) -> Result<TextList, Fail> {
+    let (options, rest) = typed.split_once('"').ok_or("no query")?;
+    let query = rest.strip_suffix('"').ok_or("no end")?;
+    let mut words = TextList::new(alloc);
+    for option in options.split(' ') {
+        if !option.is_empty() {
+            words.push(Text::from_str(alloc, option)?)?;
+        }
+    }
+    words.push(Text::from_str(alloc, query)?)?;
+    Ok(words)
+}
+
+// The code of a run and what it writes to out and to err.
+fn told(
+    alloc: Global,
+    logs: &mut MemoryLogs,
+    disk: &mut MemoryDisk,
+    typed: &str,
+) -> Result<Bytes, Fail> {
+    let mut input = MemorySource::new(alloc, Bytes::new(alloc));
+    let mut out = MemorySink::new(alloc);
+    let mut err = MemorySink::new(alloc);
+    let words = words(alloc, typed)?;
+    let status = run_in_world(alloc, &words, 0, logs, disk, &mut input, &mut out, &mut err);
+    let mut told = Bytes::new(alloc);
+    told.add(format!(in alloc; "{} ", status.code())?.as_str().as_bytes())?;
+    told.add(out.bytes())?;
+    told.add(err.bytes())?;
+    Ok(told)
+}
+
+// A step in the life of logs and a disk: bytes are put behind a log or a file, a log goes, the next call of the disk but so many
+// fails, a run is made and tells something, or a file holds something.
+fn takes(
+    alloc: Global,
+    logs: &mut MemoryLogs,
+    disk: &mut MemoryDisk,
+    step: &str,
+) -> Result<bool, Fail> {
+    let (verb, rest) = step.split_once(' ').ok_or("no step")?;
+    let (what, text) = rest.split_once(" => ").ok_or("no text")?;
+    match verb {
+        "log" => logs.put(&name(what)?, lines(alloc, text)?.as_slice())?,
+        "gone" => logs.remove(&name(what)?),
+        "disk" => disk.put(&name(what)?, lines(alloc, text)?.as_slice())?,
+        "fails" => disk.fail(u64::try_from(text.len()).map_err(|_| "no call")?)?,
+        "run" => return are_lines(alloc, told(alloc, logs, disk, what)?.as_slice(), text),
+        "file" => return are_lines(alloc, disk.bytes(&name(what)?), text),
+        "size" => {
+            return Ok(format!(in alloc; "{}", disk.bytes(&name(what)?).len())?.as_str() == text);
+        }
+        _ => return Ok(false),
+    }
+    Ok(true)
+}
+
+// Lives, each behind an empty line. A log's bytes are put behind those that it has.
+const LIVES: &str = "\
+log a.log => a\r;b
+run -i:TEXTLINE -iCheckpoint:cp -fileMode:0 \"SELECT Index, Text INTO o.csv FROM a.log\" => 0 Statistics:;-----------;Elements processed: 1;Elements output:    1;
+file o.csv => Index,Text;1,a;
+size cp => 315
+log a.log => ;
+run -i:TEXTLINE -iCheckpoint:cp -fileMode:0 \"SELECT Index, Text INTO o.csv FROM a.log\" => 0 Statistics:;-----------;Elements processed: 1;Elements output:    1;
+file o.csv => Index,Text;1,a;2,b;
+run -i:TEXTLINE -iCheckpoint:cp -fileMode:0 \"SELECT Index, Text INTO o.csv FROM a.log\" => 0 Statistics:;-----------;Elements processed: 0;Elements output:    0;
+file o.csv => Index,Text;1,a;2,b;
+run -i:TEXTWORD -iCheckpoint:cp -fileMode:0 \"SELECT Index, Text INTO o.csv FROM a.log\" => 4 logparser: input: the ledger has -i:TEXTLINE -headerRow:ON -iSeparator:tab -iRotation:NAMES, given -i:TEXTWORD -headerRow:ON -iSeparator:tab -iRotation:NAMES;
+run -i:TEXTLINE -iCheckpoint:cp \"SELECT Text FROM a.log\" => 3 logparser: query: INTO needed;
+run -i:TEXTLINE -iCheckpoint:cp \"SELECT Text INTO stdout FROM a.log\" => 3 logparser: query: INTO needed;
+run -i:TEXTLINE -iCheckpoint:cp \"SELECT Text INTO p.csv FROM STDIN\" => 3 logparser: query: at 28: STDIN misplaced;
+run -i:TEXTLINE -iCheckpoint:cp \"SELECT Text INTO cp FROM a.log\" => 4 logparser: input: name clash cp;
+run -i:TEXTLINE -iCheckpoint:cp \"SELECT Text INTO a.log FROM a.log\" => 4 logparser: input: name clash a.log;
+run -i:TEXTLINE -iCheckpoint:a.log \"SELECT Text INTO p.csv FROM a.log\" => 4 logparser: input: name clash a.log;
+run -i:TEXTLINE -iCheckpoint:cp \"SELECT Nothing INTO p.csv FROM a.log\" => 3 logparser: query: at 7: unknown field;
+run -i:TEXTLINE -iCheckpoint:cp \"SELECT Text INTO p.csv FROM b.log\" => 4 logparser: input: no such log b.log;
+gone a.log => 
+log a.log => x;
+run -i:TEXTLINE -iCheckpoint:cp -fileMode:0 \"SELECT Index, Text INTO o.csv FROM a.log\" => 4 logparser: input: a.log is 2 bytes, 5 were read;
+file o.csv => Index,Text;1,a;2,b;
+
+log w.log => #Fields: date time cs-uri-stem sc-bytes;2001-01-01 00:00:01 /a 10;#Fields: date time cs-uri-stem;
+run -stats:OFF -i:IISW3C -iCheckpoint:cw -fileMode:0 \"SELECT LogRow, time, cs-uri-stem, sc-bytes INTO w.csv FROM w.log\" => 0 
+log w.log => 2001-01-01 00:00:02 /b;
+run -stats:OFF -i:IISW3C -iCheckpoint:cw -fileMode:0 \"SELECT LogRow, time, cs-uri-stem, sc-bytes INTO w.csv FROM w.log\" => 0 
+file w.csv => LogRow,time,cs-uri-stem,sc-bytes;2,00:00:01,/a,10;4,00:00:02,/b,;
+
+log acc.log => a;
+run -stats:OFF -i:TEXTLINE -iCheckpoint:cp -iRotation:NUMBERS -fileMode:0 \"SELECT LogFilename, Text INTO o.csv FROM acc.log\" => 0 
+file o.csv => LogFilename,Text;acc.log.1,a;
+gone acc.log => 
+log acc.log.1 => a;b;
+log acc.log.2 => c;
+log acc.log => d;
+run -stats:OFF -i:TEXTLINE -iCheckpoint:cp -iRotation:NUMBERS -fileMode:0 \"SELECT LogFilename, Text INTO o.csv FROM acc.log\" => 0 
+file o.csv => LogFilename,Text;acc.log.1,a;acc.log.1,b;acc.log.2,c;acc.log.3,d;
+
+log acc.log => a;
+run -stats:OFF -i:TEXTLINE -iCheckpoint:cp -iRotation:NUMBERS -fileMode:0 \"SELECT LogFilename, Text INTO o.csv FROM acc.log\" => 0 
+log acc.log.2 => c;
+run -i:TEXTLINE -iCheckpoint:cp -iRotation:NUMBERS -fileMode:0 \"SELECT LogFilename, Text INTO o.csv FROM acc.log\" => 4 logparser: input: lost log acc.log.1;
+
+disk cp => ;;;;;;;;;;;;;;;;;;;
+log a.log => a;
+run -i:TEXTLINE -iCheckpoint:cp \"SELECT Text INTO o.csv FROM a.log\" => 9 logparser: ledger: ledger at 0;
+
+log r.log => 2001-01-01 00:00:01 /a;
+run -stats:OFF -i:IISW3C -iCheckpoint:cp -e:0 \"SELECT LogRow INTO o.csv FROM r.log\" => 8 logparser: parse errors: r.log row 1;
+run -i:IISW3C -iCheckpoint:cp \"SELECT LogRow INTO o.csv FROM r.log\" => 0 Statistics:;-----------;Elements processed: 0;Elements output:    0;Lines not read:     1;
+file o.csv => LogRow;
+
+log m.csv => k,v;a,1;b,2;c,3;
+run -stats:OFF -iCheckpoint:cm -fileMode:0 \"SELECT k, v INTO out_*.csv FROM m.csv\" => 0 
+file out_a.csv => v;1;
+file out_c.csv => v;3;
+log m.csv => b,4;
+run -stats:OFF -iCheckpoint:cm -fileMode:0 \"SELECT k, v INTO out_*.csv FROM m.csv\" => 0 
+file out_b.csv => v;2;4;
+log t.tpl => <LPBODY>%v%,</LPBODY>
+log m.csv => c,5;
+run -stats:OFF -iCheckpoint:cm -tpl:t.tpl \"SELECT v INTO t.txt FROM m.csv\" => 0 
+file t.txt => 5,
+
+log a.log => a;
+run -stats:OFF -i:TEXTLINE -iCheckpoint:cp -fileMode:0 \"SELECT Index, Text INTO o.csv FROM a.log\" => 0 
+log a.log => b;
+fails disk => ..........
+run -stats:OFF -i:TEXTLINE -iCheckpoint:cp -fileMode:0 \"SELECT Index, Text INTO o.csv FROM a.log\" => 6 logparser: disk fault;
+run -stats:OFF -i:TEXTLINE -iCheckpoint:cp -fileMode:0 \"SELECT Index, Text INTO o.csv FROM a.log\" => 0 
+file o.csv => Index,Text;1,a;2,b;";
+
+// The first step of a life that doesn't go as it says.
+fn broken_at<'a>(alloc: Global, life: &'a str) -> Result<Option<&'a str>, Fail> {
+    let mut logs = MemoryLogs::new(alloc);
+    let mut disk = MemoryDisk::new(alloc);
+    for step in life.lines() {
+        if !takes(alloc, &mut logs, &mut disk, step)? {
+            return Ok(Some(step));
+        }
+    }
+    Ok(None)
+}
+
+// Each run of these tests is one of which the headline's laws speak.
+#[test]
+fn lives_go_as_they_say(rt: HostRuntime) -> Result<(), Fail> {
+    a_call_is_a_run::<MemoryDisk>();
+    calls_go_on::<MemoryDisk>();
+    calls_reach_worlds::<MemoryDisk>();
+    each_line_once_by_calls::<MemoryDisk>();
+    for life in LIVES.split("\n\n") {
+        let broken = broken_at(rt.alloc(), life)?;
+        assert!(rt; broken.is_none(), "{}", broken.unwrap_or(""));
+    }
+    Ok(())
+}
+
+const TORN: [Torn; 5] = [
+    Torn::Kept,
+    Torn::Lost,
+    Torn::Filled(0xA5),
+    Torn::Filled(0x5A),
+    Torn::Filled(0x37),
+];
+
+const APPENDS: &str =
+    "-stats:OFF -i:TEXTLINE -iCheckpoint:cp -fileMode:0 \"SELECT Index, Text INTO o.csv FROM a.log\"";
+
+// What a crash makes of whatever a run had not synced.
+fn torn_list(alloc: Global, torn: Torn) -> Result<TornList, Fail> {
+    let mut list = TornList::new(alloc);
+    for _index in 0..32 {
+        list.push(torn)?;
+    }
+    Ok(list)
+}
+
+// A run takes a line; the next one, over one line more, stops behind so many calls of the disk, as a crash leaves it; and a third
+// is made. Whether the second was whole, and each line stands once in the output.
+fn stops_at(alloc: Global, torn: Torn, call: u64) -> Result<(bool, bool), Fail> {
+    let mut logs = MemoryLogs::new(alloc);
+    let mut disk = MemoryDisk::new(alloc);
+    logs.put(&name("a.log")?, b"a\n")?;
+    let first = told(alloc, &mut logs, &mut disk, APPENDS)?;
+    logs.put(&name("a.log")?, b"b\n")?;
+    disk.stop_after(call);
+    let second = told(alloc, &mut logs, &mut disk, APPENDS)?;
+    disk.crash(&torn_list(alloc, torn)?)?;
+    let third = told(alloc, &mut logs, &mut disk, APPENDS)?;
+    let ended = are_lines(alloc, first.as_slice(), "0 ")?
+        && are_lines(alloc, third.as_slice(), "0 ")?;
+    let once = are_lines(alloc, disk.bytes(&name("o.csv")?), "Index,Text;1,a;2,b;")?;
+    Ok((are_lines(alloc, second.as_slice(), "0 ")?, ended && once))
+}
+
+#[test]
+fn a_stopped_run_takes_each_line_once(rt: HostRuntime) -> Result<(), Fail> {
+    for torn in TORN {
+        for call in 0..64 {
+            let (whole, once) = stops_at(rt.alloc(), torn, call)?;
+            assert!(rt; once, "a stop behind {call} calls");
+            assert!(rt; whole || call < 63);
+        }
+    }
+    Ok(())
+}

@@ -1,0 +1,75 @@
+// Runs over standard input.
+use logparser_cli::run;
+use lp_values::{Bytes, Text, TextList};
+use memory_outside::{MemoryDisk, MemoryLogs, MemorySink, MemorySource};
+use std::alloc::Global;
+use std::test::Fail;
+
+// The options and the query of a run, what standard input gives, and what is told: the code, and what it writes to out and to err.
+// A `;` stands for a line's end, and each row has more options in front.
+const RUNS: &str = "\
+-i:TEXTLINE SELECT * FROM STDIN < x;y => 0 LogFilename,Index,Text;STDIN,1,x;STDIN,2,y;|Statistics:;-----------;Elements processed: 2;Elements output:    2;
+-i:TEXTLINE SELECT Index, Text FROM 'stdin' < a;;b; => 0 Index,Text;1,a;2,;3,b;|Statistics:;-----------;Elements processed: 3;Elements output:    3;
+-i:TEXTWORD SELECT Index, Text FROM Stdin WHERE Text > 'a' < a b;c => 0 Index,Text;1,b;2,c;|Statistics:;-----------;Elements processed: 3;Elements output:    2;
+-i:CSV SELECT b, a FROM STDIN < a,b;1,x;2,y; => 0 b,a;x,1;y,2;|Statistics:;-----------;Elements processed: 2;Elements output:    2;
+-i:CSV SELECT a FROM STDIN WHERE a > 1 ORDER BY a DESC < a,b;1,x;3,y;2,z => 0 a;3;2;|Statistics:;-----------;Elements processed: 3;Elements output:    2;
+-i:CSV SELECT a FROM STDIN <  => 0 a;|Statistics:;-----------;Elements processed: 0;Elements output:    0;
+-i:IISW3C SELECT TOP 1 sc-status FROM STDIN < #Fields: sc-status;200;404; => 0 sc-status;200;|Statistics:;-----------;Elements processed: 2;Elements output:    1;
+-i:TEXTLINE SELECT Text FROM STDIN <  => 0 Text;|Statistics:;-----------;Elements processed: 0;Elements output:    0;
+-i:IISW3C SELECT sc-status FROM STDIN < 200; => 8 |logparser: parse errors: STDIN row 1;
+-i:TEXTLINE SELECT Text FROM a.log, STDIN < x => 3 |logparser: query: at 24: STDIN misplaced;";
+
+// Bytes with `;` for a line's end, or back.
+fn turned(alloc: Global, bytes: &[u8], from: u8, to: u8) -> Result<Bytes, Fail> {
+    let mut turned = Bytes::new(alloc);
+    for byte in bytes {
+        turned.push(if *byte == from { to } else { *byte })?;
+    }
+    Ok(turned)
+}
+
+// What a run tells whose standard input gives these bytes, and whose call of that number fails there.
+fn told(alloc: Global, typed: &str, given: &str, failing: Option<u64>) -> Result<Bytes, Fail> {
+    let (option, query) = typed.split_once(' ').ok_or("no query")?;
+    let mut words = TextList::new(alloc);
+    for word in [option, "-o:CSV", "-e:0", query] {
+        words.push(Text::from_str(alloc, word)?)?;
+    }
+    let mut logs = MemoryLogs::new(alloc);
+    let mut disk = MemoryDisk::new(alloc);
+    let mut input = MemorySource::new(alloc, turned(alloc, given.as_bytes(), b';', b'\n')?);
+    if let Some(call) = failing {
+        input.fail(call)?;
+    }
+    let mut out = MemorySink::new(alloc);
+    let mut err = MemorySink::new(alloc);
+    let status = run(
+        alloc, &words, 0, &mut logs, &mut disk, &mut input, &mut out, &mut err,
+    );
+    let code = format!(in alloc; "{} ", status.code())?;
+    let mut told = Bytes::new(alloc);
+    told.add(code.as_str().as_bytes())?;
+    told.add(out.bytes())?;
+    told.push(b'|')?;
+    told.add(err.bytes())?;
+    turned(alloc, told.as_slice(), b'\n', b';')
+}
+
+#[test]
+fn standard_input_is_read(rt: HostRuntime) -> Result<(), Fail> {
+    for row in RUNS.lines() {
+        let (run, want) = row.split_once(" => ").ok_or("no text")?;
+        let (typed, given) = run.split_once(" < ").ok_or("no input")?;
+        let told = told(rt.alloc(), typed, given, None)?;
+        assert!(rt; told.as_slice() == want.as_bytes(), "{row}");
+    }
+    Ok(())
+}
+
+#[test]
+fn standard_input_may_fail(rt: HostRuntime) -> Result<(), Fail> {
+    let told = told(rt.alloc(), "-i:TEXTLINE SELECT Text FROM STDIN", "x;y", Some(0))?;
+    let want = "5 |logparser: read fault: standard input;";
+    assert!(rt; told.as_slice() == want.as_bytes(), "{:?}", told.as_slice());
+    Ok(())
+}

@@ -1,0 +1,72 @@
+-- What a condition of a query means, with the places of its fields, aggregates and GROUPINGs.
+use Rattle.std.specs.Prelude.{ℕ, Bool, List, [], Option, Some, None, Result, Ok, Err, Box}
+use Rattle.std.specs.declared.alloc.Global.{Global}
+use Rattle.grammar.specs.Trees.{Tree, Trees, no_trees, more_trees, Test, place_of}
+use Rattle.grammar.specs.Trees.{Test as test}
+use Rattle.lp_values.specs.declared.comparison.Compare.{Compare}
+use Rattle.lp_values.specs.declared.kind.Kind.{Kind}
+use Rattle.lp_values.specs.declared.kind.Kind.TheVariants as K
+use Rattle.lp_values.specs.declared.value.Value.{Value}
+use Rattle.query_types.specs.declared.fault.TypeFault.{TypeFault}
+use Rattle.query_types.specs.declared.fault.TypeFault.TheVariants as F
+use Rattle.query_types.specs.declared.table.TableColumns.{TableColumns}
+use Rattle.query_types.specs.Conditions.{compare_of}
+use Rattle.query_types.specs.Meanings.{added, followed}
+use Rattle.group_planning.specs.declared.check.SenseCheck.{SenseCheck, Or', And', Not', Compare as Compares, IsNull, Like, Between, Within}
+use Rattle.group_planning.specs.Senses.{Sense, sense_of, listed_senses, kind_sensed}
+use Rattle.group_planning.specs.Sensing.{Named, sensed, fitting_sense}
+
+pub data Check : Type 0 where
+  either : Check → Check → Check
+  both : Check → Check → Check
+  opposite : Check → Check
+  compared : Compare → Sense → Sense → Check
+  null : Sense → Bool → Check
+  like : Sense → List ℕ → Bool → Check
+  between : Sense → Sense → Sense → Bool → Check
+  within : Sense → List Sense → Bool → Check
+
+-- the same, less where it lies in memory
+abbrev pub check_of : SenseCheck → Check
+check_of (Or' p a q b) = either (check_of a) (check_of b)
+check_of (And' p a q b) = both (check_of a) (check_of b)
+check_of (Not' p a) = opposite (check_of a)
+check_of (Compares how left right) = compared how (sense_of left) (sense_of right)
+check_of (IsNull value negated) = null (sense_of value) negated
+check_of (Like value pattern negated) = like (sense_of value) pattern negated
+check_of (Between value low high negated) = between (sense_of value) (sense_of low) (sense_of high) negated
+check_of (Within value items negated) = within (sense_of value) (listed_senses items) negated
+
+abbrev pub boxed_check : Box SenseCheck Global → Check
+boxed_check box = check_of box.value
+
+module _ (wide : Bool) (table : TableColumns) (moment : Value) (aliases : List Named) where
+  -- a right side, whose kind has to fit the left one's
+  abbrev pub fit_sensed : Kind → Tree → Result Sense TypeFault
+  fit_sensed kind right = followed (sensed wide table moment aliases right) (fitting_sense table.columns kind (place_of right))
+
+  -- the values of an IN, each of a kind that fits
+  abbrev pub all_fit_sensed : Kind → Trees → Result (List Sense) TypeFault
+  all_fit_sensed kind no_trees = Ok []
+  all_fit_sensed kind (more_trees item items) = added (fit_sensed kind item) (all_fit_sensed kind items)
+
+  -- what a condition means where these aliases are in force, or its first fault from the left; subqueries aren't built yet
+  abbrev pub checked : Test → Result Check TypeFault
+  checked (test.Or at a b) = followed (checked a) (λ x. followed (checked b) (λ y. Ok (either x y)))
+  checked (test.And at a b) = followed (checked a) (λ x. followed (checked b) (λ y. Ok (both x y)))
+  checked (test.Not at a) = followed (checked a) (λ x. Ok (opposite x))
+  checked (test.Compare at sign left right) =
+      followed (sensed wide table moment aliases left) (λ x. followed (fit_sensed (kind_sensed table.columns x) right) (λ y. Ok (compared (compare_of sign) x y)))
+  checked (test.IsNull at value negated) = followed (sensed wide table moment aliases value) (λ x. Ok (null x negated))
+  checked (test.Like at value pattern negated) = followed (fit_sensed K.Text value) (λ x. Ok (like x pattern.text negated))
+  checked (test.Between at value low high negated) =
+      followed (sensed wide table moment aliases value) (λ x. followed (fit_sensed (kind_sensed table.columns x) low)
+      (λ y. followed (fit_sensed (kind_sensed table.columns x) high) (λ z. Ok (between x y z negated))))
+  checked (test.InList at value items negated) =
+      followed (sensed wide table moment aliases value) (λ x. followed (all_fit_sensed (kind_sensed table.columns x) items) (λ xs. Ok (within x xs negated)))
+  checked (test.InQuery at value negated) = Err (F.UnknownFunction at)
+
+  -- WHERE or HAVING, where it stands
+  abbrev pub maybe_checked : Option Test → Result (Option Check) TypeFault
+  maybe_checked None = Ok None
+  maybe_checked (Some condition) = followed (checked condition) (λ check. Ok (Some check))

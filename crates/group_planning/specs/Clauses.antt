@@ -1,0 +1,93 @@
+-- What the clauses of a query mean, in their order, or the first fault in them.
+use Rattle.std.specs.Prelude.{ℕ, Bool, true, false, not, List, [], ◌∷◌, ◌++◌, map, Option, Some, None, option_map, Result, Ok}
+use Rattle.grammar.specs.Trees.{Tree, Item, Parts}
+use Rattle.grammar.specs.Trees.{trees_of as listed}
+use Rattle.lp_values.specs.declared.value.Value.{Value}
+use Rattle.query_types.specs.declared.fault.TypeFault.{TypeFault}
+use Rattle.query_types.specs.declared.fault.TypeFault.TheVariants as F
+use Rattle.query_types.specs.declared.table.TableColumns.{TableColumns}
+use Rattle.query_types.specs.Meanings.{added, followed, where_it_is}
+use Rattle.query_types.specs.Planned.{columns_from}
+use Rattle.group_planning.specs.declared.clauses.SenseClauses.{SenseClauses}
+use Rattle.group_planning.specs.Senses.{Sense, field, listed_senses}
+use Rattle.group_planning.specs.Sensing.{Named, sensed, all_sensed}
+use Rattle.group_planning.specs.Checks.{Check, check_of, maybe_checked}
+
+-- these aliases, and behind them that of an item, which may use those before it
+abbrev pub with_named : TableColumns → Value → List Named → Option (List ℕ) → Tree → List Named
+with_named table moment aliases None value = aliases
+with_named table moment aliases (Some name) value =
+    aliases ++ record { name = name; wide = sensed true table moment aliases value; narrow = sensed false table moment aliases value } ∷ []
+
+abbrev pub with_all_named : TableColumns → Value → List Named → List Item → List Named
+with_all_named table moment aliases [] = aliases
+with_all_named table moment aliases (item ∷ items) = with_all_named table moment (with_named table moment aliases item.alias item.value) items
+
+-- the aliases in force in an item: those before it where it has an alias itself, else all
+abbrev pub names_in_force : Option (List ℕ) → List Named → List Named → List Named
+names_in_force None before all = all
+names_in_force (Some name) before all = before
+
+-- what the items mean, behind these aliases, of all those; or the first fault
+abbrev pub items_sensed : Bool → TableColumns → Value → List Named → List Named → List Item → Result (List Sense) TypeFault
+items_sensed wide table moment before all [] = Ok []
+items_sensed wide table moment before all (item ∷ items) = added (sensed wide table moment (names_in_force item.alias before all) item.value)
+    (items_sensed wide table moment (with_named table moment before item.alias item.value) all items)
+
+-- what is selected: the items, or under `*`, which no grouped query has, each column
+abbrev pub list_sensed : Bool → TableColumns → Value → List Named → List Named → Option ℕ → List Item → Result (List Sense) TypeFault
+list_sensed grouped table moment before all (Some star) items = where_it_is (not grouped) (F.StarWithGroups star) (map (field star) (columns_from 0 table.columns))
+list_sensed grouped table moment before all None items = items_sensed true table moment before all items
+
+-- what the clauses of a query mean
+pub record Clauses : Type 0 where
+  pub using : List Sense
+  pub items : List Sense
+  pub condition : Option Check
+  pub keys : List Sense
+  pub having : Option Check
+  pub order : List Sense
+
+-- the same, less where it lies in memory
+abbrev pub clauses_of : SenseClauses → Clauses
+clauses_of clauses = record {
+  using = listed_senses clauses.using;
+  items = listed_senses clauses.items;
+  condition = option_map check_of clauses.condition;
+  keys = listed_senses clauses.keys;
+  having = option_map check_of clauses.having;
+  order = listed_senses clauses.order;
+}
+
+-- the aliases of USING, and those with the ones of SELECT behind them
+abbrev pub using_named : TableColumns → Value → Parts → List Named
+using_named table moment parts = with_all_named table moment [] parts.aliases
+
+abbrev pub all_named : TableColumns → Value → Parts → List Named
+all_named table moment parts = with_all_named table moment (using_named table moment parts) parts.items
+
+module _ (table : TableColumns) (moment : Value) (parts : Parts) (all : List Named) where
+  -- WHERE and GROUP BY
+  abbrev pub sourced_clauses : Result (Option Check × List Sense) TypeFault
+  sourced_clauses = followed (maybe_checked false table moment all parts.condition) (λ condition.
+      followed (all_sensed false table moment all (listed parts.keys)) (λ keys. Ok (condition, keys)))
+
+  -- HAVING and ORDER BY
+  abbrev pub ended_clauses : Result (Option Check × List Sense) TypeFault
+  ended_clauses = followed (maybe_checked true table moment all parts.having) (λ having.
+      followed (all_sensed true table moment all (listed parts.order)) (λ order. Ok (having, order)))
+
+  -- all from WHERE on, with what those before mean
+  abbrev pub clauses_behind : List Sense → List Sense → Result Clauses TypeFault
+  clauses_behind aliased items = followed sourced_clauses (λ w. followed ended_clauses (λ e.
+      Ok (record { using = aliased; items = items; condition = w.0; keys = w.1; having = e.0; order = e.1 })))
+
+module _ (table : TableColumns) (moment : Value) (parts : Parts) (using all : List Named) where
+  -- USING and SELECT
+  abbrev pub selected_clauses : Bool → Result (List Sense × List Sense) TypeFault
+  selected_clauses grouped = followed (items_sensed false table moment [] using parts.aliases) (λ aliased.
+      followed (list_sensed grouped table moment using all parts.star parts.items) (λ items. Ok (aliased, items)))
+
+  -- aggregates may stand in SELECT, HAVING and ORDER BY
+  abbrev pub clauses_sensed : Bool → Result Clauses TypeFault
+  clauses_sensed grouped = followed (selected_clauses grouped) (λ s. clauses_behind table moment parts all s.0 s.1)

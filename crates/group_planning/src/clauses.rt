@@ -1,0 +1,160 @@
+// What the clauses of a query mean.
+ghost use Rattle.std.specs.Prelude.{◌≡◌, ◌≤◌, false, [], length, map, option_map, take};
+ghost use Rattle.query_types.specs.Meanings.{Answers};
+ghost use Rattle.query_types.specs.Parts.{parts_of};
+ghost use Rattle.group_planning.specs.Senses.{listed_senses};
+ghost use Rattle.group_planning.specs.Sensing.{named_of};
+ghost use Rattle.group_planning.specs.Checks.{check_of};
+ghost use Rattle.group_planning.specs.Clauses.{clauses_behind, clauses_of, clauses_sensed, ended_clauses, items_sensed, list_sensed, selected_clauses, sourced_clauses, with_all_named};
+
+use crate::alias::SenseAlias;
+use crate::check::SenseCheck;
+use crate::checking::maybe_checked;
+use crate::selecting::{all_sensed, columns_sensed, front, items_sensed};
+use crate::sense::SenseList;
+use lp_values::Value;
+use query_tree::Query;
+use query_types::{TableColumns, TypeFault};
+use std::alloc::Global;
+
+/// What the clauses of a query mean.
+#[derive(Drop)]
+pub struct SenseClauses {
+    pub using: SenseList,
+    pub items: SenseList,
+    pub condition: Option<SenseCheck>,
+    pub keys: SenseList,
+    pub having: Option<SenseCheck>,
+    pub order: SenseList,
+}
+
+// What is selected, of aliases of which so many are those of USING.
+fn list_sensed(
+    alloc: Global,
+    grouped: bool,
+    table: &TableColumns,
+    moment: &Value,
+    before: usize,
+    all: &[SenseAlias],
+    query: &Query,
+) -> Result<SenseList, TypeFault>
+    requires before { before ≤ length all.now }
+    requires all { map named_of all.now ≡ with_all_named table.now moment.now (take before (map named_of all.now)) (parts_of query.now).items }
+    ensures { Answers listed_senses result (list_sensed grouped table.now moment.now (take before (map named_of all.now)) (map named_of all.now) (parts_of query.now).star (parts_of query.now).items) }
+{
+    match query.star {
+        Some(star) if grouped => Err(TypeFault::StarWithGroups { at: star }),
+        Some(star) => Ok(columns_sensed(alloc, table, star)?),
+        None => items_sensed(alloc, true, table, moment, before, all, &query.items),
+    }
+}
+
+// What USING means.
+fn using_sensed(
+    alloc: Global,
+    table: &TableColumns,
+    moment: &Value,
+    before: usize,
+    all: &[SenseAlias],
+    query: &Query,
+) -> Result<SenseList, TypeFault>
+    requires before { before ≤ length all.now }
+    requires using { take before (map named_of all.now) ≡ with_all_named table.now moment.now [] (parts_of query.now).aliases }
+    ensures { Answers listed_senses result (items_sensed false table.now moment.now [] (take before (map named_of all.now)) (parts_of query.now).aliases) }
+{
+    let using = front(all, before);
+    items_sensed(alloc, false, table, moment, 0, using, &query.aliases)
+}
+
+// What USING and SELECT mean.
+fn selected_clauses(
+    alloc: Global,
+    grouped: bool,
+    table: &TableColumns,
+    moment: &Value,
+    before: usize,
+    all: &[SenseAlias],
+    query: &Query,
+) -> Result<(SenseList, SenseList), TypeFault>
+    requires before { before ≤ length all.now }
+    requires using { take before (map named_of all.now) ≡ with_all_named table.now moment.now [] (parts_of query.now).aliases }
+    requires all { map named_of all.now ≡ with_all_named table.now moment.now (take before (map named_of all.now)) (parts_of query.now).items }
+    ensures { Answers (λ found. (listed_senses found.0, listed_senses found.1)) result (selected_clauses table.now moment.now (parts_of query.now) (take before (map named_of all.now)) (map named_of all.now) grouped) }
+{
+    let using = using_sensed(alloc, table, moment, before, all, query)?;
+    let items = list_sensed(alloc, grouped, table, moment, before, all, query)?;
+    Ok((using, items))
+}
+
+// What WHERE and GROUP BY mean.
+fn sourced_clauses(
+    alloc: Global,
+    table: &TableColumns,
+    moment: &Value,
+    all: &[SenseAlias],
+    query: &Query,
+) -> Result<(Option<SenseCheck>, SenseList), TypeFault>
+    ensures { Answers (λ found. (option_map check_of found.0, listed_senses found.1)) result (sourced_clauses table.now moment.now (parts_of query.now) (map named_of all.now)) }
+{
+    let condition = maybe_checked(alloc, false, table, moment, all, &query.condition)?;
+    let keys = all_sensed(alloc, false, table, moment, all, &query.keys)?;
+    Ok((condition, keys))
+}
+
+// What HAVING and ORDER BY mean.
+fn ended_clauses(
+    alloc: Global,
+    table: &TableColumns,
+    moment: &Value,
+    all: &[SenseAlias],
+    query: &Query,
+) -> Result<(Option<SenseCheck>, SenseList), TypeFault>
+    ensures { Answers (λ found. (option_map check_of found.0, listed_senses found.1)) result (ended_clauses table.now moment.now (parts_of query.now) (map named_of all.now)) }
+{
+    let having = maybe_checked(alloc, true, table, moment, all, &query.having)?;
+    let order = all_sensed(alloc, true, table, moment, all, &query.order)?;
+    Ok((having, order))
+}
+
+// What the clauses behind SELECT mean, with what those before mean.
+fn clauses_behind(
+    alloc: Global,
+    table: &TableColumns,
+    moment: &Value,
+    all: &[SenseAlias],
+    query: &Query,
+    using: SenseList,
+    items: SenseList,
+) -> Result<SenseClauses, TypeFault>
+    ensures { Answers clauses_of result (clauses_behind table.now moment.now (parts_of query.now) (map named_of all.now) (listed_senses using) (listed_senses items)) }
+{
+    let (condition, keys) = sourced_clauses(alloc, table, moment, all, query)?;
+    let (having, order) = ended_clauses(alloc, table, moment, all, query)?;
+    Ok(SenseClauses {
+        using,
+        items,
+        condition,
+        keys,
+        having,
+        order,
+    })
+}
+
+/// What the clauses of a query mean, of all of whose aliases so many are those of USING.
+pub(crate) fn clauses_sensed(
+    alloc: Global,
+    grouped: bool,
+    table: &TableColumns,
+    moment: &Value,
+    before: usize,
+    all: &[SenseAlias],
+    query: &Query,
+) -> Result<SenseClauses, TypeFault>
+    requires before { before ≤ length all.now }
+    requires using { take before (map named_of all.now) ≡ with_all_named table.now moment.now [] (parts_of query.now).aliases }
+    requires all { map named_of all.now ≡ with_all_named table.now moment.now (take before (map named_of all.now)) (parts_of query.now).items }
+    ensures { Answers clauses_of result (clauses_sensed table.now moment.now (parts_of query.now) (take before (map named_of all.now)) (map named_of all.now) grouped) }
+{
+    let (using, items) = selected_clauses(alloc, grouped, table, moment, before, all, query)?;
+    clauses_behind(alloc, table, moment, all, query, using, items)
+}

@@ -1,0 +1,137 @@
+// A grouped plan over spans, read by any reader of a format.
+ghost use Rattle.std.specs.Prelude.{◌≡◌, ◌≤◌, ◌+◌, ◌++◌, true, length, map, option_map, OnOk, OnErr, IfOk, IfErr, IsErrOf};
+ghost use Rattle.lp_model.specs.Outside.{Rose, OnlyGrow, Told};
+ghost use Rattle.log_reading.specs.Page.{IsTooMany, IsWithin};
+ghost use Rattle.log_reading.specs.Spans.{AllSpans, AreReadable, IsSpan, AreKept, spans_found, spans_bad, spans_bad_lines, spans_size, took_of};
+ghost use Rattle.text_output.specs.Output.{kind_of};
+ghost use Rattle.row_output.specs.Asked.{left_of};
+ghost use Rattle.row_output.specs.Kept.{IsNew, asked_of};
+ghost use Rattle.row_output.specs.Rows.{Holds, IsRefused, Stops};
+ghost use Rattle.query_run.specs.Faults.{OnBad, OnRefusedOutput};
+ghost use Rattle.query_types.specs.Conditions.{filter_of};
+ghost use Rattle.query_types.specs.Planned.{Covers};
+ghost use Rattle.group_planning.specs.Groups.{grouped_in};
+ghost use Rattle.input_tables.specs.Tables.{lines_of, columns_of, readings_of};
+ghost use Rattle.group_run.specs.Rows.{group_rows};
+
+use group_planning::GroupPlan;
+use input_tables::{TableFormat, readings_of};
+use line_input::LineReader;
+use log_reading::{LogSource, Span, TookList};
+use lp_outside::Stage;
+use plan_rows::{PlanPicker, ReadyPlan};
+use query_run::{WriteFault, Written};
+use query_types::Plan;
+use row_output::RowOutput;
+use row_steps::group_spans;
+use std::alloc::{AllocError, Global};
+
+// The picker of a plan over a format's table.
+fn make_picker(alloc: Global, format: TableFormat, plan: Plan) -> Result<PlanPicker, AllocError>
+    requires covers { Covers plan.used plan.items (option_map filter_of plan.condition) }
+    requires size { length plan.used ≡ length (columns_of format) }
+    ensures plan { IfOk result (λ picker. picker.ready.plan ≡ plan) }
+    ensures readings { IfOk result (λ picker. picker.readings ≡ readings_of format) }
+{
+    match readings_of(alloc, format) {
+        Ok(readings) => PlanPicker::new(alloc, plan, readings),
+        Err(error) => {
+            drop(plan);
+            Err(error)
+        }
+    }
+}
+
+// A grouped plan over a format's table, made ready: what picks the rows that groups are made of, and what is asked of a group's row.
+fn make_ready(
+    alloc: Global,
+    format: TableFormat,
+    rows: Plan,
+    groups: Plan,
+) -> Result<(PlanPicker, ReadyPlan), AllocError>
+    requires covers { Covers rows.used rows.items (option_map filter_of rows.condition) }
+    requires size { length rows.used ≡ length (columns_of format) }
+    requires unused { Covers groups.used groups.items (option_map filter_of groups.condition) }
+    ensures rows { IfOk result (λ made. made.0.ready.plan ≡ rows) }
+    ensures readings { IfOk result (λ made. made.0.readings ≡ readings_of format) }
+    ensures groups { IfOk result (λ made. made.1.plan ≡ groups) }
+{
+    let picker = match make_picker(alloc, format, rows) {
+        Ok(picker) => picker,
+        Err(error) => {
+            drop(groups);
+            return Err(error);
+        }
+    };
+    match ReadyPlan::new(alloc, groups) {
+        Ok(ready) => Ok((picker, ready)),
+        Err(error) => {
+            drop(picker);
+            Err(error)
+        }
+    }
+}
+
+/// Writes the output rows of a grouped plan over the records of spans, joined in order, by a reader of their format.
+pub fn group_reader<R: LineReader, L: LogSource, G: Stage>(
+    alloc: Global,
+    reader: &R,
+    format: TableFormat,
+    output: RowOutput,
+    plan: GroupPlan,
+    waits: bool,
+    logs: &mut L,
+    spans: &[Span],
+    most_bad: Option<u64>,
+    took: &mut TookList,
+    stage: &mut G,
+) -> Result<Written, WriteFault>
+    requires reads { R.format reader.now ≡ lines_of format }
+    requires covers { Covers plan.rows.used plan.rows.items (option_map filter_of plan.rows.condition) }
+    requires size { length plan.rows.used ≡ length (columns_of format) }
+    requires wide { length plan.rows.items ≡ plan.shape.keys + length plan.shape.aggregates }
+    requires unused { Covers plan.groups.used plan.groups.items (option_map filter_of plan.groups.condition) }
+    requires new { IsNew output }
+    requires few { length spans.now ≤ 100000 }
+    requires spans { AllSpans spans.now IsSpan }
+    requires readable { AreReadable L.folder L.ready logs.old spans.now }
+    ensures grows { OnlyGrow (L.folder logs.old) (L.folder logs.new) }
+    ensures goes_logs { L.goes logs.old logs.new }
+    ensures goes { G.goes stage.old stage.new }
+    ensures holds { IfOk result (λ written. Told (L.folder logs.new) (λ folder. AreKept (lines_of format) waits spans.now folder
+        → Holds (kind_of G.state G.ended) (asked_of output) stage.old (group_rows (readings_of format) (grouped_in plan) (lines_of format) waits folder spans.now) written.outputs stage.new)) }
+    ensures processed { IfOk result (λ written. Told (L.folder logs.new) (λ folder. AreKept (lines_of format) waits spans.now folder
+        → written.counts.processed ≡ length (spans_found (lines_of format) waits folder spans.now))) }
+    ensures output { IfOk result (λ written. Told (L.folder logs.new) (λ folder. AreKept (lines_of format) waits spans.now folder
+        → written.counts.output ≡ length (left_of (asked_of output) (group_rows (readings_of format) (grouped_in plan) (lines_of format) waits folder spans.now)))) }
+    ensures bad { IfOk result (λ written. Told (L.folder logs.new) (λ folder. AreKept (lines_of format) waits spans.now folder
+        → written.counts.bad ≡ length (spans_bad (lines_of format) waits folder spans.now))) }
+    ensures within { IfOk result (λ written. IsWithin most_bad written.counts.bad) }
+    ensures too_many { IfErr result (OnBad (λ line. Told (L.folder logs.new) (λ folder. AreKept (lines_of format) waits spans.now folder
+        → IsTooMany most_bad 0 (spans_bad_lines (lines_of format) waits folder spans.now) line))) }
+    ensures refused { IfErr result (OnRefusedOutput (λ why. Told (L.folder logs.new) (λ folder. AreKept (lines_of format) waits spans.now folder
+        → IsRefused (asked_of output) (group_rows (readings_of format) (grouped_in plan) (lines_of format) waits folder spans.now) why))) }
+    ensures stops { OnErr result (Told (L.folder logs.new) (λ folder. AreKept (lines_of format) waits spans.now folder
+        → Stops (kind_of G.state G.ended) (asked_of output) stage.old (group_rows (readings_of format) (grouped_in plan) (lines_of format) waits folder spans.now) stage.new)) }
+    ensures took { OnOk result (waits ≡ true → Told (L.folder logs.new) (λ folder. AreKept (lines_of format) true spans.now folder
+        → took.new ≡ took.old ++ map (took_of (lines_of format) folder) spans.now)) }
+    ensures given { L.given logs.new ≤ L.given logs.old + spans_size spans.now }
+    ensures later_logs { L.faults logs.old ≤ L.faults logs.new }
+    ensures logs { IsErrOf result WriteFault.Logs → Rose (L.faults logs.old) (L.faults logs.new) }
+    ensures later { G.faults stage.old ≤ G.faults stage.new }
+    ensures stage { IsErrOf result WriteFault.Output → Rose (G.faults stage.old) (G.faults stage.new) }
+{
+    let GroupPlan {
+        rows,
+        shape,
+        groups,
+    } = plan;
+    let Ok((picker, ready)) = make_ready(alloc, format, rows, groups) else {
+        drop(output);
+        drop(shape);
+        return Err(WriteFault::Memory);
+    };
+    group_spans(
+        alloc, reader, waits, logs, spans, output, picker, &shape, ready, most_bad, took, stage,
+    )
+}

@@ -1,0 +1,4 @@
+mod Refused
+mod Turning
+mod Answered
+mod Example

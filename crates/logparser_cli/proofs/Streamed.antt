@@ -1,0 +1,64 @@
+-- What a run over standard input knows of it, from what the log that it is lets stand.
+use Rattle.std.proofs.Common.{◌≡◌, ℕ, ◌+◌, ◌^◌, ◌≤◌, Bool, true, false, List, [], ◌++◌, length, Option, Some, None, ap, sym, ◌∙◌, refl, subst, arith}
+use Rattle.std.specs.Prelude.{option_map}
+use Rattle.lp_model.specs.Outside.{Folder, Rose}
+use Rattle.query_text.specs.Stdin.{names_in}
+use Rattle.query_tree.specs.Views.{placed_all, query_of}
+use Rattle.query_tree.specs.declared.query.Query.{Query, Query', out-Query}
+use Rattle.standard_input.specs.Streams.{Goes, IsWithin, faults_of, folder_of, stream_files, whole_of}
+use Rattle.standard_input.specs.declared.log.InputLog.{InputLog}
+use Rattle.logparser_cli.specs.Input.{IsReadOn}
+use Rattle.logparser_cli.specs.Outputs.{input_at}
+
+-- the FROM names of a query as it stands in memory
+pub names_read : (q : Query) → placed_all (out-Query q).names ≡ names_in (query_of q)
+unfolding out-Query denote.Hole.Carrier.out
+names_read (Query' top distinct star items aliases into names condition keys rollup having order descending subqueries) = refl
+
+-- behind nothing stands what is left
+behind_none : (bytes : List ℕ) (left : Option (List ℕ)) → bytes ≡ [] → option_map (λ rest. bytes ++ rest) left ≡ left
+behind_none bytes None none = refl
+behind_none bytes (Some rest) none = ap (λ t. Some (t ++ rest)) none
+
+module _ {I : Type 0} (left : I → Option (List ℕ)) (given faults : I → ℕ) (first last : InputLog I) (before : I) (goes : Goes left given first last) (none : first.gone.bytes ≡ []) (starts : first.input.now ≡ before) where
+  all_left : whole_of left last ≡ left before
+  all_left = goes.whole ∙ (behind_none first.gone.bytes (left first.input.now) none ∙ ap left starts)
+
+  -- the log is a folder of what was left of the stream
+  pub folder_kept : folder_of left last ≡ option_map stream_files (left before)
+  folder_kept = ap (option_map stream_files) all_left
+
+  empty : length first.gone.bytes ≡ 0
+  empty = ap length none
+
+  read_more : given last.input.now ≡ given before + length last.gone.bytes
+  read_more =
+      let read = goes.read in
+      let size = empty in
+      let at : given first.input.now ≡ given before = ap given starts in
+      omega arith
+
+  pub read_on : (after : I) → after ≡ last.input.now → IsReadOn (input_at left given faults before) (input_at left given faults after)
+  read_on after ends = record {
+    bytes = last.gone.bytes;
+    left = ap (λ i. option_map (λ rest. last.gone.bytes ++ rest) (left i)) ends ∙ all_left;
+    given = ap given ends ∙ read_more;
+  }
+
+  -- a stream that is too long has given 2^40 bytes
+  pub gave_most : (after : I) → after ≡ last.input.now → first.is_too_long ≡ false → last.is_too_long ≡ true → given after ≡ given before + 2 ^ 40
+  gave_most after ends short long =
+      let size = empty in
+      let begins : IsWithin first.is_too_long (length first.gone.bytes) = subst (λ (b : Bool). IsWithin b (length first.gone.bytes)) (sym short) (omega arith) in
+      let most : length last.gone.bytes ≡ 2 ^ 40 = subst (λ (b : Bool). IsWithin b (length last.gone.bytes)) long (goes.below begins) in
+      let more = read_more in
+      ap given ends ∙ omega arith
+
+  -- another fault of the log is one of the stream
+  pub stream_rose : (after : I) → after ≡ last.input.now → first.is_too_long ≡ false → last.is_too_long ≡ false → Rose (faults_of faults first) (faults_of faults last) → Rose (faults before) (faults after)
+  stream_rose after ends short still rose =
+      let began : faults first.input.now ≡ faults before = ap faults starts in
+      let ended : faults last.input.now ≡ faults after = ap faults (sym ends) in
+      let a : faults_of faults first ≡ faults before = rw short (omega arith) in
+      let b : faults_of faults last ≡ faults after = rw still (omega arith) in
+      subst (λ n. Rose n (faults after)) a (subst (λ n. Rose (faults_of faults first) n) b rose)
