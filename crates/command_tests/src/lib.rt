@@ -10,12 +10,12 @@ mod checkpoints;
 #[cfg(test)]
 mod files;
 #[cfg(test)]
+mod input_stream;
+#[cfg(test)]
 mod messages;
 #[cfg(test)]
 mod query_files;
 #[cfg(test)]
 mod runs;
-#[cfg(test)]
-mod standard_input;
 #[cfg(test)]
 mod worked_rows;

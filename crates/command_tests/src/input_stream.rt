@@ -68,7 +68,12 @@ fn standard_input_is_read(rt: HostRuntime) -> Result<(), Fail> {
 
 #[test]
 fn standard_input_may_fail(rt: HostRuntime) -> Result<(), Fail> {
-    let told = told(rt.alloc(), "-i:TEXTLINE SELECT Text FROM STDIN", "x;y", Some(0))?;
+    let told = told(
+        rt.alloc(),
+        "-i:TEXTLINE SELECT Text FROM STDIN",
+        "x;y",
+        Some(0),
+    )?;
     let want = "5 |logparser: read fault: standard input;";
     assert!(rt; told.as_slice() == want.as_bytes(), "{:?}", told.as_slice());
     Ok(())
