@@ -1,0 +1,159 @@
+-- The rows of a taker of groups behind a sample.
+use Rattle.std.proofs.Common.{◌≡◌, ℕ, List, [], ◌∷◌, ◌++◌, length, map, option_map, ap, ap₂, ◌∙◌, refl, sym, subst, inl, inr}
+use Rattle.lp_time.specs.declared.piece.Piece.{Piece}
+use Rattle.lp_values.specs.declared.value.Value.{Value}
+use Rattle.log_reading.specs.Found.{Found, rows_met}
+use Rattle.text_output.specs.Output.{StageKind}
+use Rattle.text_output.specs.declared.target.Output.{Output}
+use Rattle.row_output.specs.Asked.{Asked, left_of}
+use Rattle.row_output.specs.FileRows.{OnRefused}
+use Rattle.row_output.specs.Kept.{HasRows, asked_of}
+use Rattle.row_output.specs.Rows.{Holds, Stops}
+use Rattle.row_output.specs.Rows.{IsRefused as IsRefusedOutput}
+use Rattle.row_output.proofs.Stopping.{new_has}
+use Rattle.row_output.specs.declared.fault.OutputFault.{OutputFault}
+use Rattle.row_output.specs.declared.fault.OutputFault.TheVariants as O
+use Rattle.row_output.specs.declared.fault.Refused.{Refused}
+use Rattle.row_output.specs.declared.kept.RowOutput.{RowOutput}
+use Rattle.query_types.specs.Conditions.{filter_of}
+use Rattle.query_types.specs.Planned.{planned_in}
+use Rattle.query_types.specs.declared.fault.TypeFault.{TypeFault}
+use Rattle.query_types.specs.declared.plans.GroupShape.{GroupShape}
+use Rattle.query_types.specs.declared.plans.Plan.{Plan}
+use Rattle.plan_rows.specs.declared.ready.ReadyPlan.{ReadyPlan}
+use Rattle.group_planning.specs.Groups.{grouped_in}
+use Rattle.group_rollup.specs.Groups.{grouped}
+use Rattle.group_rollup.specs.Tables.{Table}
+use Rattle.row_steps.specs.Grouped.{group_output, records_of}
+use Rattle.row_steps.specs.Rows.{OnGroups, Rows}
+use Rattle.column_kinds.specs.declared.judging.Judged.{Judged}
+use Rattle.column_kinds.specs.declared.maker.Stop.{Stop}
+use Rattle.column_kinds.specs.declared.maker.Stop.TheVariants as Why
+use Rattle.column_kinds.specs.Past.{Past}
+use Rattle.column_kinds.specs.Sampling.{Begun, rows_of, told_by}
+use Rattle.column_kinds.specs.Sampling.{Rules as SampleRules, IsFront as SampleFront, IsRefused as SampleRefused, IsStop as SampleStop}
+use Rattle.sampled_table.specs.Picks.{sampled_picks}
+use Rattle.sampled_run.specs.Ran.{ended_by}
+use Rattle.sampled_groups.specs.declared.group_maker.GroupMaker.{GroupMaker}
+use Rattle.sampled_groups.specs.declared.group_taker.GroupTaker.{GroupTaker}
+use Rattle.sampled_groups.specs.Kinds.{Fits, group_kind, run_rules}
+use Rattle.sampled_groups.specs.Made.{asked_in}
+use Rattle.sampled_groups.specs.Ran.{IsFront, IsRefused, IsStoppedBy, IsUnplaced, IsWithin, IsWritten, fault_of}
+use Rattle.sampled_groups.specs.Rules.{rows_with}
+
+-- what the rows of records that are met are
+rows_again : (founds : List Found) → rows_met (rows_of founds) ≡ founds
+rows_again [] = refl
+rows_again (found ∷ founds) = ap (λ t. found ∷ t) (rows_again founds)
+
+-- the rows that plans over a record's row and over a group's row make of records
+abbrev rows_by : List Piece → Judged → Plan → Plan → GroupShape → ℕ → List Found → Rows
+rows_by pattern told rows groups shape width founds =
+    group_output groups (grouped shape.keys shape.aggregates shape.rollup (records_of width (sampled_picks pattern told rows.items (option_map filter_of rows.condition)) founds))
+
+rows_same : (shape : GroupShape) (p pattern : List Piece) (t told : Judged) (r rows g groups : Plan) (w width : ℕ) (f founds : List Found) → p ≡ pattern → t ≡ told → r ≡ rows → g ≡ groups → w ≡ width → f ≡ founds
+    → rows_by p t r g shape w f ≡ rows_by pattern told rows groups shape width founds
+rows_same shape p pattern t told r rows g groups w width f founds pattern_is told_is rows_is groups_is width_is founds_is =
+    ap₂ (λ (x : List Piece) (y : Judged). rows_by x y r g shape w f) pattern_is told_is
+    ∙ (ap₂ (λ (x y : Plan). rows_by pattern told x y shape w f) rows_is groups_is
+    ∙ ap₂ (λ (x : ℕ) (y : List Found). rows_by pattern told rows groups shape x y) width_is founds_is)
+
+module _ {S : Type 0} (kind : StageKind S) where
+  -- while records were taken no row was put
+  begun_has : (rules : SampleRules (GroupMaker S)) (begin : S) (past : Past) (taker : GroupTaker) (u : S) → Begun group_kind rules begin past taker u → HasRows kind taker.output begin [] u
+  begun_has rules begin past taker u begun =
+      let made = begun.made in
+      let Of : RowOutput → Type 0 = λ o. HasRows kind o begin [] u in
+      subst Of (sym begun.taken.output) (subst (λ (w : S). HasRows kind made.output begin [] w) (sym begun.taken.gathers.out) (new_has kind made.output begin begun.is_made.ready.new))
+
+  -- a fact of the rows that are made of the groups which were gathered, of those that the rules give
+  along_groups : (rules : SampleRules (GroupMaker S)) (begin : S) (past : Past) (taker : GroupTaker) (u : S) (P : Asked → Rows → Type 0) → Fits rules → (begun : Begun group_kind rules begin past taker u)
+      → OnGroups taker.rows.plan.plan taker.rows.groups (P (asked_of taker.output))
+      → P (asked_in rules.maker (planned_in begun.is_made.plan.groups)) (rows_with rules.pattern (told_by rules past) (grouped_in begun.is_made.plan) past.founds)
+  along_groups rules begin past taker u P fits begun on =
+      let made = begun.made in
+      let is = begun.is_made.ready in
+      let took = begun.taken in
+      let plan = begun.is_made.plan in
+      let shape = plan.shape in
+      let founds = rows_met (rows_of past.founds) in
+      let here = on shape.keys shape.aggregates shape.rollup _ (took.gathers.grown shape.keys shape.aggregates shape.rollup [] is.none) in
+      let asked = ap asked_of took.output ∙ is.asked_is in
+      let same = rows_same shape made.rows.picker.pattern.now rules.pattern made.rows.picker.told (told_by rules past) made.rows.picker.ready.plan plan.rows taker.rows.plan.plan plan.groups made.rows.groups.width shape.keys founds past.founds
+      (is.pattern_is ∙ fits) is.told_is is.rows (ap (λ (ready : ReadyPlan). ready.plan) took.gathers.plan ∙ is.groups) is.none.wide (rows_again past.founds) in
+      subst (P (asked_in rules.maker (planned_in plan.groups))) same (subst (λ (a : Asked). P a (rows_by made.rows.picker.pattern.now made.rows.picker.told made.rows.picker.ready.plan taker.rows.plan.plan shape made.rows.groups.width founds)) asked here)
+
+  -- ---- all rows
+
+  pub written_is : (rules : SampleRules (GroupMaker S)) (begin : S) (past : Past) (taker : GroupTaker) (u v : S) (many : ℕ) (outputs : List Output) → Fits rules
+      → ((start : S) → HasRows kind taker.output start [] u → OnGroups taker.rows.plan.plan taker.rows.groups (λ out. Holds kind (asked_of taker.output) start out outputs v))
+      → ((start : S) → HasRows kind taker.output start [] u → OnGroups taker.rows.plan.plan taker.rows.groups (λ out. many ≡ length (left_of (asked_of taker.output) out)))
+      → Begun group_kind rules begin past taker u → IsWritten kind (run_rules rules) begin past many outputs v
+  written_is rules begin past taker u v many outputs fits hold count begun =
+      let has = begun_has rules begin past taker u begun in
+      let P : Asked → Rows → Type 0 = λ asked out. Holds kind asked begin out outputs v × (many ≡ length (left_of asked out)) in
+      let both = along_groups rules begin past taker u P fits begun (λ width kinds rollup records holds. (hold begin has width kinds rollup records holds, count begin has width kinds rollup records holds)) in
+      record { plan = grouped_in begun.is_made.plan; planned = begun.is_made.planned; holds = both.0; rows = both.1 }
+
+  -- ---- not all of them
+
+  pub front_is : (rules : SampleRules (GroupMaker S)) (begin : S) (past : Past) (v : S) → SampleFront group_kind rules begin past v → IsFront kind (run_rules rules) begin past v
+  front_is rules begin past v (inl nothing) = inl nothing
+  front_is rules begin past v (inr within) = inl within.stops.stopped
+
+  pub refused_is : (rules : SampleRules (GroupMaker S)) (begin : S) (past : Past) (fault : TypeFault) (v : S) → SampleRefused group_kind rules begin past fault v → IsRefused (run_rules rules) begin past fault v
+  refused_is rules begin past fault v refused = record { fault = refused.refused; nothing = refused.nothing }
+
+  pub stop_is : (rules : SampleRules (GroupMaker S)) (begin : S) (past : Past) (stop : Stop GroupTaker) (v : S) → SampleStop group_kind rules begin past stop v → IsStoppedBy kind (run_rules rules) begin past (fault_of stop) v
+  stop_is rules begin past (Why.Refused fault) v stopped = refused_is rules begin past fault v stopped
+  stop_is rules begin past (Why.Stopped taker) v stopped = inl stopped.stopped
+  stop_is rules begin past Why.Failed v stopped = front_is rules begin past v stopped
+  stop_is rules begin past Why.Memory v stopped = front_is rules begin past v stopped
+
+  -- ---- the end failed
+
+  end_within : (rules : SampleRules (GroupMaker S)) (begin : S) (past : Past) (taker : GroupTaker) (u v : S) → Fits rules
+      → ((start : S) → HasRows kind taker.output start [] u → OnGroups taker.rows.plan.plan taker.rows.groups (λ out. Stops kind (asked_of taker.output) start out v))
+      → Begun group_kind rules begin past taker u → IsWithin kind (run_rules rules) begin past v
+  end_within rules begin past taker u v fits stop begun =
+      let P : Asked → Rows → Type 0 = λ asked out. Stops kind asked begin out v in
+      record { plan = grouped_in begun.is_made.plan; planned = begun.is_made.planned; stops = along_groups rules begin past taker u P fits begun (stop begin (begun_has rules begin past taker u begun)) }
+
+  pub end_stopped : (rules : SampleRules (GroupMaker S)) (begin : S) (past : Past) (taker : GroupTaker) (u v : S) (fault : OutputFault) → Fits rules
+      → ((start : S) → HasRows kind taker.output start [] u → OnGroups taker.rows.plan.plan taker.rows.groups (λ out. Stops kind (asked_of taker.output) start out v))
+      → OnRefused (λ why. (start : S) → HasRows kind taker.output start [] u → OnGroups taker.rows.plan.plan taker.rows.groups (λ out. IsRefusedOutput (asked_of taker.output) out why)) fault
+      → Begun group_kind rules begin past taker u → IsStoppedBy kind (run_rules rules) begin past (ended_by fault) v
+  end_stopped rules begin past taker u v (O.Refused why) fits stop refused begun =
+      let has = begun_has rules begin past taker u begun in
+      let P : Asked → Rows → Type 0 = λ asked out. Stops kind asked begin out v × IsRefusedOutput asked out why in
+      let both = along_groups rules begin past taker u P fits begun (λ width kinds rollup records holds. (stop begin has width kinds rollup records holds, refused begin has width kinds rollup records holds)) in
+      record { plan = grouped_in begun.is_made.plan; planned = begun.is_made.planned; stops = both.0; refused = both.1 }
+  end_stopped rules begin past taker u v O.Failed fits stop refused begun = inr (end_within rules begin past taker u v fits stop begun)
+  end_stopped rules begin past taker u v O.Memory fits stop refused begun = inr (end_within rules begin past taker u v fits stop begun)
+
+-- ---- the outputs are opened, and then the rows of the groups put
+
+module _ {S : Type 0} (kind : StageKind S) (plan : Plan) (table : Table) (old new : RowOutput) (u v : S) where
+  -- what the end makes of them
+  pub opened_ends : (Out : Asked → S → Rows → Type 0) → asked_of new ≡ asked_of old → ((start : S) (rows : Rows) → HasRows kind old start rows u → HasRows kind new start rows v)
+      → ((start : S) → HasRows kind new start [] v → OnGroups plan table (Out (asked_of new) start)) → (start : S) → HasRows kind old start [] u → OnGroups plan table (Out (asked_of old) start)
+  opened_ends Out asked has end start old_has = subst (λ (a : Asked). OnGroups plan table (Out a start)) asked (end start (has start [] old_has))
+
+  -- why it was refused
+  pub opened_refused : (fault : OutputFault) → asked_of new ≡ asked_of old → ((start : S) (rows : Rows) → HasRows kind old start rows u → HasRows kind new start rows v)
+      → OnRefused (λ why. (start : S) → HasRows kind new start [] v → OnGroups plan table (λ out. IsRefusedOutput (asked_of new) out why)) fault
+      → OnRefused (λ why. (start : S) → HasRows kind old start [] u → OnGroups plan table (λ out. IsRefusedOutput (asked_of old) out why)) fault
+  opened_refused (O.Refused why) asked has end = opened_ends (λ asked start out. IsRefusedOutput asked out why) asked has end
+  opened_refused O.Failed asked has end = tt
+  opened_refused O.Memory asked has end = tt
+
+module _ {S : Type 0} (kind : StageKind S) (plan : Plan) (table : Table) (old : RowOutput) (u w : S) where
+  -- it stopped before any row
+  pub unopened_stops : ((start : S) (rows more : Rows) → HasRows kind old start rows u → Stops kind (asked_of old) start (rows ++ more) w) → (start : S) → HasRows kind old start [] u → OnGroups plan table (λ out. Stops kind (asked_of old) start out w)
+  unopened_stops stop start has = λ width kinds rollup records holds. stop start [] (group_output plan (grouped width kinds rollup records)) has
+
+  pub unopened_refused : (fault : OutputFault) → OnRefused (λ why. (start : S) (rows more : Rows) → HasRows kind old start rows u → IsRefusedOutput (asked_of old) (rows ++ more) why) fault
+      → OnRefused (λ why. (start : S) → HasRows kind old start [] u → OnGroups plan table (λ out. IsRefusedOutput (asked_of old) out why)) fault
+  unopened_refused (O.Refused why) refused = λ start has width kinds rollup records holds. refused start [] (group_output plan (grouped width kinds rollup records)) has
+  unopened_refused O.Failed refused = tt
+  unopened_refused O.Memory refused = tt

@@ -1,0 +1,9 @@
+pub mod Rules
+pub mod Plans
+pub mod Widths
+pub mod Taking
+pub mod Made
+pub mod Kinds
+pub mod Fresh
+pub mod Read
+pub mod Ran

@@ -1,0 +1,18 @@
+//! A grouped query over CSV or TSV logs, whose columns the logs tell.
+//!
+//! To the crate above: [`run_sampled_groups`] puts exactly the rows that the query makes of the groups of the spans' records, over the
+//! table that these tell, or answers the query's typing fault, and then nothing is written; `Stops` of row_output says what any
+//! other refusal leaves. [`GroupTaker`] gathers the groups and writes nothing: their rows are put once the last record is taken.
+#![tactic(auto)]
+
+mod ending;
+mod formats;
+mod group_maker;
+mod group_taker;
+mod making;
+mod running;
+mod taking;
+
+pub use formats::run_sampled_groups;
+pub use group_maker::GroupMaker;
+pub use group_taker::GroupTaker;
