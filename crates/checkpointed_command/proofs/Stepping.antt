@@ -7,13 +7,11 @@ use Rattle.lp_model.specs.Outside.{Folder, OnlyGrow}
 use Rattle.grammar.specs.Trees.{Placed, Query}
 use Rattle.command_words.specs.declared.spec.Spec.{Spec}
 use Rattle.commit.specs.Resume.{CanSettle, Settles}
-use Rattle.execution.proofs.FormatLemmas.{built_query}
 use Rattle.execution.specs.Outputs.{is_standard, is_stdout}
 use Rattle.execution.specs.Texts.{into_in, output_of}
 use Rattle.program_meaning.specs.Meaning.{meaning}
 use Rattle.program_meaning.proofs.OneMeaning.{is_one}
 use Rattle.query_run.specs.declared.executing.Counts.{Counts}
-use Rattle.query_types.specs.Built.{is_built}
 use Rattle.reports.specs.declared.status.Status.{Status}
 use Rattle.requests.specs.Texts.{HoldsQuery}
 use Rattle.run_entry.specs.Entries.{Request}
@@ -117,7 +115,7 @@ module _ {D : Type 0} (state : D → DiskState)
         checkpoint = subst (λ (o : Option (List ℕ)). IsSome o) (sym kept) refl;
         query = here.query.query;
         only = here.query.only;
-        built = built_query spec q here.fit.built;
+        built = here.fit.built;
         sections = here.finds.sections;
         into_is = into.1;
         no_stdout = into.2;

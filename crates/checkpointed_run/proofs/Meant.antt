@@ -10,30 +10,30 @@ use Rattle.execution.specs.declared.formats.LogFormat.{LogFormat}
 use Rattle.execution.specs.declared.formats.LogFormat.TheVariants as F
 use Rattle.execution.specs.Executed.{IsExecuted}
 use Rattle.execution.specs.Formats.{lines_in, log_format}
+use Rattle.execution.specs.Plans.{PlannedQuery, query_plan}
 use Rattle.log_reading.specs.Spans.{AreKept, spans_found, spans_bad}
 use Rattle.log_reading.specs.declared.span.Span.{Span}
 use Rattle.query_run.specs.declared.executing.Counts.{Counts}
-use Rattle.query_types.specs.Planned.{Planned, plan_of}
 use Rattle.row_output.specs.Asked.{Asked, left_of}
 use Rattle.program_meaning.specs.Gives.{table_over, rows_over}
 
 -- a plan was found, and its rows were put out
-pub record IsMet (Has : Asked → List (List Value) → Type 0) (asked : Planned → Asked) (spec : Spec) (q : Query) (moment : Rattle.std.specs.Prelude.ℤ) (folder : Folder) (spans : List Span) (counts : Counts) : Type 0 where
-  pub plan : Planned
-  pub is_planned : plan_of (table_over (log_format spec q) spec.ts_format (past_of (lines_in (log_format spec q)) true folder spans)) moment q ≡ Ok plan
+pub record IsMet (Has : Asked → List (List Value) → Type 0) (asked : PlannedQuery → Asked) (spec : Spec) (q : Query) (moment : Rattle.std.specs.Prelude.ℤ) (folder : Folder) (spans : List Span) (counts : Counts) : Type 0 where
+  pub plan : PlannedQuery
+  pub is_planned : query_plan (table_over (log_format spec q) spec.ts_format (past_of (lines_in (log_format spec q)) true folder spans)) moment q ≡ Ok plan
   pub has : Has (asked plan) (rows_over (log_format spec q) spec.ts_format plan (past_of (lines_in (log_format spec q)) true folder spans))
   pub processed : counts.processed ≡ length (spans_found (lines_in (log_format spec q)) true folder spans)
   pub output : counts.output ≡ length (left_of (asked plan) (rows_over (log_format spec q) spec.ts_format plan (past_of (lines_in (log_format spec q)) true folder spans)))
   pub bad : counts.bad ≡ length (spans_bad (lines_in (log_format spec q)) true folder spans)
 
-met_in : (format : LogFormat) (Has : Asked → List (List Value) → Type 0) (asked : Planned → Asked) (spec : Spec) (q : Query) (moment : Rattle.std.specs.Prelude.ℤ) (folder : Folder) (spans : List Span) (counts : Counts) → log_format spec q ≡ format
+met_in : (format : LogFormat) (Has : Asked → List (List Value) → Type 0) (asked : PlannedQuery → Asked) (spec : Spec) (q : Query) (moment : Rattle.std.specs.Prelude.ℤ) (folder : Folder) (spans : List Span) (counts : Counts) → log_format spec q ≡ format
     → AreKept (lines_in format) true spans folder → IsExecuted format true (Some folder) Has asked spec moment q spans counts → IsMet Has asked spec q moment folder spans counts
 met_in (F.Tabled format) Has asked spec q moment folder spans counts same kept executed =
     let w = executed.written kept in
     let past = λ (f : LogFormat). past_of (lines_in f) true folder spans in
     record {
       plan = executed.plan;
-      is_planned = ap (λ (f : LogFormat). plan_of (table_over f spec.ts_format (past f)) moment q) same ∙ executed.is_planned;
+      is_planned = ap (λ (f : LogFormat). query_plan (table_over f spec.ts_format (past f)) moment q) same ∙ executed.is_planned;
       has = subst (λ (f : LogFormat). Has (asked executed.plan) (rows_over f spec.ts_format executed.plan (past f))) (sym same) w.has;
       processed = w.processed ∙ ap (λ (f : LogFormat). length (spans_found (lines_in f) true folder spans)) (sym same);
       output = w.output ∙ ap (λ (f : LogFormat). length (left_of (asked executed.plan) (rows_over f spec.ts_format executed.plan (past f)))) (sym same);
@@ -45,7 +45,7 @@ met_in (F.Sampled options limit) Has asked spec q moment folder spans counts sam
     let past = λ (f : LogFormat). past_of (lines_in f) true folder spans in
     record {
       plan = all.plan;
-      is_planned = ap (λ (f : LogFormat). plan_of (table_over f spec.ts_format (past f)) moment q) same ∙ all.is_planned;
+      is_planned = ap (λ (f : LogFormat). query_plan (table_over f spec.ts_format (past f)) moment q) same ∙ all.is_planned;
       has = subst (λ (f : LogFormat). Has (asked all.plan) (rows_over f spec.ts_format all.plan (past f))) (sym same) w.has;
       processed = w.processed ∙ ap (λ (f : LogFormat). length (spans_found (lines_in f) true folder spans)) (sym same);
       output = w.output ∙ ap (λ (f : LogFormat). length (left_of (asked all.plan) (rows_over f spec.ts_format all.plan (past f)))) (sym same);
@@ -53,6 +53,6 @@ met_in (F.Sampled options limit) Has asked spec q moment folder spans counts sam
     }
 
 -- what was executed, in the words of the meaning
-pub met : (Has : Asked → List (List Value) → Type 0) (asked : Planned → Asked) (spec : Spec) (q : Query) (moment : Rattle.std.specs.Prelude.ℤ) (folder : Folder) (spans : List Span) (counts : Counts)
+pub met : (Has : Asked → List (List Value) → Type 0) (asked : PlannedQuery → Asked) (spec : Spec) (q : Query) (moment : Rattle.std.specs.Prelude.ℤ) (folder : Folder) (spans : List Span) (counts : Counts)
     → AreKept (lines_in (log_format spec q)) true spans folder → IsExecuted (log_format spec q) true (Some folder) Has asked spec moment q spans counts → IsMet Has asked spec q moment folder spans counts
 met Has asked spec q moment folder spans counts kept executed = met_in (log_format spec q) Has asked spec q moment folder spans counts refl kept executed

@@ -14,6 +14,7 @@ use Rattle.disk_model.specs.Disk.{DiskState}
 use Rattle.disk_model.specs.Disk.{Files as Contents}
 use Rattle.execution.specs.Formats.{lines_in, log_format}
 use Rattle.execution.specs.Outputs.{asked_in, files_named, forbidden_by, own_names}
+use Rattle.execution.specs.Plans.{PlannedQuery, asked_for}
 use Rattle.execution.specs.Texts.{into_in, run_text}
 use Rattle.ledger_model.specs.Entries.{Entry}
 use Rattle.ledger_model.specs.Entries.{Span as EntrySpan}
@@ -31,7 +32,6 @@ use Rattle.multiplex.proofs.Distinct.{Differ}
 use Rattle.multiplex.proofs.Splits.{names_differ}
 use Rattle.multiplex.specs.Splitting.{OutputRows, output_names, rows_named, split}
 use Rattle.query_run.specs.declared.executing.Counts.{Counts}
-use Rattle.query_types.specs.Planned.{Planned}
 use Rattle.recovery_model.specs.Recovered.{AreApart, IsOther}
 use Rattle.row_output.specs.Asked.{Asked, Files, OutputText, left_of, text_in}
 use Rattle.row_output.specs.Files.{FilesHold}
@@ -39,7 +39,6 @@ use Rattle.row_output.specs.Rows.{Holds, HoldsAt}
 use Rattle.run_model.specs.Logs.{Written}
 use Rattle.run_model.specs.Meanings.{Given, Mode, Split, asked_of}
 use Rattle.run_model.specs.Right.{IsNext, AreOutputs, AreApart as SpansApart, GoesOn, IsOutput, bad_in, parts_of, rows_in, takes_part}
-use Rattle.sampled_run.specs.Finishes.{asked_by}
 use Rattle.text_output.specs.Output.{StageKind, kind_of}
 use Rattle.text_output.specs.declared.target.Output.{Output}
 use Rattle.tpl_output.specs.Sections.{Sections}
@@ -158,7 +157,7 @@ module _ {D : Type 0} (state : D → DiskState) (ended : Commit D → List ℕ �
   abbrev pub entry : Entry
   entry = entry_for request took outputs (staged_of now) counts
 
-  abbrev pub asked : Planned → Asked
+  abbrev pub asked : PlannedQuery → Asked
   asked = asked_in request.spec template request.moment request.q spans
 
   -- the outputs' files, by what forbids them
@@ -185,7 +184,7 @@ module _ {D : Type 0} (state : D → DiskState) (ended : Commit D → List ℕ �
 
   -- what is asked of the rows, by what forbids the outputs
   abbrev pub asked_by_logs : List (List ℕ) → Asked
-  asked_by_logs logs = asked_by (Some (files_by logs)) (run_text request.spec template request.moment request.q) request.q is_met.plan
+  asked_by_logs logs = asked_for (Some (files_by logs)) (run_text request.spec template request.moment request.q) request.q is_met.plan
 
   abbrev pub text : OutputText
   text = text_in (asked_by_logs [])
@@ -195,7 +194,7 @@ module _ {D : Type 0} (state : D → DiskState) (ended : Commit D → List ℕ �
 
   pub holds : FilesHold kind (files_by logs) text started left outputs now
   holds = opened kind (files_by logs) (asked_by_logs logs) started now rows outputs refl
-      (subst (λ (f : Option Files). Holds kind (asked_by f (run_text request.spec template request.moment request.q) request.q is_met.plan) started rows outputs now) (named_by logs) is_met.has)
+      (subst (λ (f : Option Files). Holds kind (asked_for f (run_text request.spec template request.moment request.q) request.q is_met.plan) started rows outputs now) (named_by logs) is_met.has)
 
   abbrev pub each : List OutputRows
   each = split into.text left

@@ -5,6 +5,7 @@ use Rattle.grammar.specs.Trees.{Placed}
 use Rattle.lp_model.specs.Outside.{Folder}
 use Rattle.command_words.specs.Table.{IsAsked}
 use Rattle.command_words.specs.Usage.{AreFine}
+use Rattle.execution.specs.Built.{is_run_built}
 use Rattle.execution.specs.Formats.{lines_in, log_format}
 use Rattle.execution.specs.Outputs.{is_stdout}
 use Rattle.execution.specs.Texts.{into_in}
@@ -13,7 +14,6 @@ use Rattle.ledger_model.specs.Inputs.{input_text}
 use Rattle.log_reading.specs.Spans.{took_of}
 use Rattle.log_reading.specs.declared.span.Span.{Span}
 use Rattle.query_text.specs.Texts.{IsQuery, IsOnlyQuery}
-use Rattle.query_types.specs.Built.{is_built}
 use Rattle.run_model.specs.Logs.{Written}
 use Rattle.run_model.specs.Meanings.{Asked}
 use Rattle.run_model.specs.Right.{AreApart, GoesOn}
@@ -34,7 +34,7 @@ pub record IsRead (words : List (List ℕ)) (request : Request) (template : Sect
   pub checkpoint : IsSome request.spec.checkpoint
   pub query : IsQuery request.text request.q
   pub only : IsOnlyQuery request.text request.q
-  pub built : is_built request.q ≡ true
+  pub built : is_run_built request.spec request.q ≡ true
   pub sections : HasTemplate request.spec request.q request.template template
   pub into_is : into_in request.q ≡ Some into
   pub no_stdout : is_stdout into.text ≡ false

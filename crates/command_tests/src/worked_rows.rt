@@ -16,6 +16,11 @@ t.tpl <LPHEADER>;%FIELDNAME_1% (%FIELDS_NUM%);</LPHEADER>;<LPBODY>;%FIELD_1%: %h
 x.csv s,n;hello world,1;,2;
 f.txt q
 a.log a;b
+g.log x;y;x;
+g.csv k,v;a,1;,2;a,3;
+k.csv k,v;
+s.csv n;9223372036854775807;1;
+n.csv n;-3;0;
 w.csv k,v;é€,1;a\t\u{7f},2;,3;
 p.csv k,v;..,1;,2;.,3;
 open.tpl <LPBODY>
@@ -106,7 +111,17 @@ none \"SELECT 'a FROM t.csv\" => 3 |logparser: query: at 7: open string;|
 none \"SELECT 9223372036854775808 FROM t.csv\" => 3 |logparser: query: at 7: number too large;|
 none \"SELECT u FROM t.csv WHERE\" => 3 |logparser: query: at 25: syntax;|
 o.csv -fileMode:2 \"SELECT Text INTO o.csv FROM f.txt\" => 0 |Statistics:;-----------;Elements processed: 1;Elements output:    1;|z
-a.log \"SELECT Text INTO a.log FROM a.log\" => 4 |logparser: input: name clash a.log;|";
+a.log \"SELECT Text INTO a.log FROM a.log\" => 4 |logparser: input: name clash a.log;|
+none -i:TEXTLINE -o:CSV \"SELECT Text, COUNT(*) AS n, PROPCOUNT(*) AS p FROM g.log GROUP BY Text WITH ROLLUP\" => 0 Text,n,p;x,2,0.666666;y,1,0.333333;,3,1.000000;|Statistics:;-----------;Elements processed: 3;Elements output:    3;|
+o.csv -i:TEXTLINE \"SELECT COUNT(*), MAX(Index) INTO o.csv FROM g.log WHERE Text = 'z'\" => 0 |Statistics:;-----------;Elements processed: 3;Elements output:    1;|COUNT(ALL *),MAX(ALL Index);0,;
+o.csv -i:TEXTLINE \"SELECT Text, COUNT(*) INTO o.csv FROM g.log\" => 3 |logparser: query: at 7: not grouped;|z
+none -i:TEXTLINE \"SELECT * FROM g.log GROUP BY Text\" => 3 |logparser: query: at 7: star with groups;|
+none -i:TEXTLINE \"SELECT SUM(COUNT(*)) FROM g.log\" => 3 |logparser: query: at 11: nested aggregate;|
+none -o:CSV \"SELECT k, GROUPING(k) AS r, COUNT(*), SUM(v) FROM g.csv GROUP BY k WITH ROLLUP\" => 0 k,r,COUNT(ALL *),SUM(ALL v);a,0,2,4;,0,1,2;,1,3,6;|Statistics:;-----------;Elements processed: 3;Elements output:    3;|
+none -o:CSV \"SELECT k, GROUPING(k) AS r, COUNT(*), SUM(v) FROM k.csv GROUP BY k WITH ROLLUP\" => 0 k,r,COUNT(ALL *),SUM(ALL v);,1,0,;|Statistics:;-----------;Elements processed: 0;Elements output:    1;|
+none -o:CSV \"SELECT SUM(n) AS s, MAX(n) AS m FROM s.csv\" => 0 s,m;,9223372036854775807;|Statistics:;-----------;Elements processed: 2;Elements output:    1;|
+none -o:CSV \"SELECT AVG(n) AS a FROM n.csv\" => 0 a;-1;|Statistics:;-----------;Elements processed: 2;Elements output:    1;|
+none \"SELECT k, v FROM g.csv GROUP BY k\" => 3 |logparser: query: at 10: not grouped;|";
 
 // Further ones, without statistics.
 const FURTHER: &str = "\
@@ -125,7 +140,9 @@ _.csv \"SELECT k, v INTO *.csv FROM p.csv\" => 0 ||v;1;2;3;
 none -tpl:open.tpl \"SELECT u FROM t.csv\" => 4 |logparser: input: template at 0: unclosed;|
 none -tpl:twice.tpl \"SELECT u FROM t.csv\" => 4 |logparser: input: template at 17: misplaced;|
 none -tpl:text.tpl \"SELECT u FROM t.csv\" => 4 |logparser: input: template at 0: outside text;|
-none -tpl:sign.tpl \"SELECT u FROM t.csv\" => 0 a%b%c%||";
+none -tpl:sign.tpl \"SELECT u FROM t.csv\" => 0 a%b%c%||
+none -i:TEXTLINE -headers:OFF \"SELECT TOP 1 Text, COUNT(*) AS n FROM g.log GROUP BY Text HAVING MAX(Index) > 1 ORDER BY n DESC\" => 0 x    2;||
+_x.csv -i:TEXTLINE -o:CSV \"SELECT Text, COUNT(*) AS n INTO _*.csv FROM g.log GROUP BY Text\" => 0 ||n;2;";
 
 fn is_told(alloc: Global, row: &str, options: &str) -> Result<bool, Fail> {
     let (words, want) = row.split_once(" => ").ok_or("no text")?;

@@ -2,7 +2,6 @@
 use Rattle.std.proofs.Common.{◌≡◌, ℕ, Bool, true, false, ◌&&◌, [], None, refl, subst, sym, inl, inr, arith}
 use Rattle.std.specs.Prelude.{is_none}
 use Rattle.grammar.specs.Trees.{Query}
-use Rattle.query_types.specs.Built.{is_built}
 use Rattle.execution.specs.Built.{all_built, is_run_built}
 use Rattle.command_words.specs.declared.formats.InputFormat.{InputFormat}
 use Rattle.command_words.specs.declared.formats.InputFormat.TheVariants as I
@@ -14,7 +13,6 @@ use Rattle.delimited_input.specs.Separators.{IsRefused}
 use Rattle.input_tables.proofs.Formats.{lines_start as table_start}
 use Rattle.execution.specs.declared.formats.LogFormat.{LogFormat}
 use Rattle.execution.specs.declared.formats.LogFormat.TheVariants as F
-use Rattle.execution.specs.Texts.{has_text, output_of}
 use Rattle.execution.specs.Formats.{csv_options, format_of, lines_in, tsv_options}
 
 -- no columns are in force before the first line
@@ -56,10 +54,6 @@ separated spec I.TextWord options limit range same = absurd (cc)
 last_true : (a b : Bool) → (a && b) ≡ true → b ≡ true
 last_true true b is = is
 last_true false b is = let same : false ≡ true = is in absurd cc
-
--- where a run is built, the query is
-pub built_query : (spec : Spec) (q : Query) → is_run_built spec q ≡ true → is_built q ≡ true
-built_query spec q built = last_true (has_text spec (output_of spec q)) (is_built q) built
 
 -- where all is built, the run is
 pub built_run : (spec : Spec) (q : Query) → all_built spec q ≡ true → is_run_built spec q ≡ true

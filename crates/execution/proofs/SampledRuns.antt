@@ -11,38 +11,37 @@ use Rattle.log_reading.specs.Spans.{AreKept, BadLine, spans_bad_lines}
 use Rattle.text_output.specs.Output.{StageKind}
 use Rattle.query_run.specs.declared.executing.Written.{Written}
 use Rattle.query_types.specs.declared.fault.TypeFault.{TypeFault}
-use Rattle.query_types.specs.Planned.{Planned}
 use Rattle.row_output.specs.Asked.{Asked}
 use Rattle.row_output.specs.Rows.{Holds, Stops}
 use Rattle.row_output.specs.declared.fault.Refused.{Refused}
-use Rattle.sampled_run.specs.Ran.{IsFront, IsRefused, IsSampled}
-use Rattle.sampled_run.specs.Ran.{IsUnplaced as IsRefusedOutput}
-use Rattle.sampled_run.specs.Rules.{Rules, rules_of}
 use Rattle.column_kinds.specs.Spans.{past_of}
 use Rattle.execution.specs.declared.formats.LogFormat.TheVariants as F
 use Rattle.execution.specs.Executed.{IsExecuted, IsStopped, IsParseError, IsUnplaced, IsUnplanned, IsUntouched}
+use Rattle.execution.specs.Plans.{PlannedQuery}
+use Rattle.execution.specs.Telling.{IsFront, IsRefused, IsTold, Telling, telling}
+use Rattle.execution.specs.Telling.{IsUnplaced as IsRefusedOutput}
 
 abbrev Kept : DelimitedOptions → Bool → List Span → Folder → Type 0
 Kept options waits spans folder = AreKept (delimited_lines options) waits spans folder
 
-abbrev rules_with : ℕ → Spec → ℤ → model.Query → (Planned → Asked) → Rules
-rules_with limit spec moment q asked = rules_of limit spec.ts_format moment q asked
+abbrev rules_with : ℕ → Spec → ℤ → model.Query → (PlannedQuery → Asked) → Telling
+rules_with limit spec moment q asked = telling limit spec.ts_format moment q asked
 
-module _ {S : Type 0} (kind : StageKind S) (told : Option Folder) (start now : S) (asked : Planned → Asked) (spec : Spec) (moment : ℤ) (q : model.Query) (options : DelimitedOptions) (limit : ℕ) (waits : Bool) where
+module _ {S : Type 0} (kind : StageKind S) (told : Option Folder) (start now : S) (asked : PlannedQuery → Asked) (spec : Spec) (moment : ℤ) (q : model.Query) (options : DelimitedOptions) (limit : ℕ) (waits : Bool) where
   written_all : (told : Option Folder) (spans : List Span) (run : Written)
-      → Told told (λ folder. Kept options waits spans folder → IsSampled kind (rules_with limit spec moment q asked) start (past_of (delimited_lines options) waits folder spans) (delimited_lines options) waits folder spans run now)
+      → Told told (λ folder. Kept options waits spans folder → IsTold kind (rules_with limit spec moment q asked) start (past_of (delimited_lines options) waits folder spans) (delimited_lines options) waits folder spans run now)
       → IsExecuted (F.Sampled options limit) waits told (λ asked rows. Holds kind asked start rows run.outputs now) asked spec moment q spans run.counts
   written_all None spans run ran = tt
   written_all (Some folder) spans run ran = λ kept.
       let all = ran kept in
       record {
-        plan = all.written.plan;
-        is_planned = all.written.planned;
-        written = λ again. record { has = all.written.holds; processed = all.processed; output = all.written.rows; bad = all.bad };
+        plan = all.plan;
+        is_planned = all.planned;
+        written = λ again. record { has = all.holds; processed = all.processed; output = all.rows; bad = all.bad };
       }
 
   pub executed : (slice spans : List Span) (run : Written) → slice ≡ spans
-      → Told told (λ folder. Kept options waits slice folder → IsSampled kind (rules_with limit spec moment q asked) start (past_of (delimited_lines options) waits folder slice) (delimited_lines options) waits folder slice run now)
+      → Told told (λ folder. Kept options waits slice folder → IsTold kind (rules_with limit spec moment q asked) start (past_of (delimited_lines options) waits folder slice) (delimited_lines options) waits folder slice run now)
       → IsExecuted (F.Sampled options limit) waits told (λ asked rows. Holds kind asked start rows run.outputs now) asked spec moment q spans run.counts
   executed slice spans run listed ran =
       subst (λ (s : List Span). IsExecuted (F.Sampled options limit) waits told (λ asked rows. Holds kind asked start rows run.outputs now) asked spec moment q s run.counts) listed (written_all told slice run ran)

@@ -8,21 +8,20 @@ use Rattle.log_reading.specs.Page.{IsTooMany}
 use Rattle.log_reading.specs.Spans.{AreKept, BadLine, spans_found, spans_bad, spans_bad_lines}
 use Rattle.lp_values.specs.declared.value.Value.{Value}
 use Rattle.query_run.specs.declared.executing.Counts.{Counts}
-use Rattle.query_types.specs.Planned.{Planned, plan_of}
 use Rattle.input_tables.specs.declared.format.TableFormat.{TableFormat}
-use Rattle.input_tables.specs.Tables.{lines_of, readings_of, table_of}
-use Rattle.plan_run.specs.Rows.{plan_rows}
+use Rattle.input_tables.specs.Tables.{lines_of, table_of}
 use Rattle.row_output.specs.Asked.{Asked, left_of}
 use Rattle.execution.specs.declared.formats.LogFormat.TheVariants as F
 use Rattle.execution.specs.Executed.{Writes, HoldsFront, IsExecuted, IsParseError}
+use Rattle.execution.specs.Plans.{PlannedQuery, query_plan, table_rows}
 
 abbrev Kept : TableFormat → Bool → List Span → Folder → Type 0
 Kept format waits spans folder = AreKept (lines_of format) waits spans folder
 
-abbrev rows_with : TableFormat → Bool → Planned → Folder → List Span → List (List Value)
-rows_with format waits plan folder spans = plan_rows (readings_of format) plan (lines_of format) waits folder spans
+abbrev rows_with : TableFormat → Bool → PlannedQuery → Folder → List Span → List (List Value)
+rows_with format waits plan folder spans = table_rows format plan (spans_found (lines_of format) waits folder spans)
 
-written_all : (told : Option Folder) (Has : Asked → List (List Value) → Type 0) (asked : Planned → Asked) (spec : Spec) (format : TableFormat) (waits : Bool) (plan : Planned) (spans : List Span) (counts : Counts) (given : Asked)
+written_all : (told : Option Folder) (Has : Asked → List (List Value) → Type 0) (asked : PlannedQuery → Asked) (spec : Spec) (format : TableFormat) (waits : Bool) (plan : PlannedQuery) (spans : List Span) (counts : Counts) (given : Asked)
     → given ≡ asked plan
     → Told told (λ folder. Kept format waits spans folder → Has given (rows_with format waits plan folder spans))
     → Told told (λ folder. Kept format waits spans folder → counts.processed ≡ length (spans_found (lines_of format) waits folder spans))
@@ -37,8 +36,8 @@ written_all (Some folder) Has asked spec format waits plan spans counts given is
   bad = bad kept;
 }
 
-pub executed : (told : Option Folder) (Has : Asked → List (List Value) → Type 0) (asked : Planned → Asked) (spec : Spec) (moment : ℤ) (q : model.Query) (format : TableFormat) (waits : Bool) (plan : Planned) (slice spans : List Span) (counts : Counts) (given : Asked)
-    → slice ≡ spans → plan_of (table_of format) moment q ≡ Ok plan → given ≡ asked plan
+pub executed : (told : Option Folder) (Has : Asked → List (List Value) → Type 0) (asked : PlannedQuery → Asked) (spec : Spec) (moment : ℤ) (q : model.Query) (format : TableFormat) (waits : Bool) (plan : PlannedQuery) (slice spans : List Span) (counts : Counts) (given : Asked)
+    → slice ≡ spans → query_plan (table_of format) moment q ≡ Ok plan → given ≡ asked plan
     → Told told (λ folder. Kept format waits slice folder → Has given (rows_with format waits plan folder slice))
     → Told told (λ folder. Kept format waits slice folder → counts.processed ≡ length (spans_found (lines_of format) waits folder slice))
     → Told told (λ folder. Kept format waits slice folder → counts.output ≡ length (left_of given (rows_with format waits plan folder slice)))
@@ -52,16 +51,16 @@ executed told Has asked spec moment q format waits plan slice spans counts given
       written = subst Of listed (written_all told Has asked spec format waits plan slice counts given is holds processed put bad);
     }
 
-pub front : (told : Option Folder) (Front : Asked → List (List Value) → Type 0) (asked : Planned → Asked) (spec : Spec) (moment : ℤ) (q : model.Query) (format : TableFormat) (waits : Bool) (plan : Planned) (slice spans : List Span) (given : Asked)
-    → slice ≡ spans → plan_of (table_of format) moment q ≡ Ok plan → given ≡ asked plan
+pub front : (told : Option Folder) (Front : Asked → List (List Value) → Type 0) (asked : PlannedQuery → Asked) (spec : Spec) (moment : ℤ) (q : model.Query) (format : TableFormat) (waits : Bool) (plan : PlannedQuery) (slice spans : List Span) (given : Asked)
+    → slice ≡ spans → query_plan (table_of format) moment q ≡ Ok plan → given ≡ asked plan
     → Told told (λ folder. Kept format waits slice folder → Front given (rows_with format waits plan folder slice))
     → HoldsFront (F.Tabled format) waits told Front asked spec moment q spans (table_of format)
 front told Front asked spec moment q format waits plan slice spans given listed planned is holds =
     let Of : List Span → Asked → Type 0 = λ s a. Told told (λ folder. Kept format waits s folder → Front a (rows_with format waits plan folder s)) in
     record { plan = plan; is_planned = planned; front = subst (λ (a : Asked). Of spans a) is (subst (λ (s : List Span). Of s given) listed holds) }
 
-pub parse_error : (told : Option Folder) (spec : Spec) (moment : ℤ) (q : model.Query) (format : TableFormat) (waits : Bool) (plan : Planned) (slice spans : List Span) (most : Option ℕ) (line : BadLine)
-    → slice ≡ spans → plan_of (table_of format) moment q ≡ Ok plan → most ≡ spec.errors
+pub parse_error : (told : Option Folder) (spec : Spec) (moment : ℤ) (q : model.Query) (format : TableFormat) (waits : Bool) (plan : PlannedQuery) (slice spans : List Span) (most : Option ℕ) (line : BadLine)
+    → slice ≡ spans → query_plan (table_of format) moment q ≡ Ok plan → most ≡ spec.errors
     → Told told (λ folder. Kept format waits slice folder → IsTooMany most 0 (spans_bad_lines (lines_of format) waits folder slice) line)
     → IsParseError (F.Tabled format) waits told spec moment q spans line
 parse_error told spec moment q format waits plan slice spans most line listed planned limit exceeds =

@@ -13,10 +13,7 @@ use Rattle.log_reading.specs.Spans.{AreKept, BadLine, spans_found, spans_bad, sp
 use Rattle.query_run.specs.declared.executing.Counts.{Counts}
 use Rattle.query_types.specs.declared.fault.TypeFault.{TypeFault}
 use Rattle.query_types.specs.declared.table.TableColumns.{TableColumns}
-use Rattle.query_types.specs.Planned.{Planned, plan_of}
-use Rattle.input_tables.specs.Tables.{lines_of, readings_of, table_of}
-use Rattle.plan_run.specs.Rows.{plan_rows}
-use Rattle.sampled_run.specs.Rules.{rows_with}
+use Rattle.input_tables.specs.Tables.{lines_of, table_of}
 use Rattle.column_kinds.specs.Spans.{first_log}
 use Rattle.column_kinds.specs.declared.judging.Judged.{Judged}
 use Rattle.column_kinds.specs.Judged.{judged}
@@ -24,6 +21,7 @@ use Rattle.column_kinds.specs.Judged.{table_of as table_with}
 use Rattle.execution.specs.declared.formats.LogFormat.{LogFormat}
 use Rattle.execution.specs.declared.formats.LogFormat.TheVariants as F
 use Rattle.execution.specs.Formats.{lines_in}
+use Rattle.execution.specs.Plans.{PlannedQuery, query_plan, table_rows, told_rows}
 use Rattle.row_output.specs.Asked.{Asked, left_of}
 use Rattle.row_output.specs.Rows.{IsRefused}
 use Rattle.row_output.specs.declared.fault.Refused.{Refused}
@@ -46,45 +44,45 @@ abbrev pub OnTable : LogFormat → Bool → List Piece → Option Folder → Lis
 OnTable (F.Tabled format) waits pattern told spans P = P (table_of format)
 OnTable (F.Sampled options limit) waits pattern told spans P = Told told (λ folder. AreKept (delimited_lines options) waits spans folder → P (told_table options waits limit pattern folder spans))
 
--- the rows that SELECT gives over spans, by a plan
-abbrev pub rows_in : LogFormat → Bool → List Piece → Planned → Folder → List Span → List (List Value)
-rows_in (F.Tabled format) waits pattern plan folder spans = plan_rows (readings_of format) plan (lines_of format) waits folder spans
-rows_in (F.Sampled options limit) waits pattern plan folder spans = rows_with pattern (told_in options waits limit pattern folder spans) plan (spans_found (delimited_lines options) waits folder spans)
+-- the output rows over spans, by a plan
+abbrev pub rows_in : LogFormat → Bool → List Piece → PlannedQuery → Folder → List Span → List (List Value)
+rows_in (F.Tabled format) waits pattern plan folder spans = table_rows format plan (spans_found (lines_of format) waits folder spans)
+rows_in (F.Sampled options limit) waits pattern plan folder spans = told_rows pattern (told_in options waits limit pattern folder spans) plan (spans_found (delimited_lines options) waits folder spans)
 
 -- Of what is asked of a plan's rows this is so; so many records, rows and bad lines were met.
-pub record Writes (Has : Asked → List (List Value) → Type 0) (asked : Planned → Asked) (spec : Spec) (format : LogFormat) (waits : Bool) (plan : Planned) (spans : List Span) (counts : Counts) (folder : Folder) : Type 0 where
+pub record Writes (Has : Asked → List (List Value) → Type 0) (asked : PlannedQuery → Asked) (spec : Spec) (format : LogFormat) (waits : Bool) (plan : PlannedQuery) (spans : List Span) (counts : Counts) (folder : Folder) : Type 0 where
   pub has : Has (asked plan) (rows_in format waits spec.ts_format plan folder spans)
   pub processed : counts.processed ≡ length (spans_found (lines_in format) waits folder spans)
   pub output : counts.output ≡ length (left_of (asked plan) (rows_in format waits spec.ts_format plan folder spans))
   pub bad : counts.bad ≡ length (spans_bad (lines_in format) waits folder spans)
 
 -- where each span begins as its log was kept, the rows of the query's plan over a table are written
-pub record WritesAll (format : LogFormat) (waits : Bool) (told : Option Folder) (Has : Asked → List (List Value) → Type 0) (asked : Planned → Asked) (spec : Spec) (moment : ℤ) (q : model.Query) (spans : List Span) (counts : Counts) (table : TableColumns) : Type 0 where
-  pub plan : Planned
-  pub is_planned : plan_of table moment q ≡ Ok plan
+pub record WritesAll (format : LogFormat) (waits : Bool) (told : Option Folder) (Has : Asked → List (List Value) → Type 0) (asked : PlannedQuery → Asked) (spec : Spec) (moment : ℤ) (q : model.Query) (spans : List Span) (counts : Counts) (table : TableColumns) : Type 0 where
+  pub plan : PlannedQuery
+  pub is_planned : query_plan table moment q ≡ Ok plan
   pub written : Told told (λ folder. AreKept (lines_in format) waits spans folder → Writes Has asked spec format waits plan spans counts folder)
 
 -- the query's rows are written
-abbrev pub IsExecuted : LogFormat → Bool → Option Folder → (Asked → List (List Value) → Type 0) → (Planned → Asked) → Spec → ℤ → model.Query → List Span → Counts → Type 0
+abbrev pub IsExecuted : LogFormat → Bool → Option Folder → (Asked → List (List Value) → Type 0) → (PlannedQuery → Asked) → Spec → ℤ → model.Query → List Span → Counts → Type 0
 IsExecuted format waits told Has asked spec moment q spans counts = OnTable format waits spec.ts_format told spans (WritesAll format waits told Has asked spec moment q spans counts)
 
 -- they were to be written
-pub record HoldsFront (format : LogFormat) (waits : Bool) (told : Option Folder) (Front : Asked → List (List Value) → Type 0) (asked : Planned → Asked) (spec : Spec) (moment : ℤ) (q : model.Query) (spans : List Span) (table : TableColumns) : Type 0 where
-  pub plan : Planned
-  pub is_planned : plan_of table moment q ≡ Ok plan
+pub record HoldsFront (format : LogFormat) (waits : Bool) (told : Option Folder) (Front : Asked → List (List Value) → Type 0) (asked : PlannedQuery → Asked) (spec : Spec) (moment : ℤ) (q : model.Query) (spans : List Span) (table : TableColumns) : Type 0 where
+  pub plan : PlannedQuery
+  pub is_planned : query_plan table moment q ≡ Ok plan
   pub front : Told told (λ folder. AreKept (lines_in format) waits spans folder → Front (asked plan) (rows_in format waits spec.ts_format plan folder spans))
 
 -- a run stopped before it wrote anything, or within the rows
-abbrev pub IsStopped : LogFormat → Bool → Option Folder → Type 0 → (Asked → List (List Value) → Type 0) → (Planned → Asked) → Spec → ℤ → model.Query → List Span → Type 0
+abbrev pub IsStopped : LogFormat → Bool → Option Folder → Type 0 → (Asked → List (List Value) → Type 0) → (PlannedQuery → Asked) → Spec → ℤ → model.Query → List Span → Type 0
 IsStopped format waits told Nothing Front asked spec moment q spans = OnTable format waits spec.ts_format told spans (λ table. Nothing ⊎ HoldsFront format waits told Front asked spec moment q spans table)
 
 -- an output of the rows is refused by this fault
-abbrev pub IsUnplaced : LogFormat → Bool → Option Folder → (Planned → Asked) → Spec → ℤ → model.Query → List Span → Refused → Type 0
+abbrev pub IsUnplaced : LogFormat → Bool → Option Folder → (PlannedQuery → Asked) → Spec → ℤ → model.Query → List Span → Refused → Type 0
 IsUnplaced format waits told asked spec moment q spans why = OnTable format waits spec.ts_format told spans (HoldsFront format waits told (λ asked rows. IsRefused asked rows why) asked spec moment q spans)
 
 -- over a table that is known before a log is read, the query has a plan
 abbrev pub IsTyped : LogFormat → ℤ → model.Query → Type 0
-IsTyped (F.Tabled format) moment q = (plan : Planned) × (plan_of (table_of format) moment q ≡ Ok plan)
+IsTyped (F.Tabled format) moment q = (plan : PlannedQuery) × (query_plan (table_of format) moment q ≡ Ok plan)
 IsTyped (F.Sampled options limit) moment q = ⊤
 
 -- of the bad lines of the spans, in order, this is the first that is one too many
@@ -94,7 +92,7 @@ pub record IsParseError (format : LogFormat) (waits : Bool) (told : Option Folde
 
 -- a query has no plan, by this fault
 abbrev pub IsUnplanned : LogFormat → Bool → Option Folder → Spec → ℤ → model.Query → List Span → TypeFault → Type 0
-IsUnplanned format waits told spec moment q spans fault = OnTable format waits spec.ts_format told spans (λ table. plan_of table moment q ≡ Err fault)
+IsUnplanned format waits told spec moment q spans fault = OnTable format waits spec.ts_format told spans (λ table. query_plan table moment q ≡ Err fault)
 
 -- nothing is written
 abbrev pub IsUntouched : LogFormat → Bool → Option Folder → Type 0 → Spec → List Span → Type 0

@@ -1,6 +1,9 @@
 pub mod Formats
 pub mod Built
+pub mod Plans
 pub mod Executed
 pub mod Faults
 pub mod Texts
 pub mod Outputs
+pub mod Fitting
+pub mod Telling

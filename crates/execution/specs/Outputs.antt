@@ -5,10 +5,9 @@ use Rattle.grammar.specs.Trees.{Placed, Query}
 use Rattle.command_words.specs.declared.spec.Spec.{Spec}
 use Rattle.log_listing.specs.Firsts.{with_names}
 use Rattle.log_reading.specs.declared.span.Span.{Span}
-use Rattle.query_types.specs.Planned.{Planned}
 use Rattle.row_output.specs.Asked.{Asked, Files}
-use Rattle.sampled_run.specs.Finishes.{asked_by}
 use Rattle.tpl_output.specs.Sections.{Sections}
+use Rattle.execution.specs.Plans.{PlannedQuery, asked_for}
 use Rattle.execution.specs.Texts.{into_in, run_text}
 
 -- the name of standard output, in any case of its letters
@@ -38,5 +37,5 @@ abbrev pub files_of : Spec → Query → List Span → Option Files
 files_of spec q spans = files_named spec (map (λ (span : Span). span.name) spans) (into_in q)
 
 -- what becomes of the rows of a plan of a query
-abbrev pub asked_in : Spec → Sections → ℤ → Query → List Span → Planned → Asked
-asked_in spec template moment q spans = asked_by (files_of spec q spans) (run_text spec template moment q) q
+abbrev pub asked_in : Spec → Sections → ℤ → Query → List Span → PlannedQuery → Asked
+asked_in spec template moment q spans = asked_for (files_of spec q spans) (run_text spec template moment q) q

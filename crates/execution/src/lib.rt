@@ -7,6 +7,7 @@
 #![tactic(auto)]
 
 mod built;
+mod carrying;
 mod errors;
 mod executing;
 mod fault;
@@ -14,6 +15,7 @@ mod formats;
 mod outputs;
 mod planning;
 mod sampled;
+mod sampling;
 mod tabled;
 mod texts;
 

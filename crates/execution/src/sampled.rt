@@ -10,14 +10,14 @@ ghost use Rattle.text_output.specs.Output.{kind_of};
 ghost use Rattle.row_output.specs.Rows.{Holds, Stops};
 ghost use Rattle.row_output.specs.Sinks.{IsUnplaced, files_for};
 ghost use Rattle.query_tree.specs.Views.{query_of};
-ghost use Rattle.query_types.specs.Built.{is_built};
 ghost use Rattle.execution.specs.Executed.{IsExecuted, IsMoment, IsParseError, IsStopped, IsUnplanned, IsUntouched};
 ghost use Rattle.execution.specs.Executed.{IsUnplaced as IsUnplacedRun};
-ghost use Rattle.sampled_run.specs.Finishes.{asked_by};
 ghost use Rattle.execution.specs.Faults.{IfParse, IfPlan, IfRefused};
+ghost use Rattle.execution.specs.Plans.{asked_for};
 ghost use Rattle.execution.specs.declared.formats.LogFormat.TheVariants as F;
 
 use crate::errors::most_bad;
+use crate::sampling::sample_query;
 use crate::{Ran, RunFault};
 use any_format::Wanted;
 use checkpoint::Spans;
@@ -27,7 +27,7 @@ use log_reading::{LogSource, TookList};
 use lp_outside::Stage;
 use query_tree::Query;
 use row_output::Into;
-use sampled_run::{Moment, SampleFault, run_sampled};
+use sampled_run::{Moment, SampleFault};
 use std::alloc::Global;
 
 /// Runs a query over spans of logs whose fields a byte parts, and whose columns they tell.
@@ -46,7 +46,6 @@ pub(crate) fn execute_sampled<L: LogSource, G: Stage>(
     stage: &mut G,
 ) -> Result<Ran, RunFault>
     requires separator { ¬ IsRefused options.separator }
-    requires built { is_built (query_of query.now) ≡ true }
     requires moment { IsMoment moment.seconds }
     requires none { IsUnplaced into }
     requires few { length spans.now ≤ 100000 }
@@ -54,10 +53,10 @@ pub(crate) fn execute_sampled<L: LogSource, G: Stage>(
     requires readable { AreReadable L.folder L.ready logs.old spans.now }
     ensures grows { OnlyGrow (L.folder logs.old) (L.folder logs.new) }
     ensures goes_logs { L.goes logs.old logs.new }
-    ensures ran { IfOk result (λ ran. IsExecuted (F.Sampled options limit) waits (L.folder logs.new) (λ asked rows. Holds (kind_of G.state G.ended) asked stage.old rows ran.outputs stage.new) (asked_by (files_for into) (wanted_text wanted moment.seconds) (query_of query.now)) spec.now moment.seconds (query_of query.now) spans.now ran.counts) }
+    ensures ran { IfOk result (λ ran. IsExecuted (F.Sampled options limit) waits (L.folder logs.new) (λ asked rows. Holds (kind_of G.state G.ended) asked stage.old rows ran.outputs stage.new) (asked_for (files_for into) (wanted_text wanted moment.seconds) (query_of query.now)) spec.now moment.seconds (query_of query.now) spans.now ran.counts) }
     ensures within { IfOk result (λ ran. IsWithin spec.now.errors ran.counts.bad) }
-    ensures stopped { OnErr result (IsStopped (F.Sampled options limit) waits (L.folder logs.new) (stage.new ≡ stage.old) (λ asked rows. Stops (kind_of G.state G.ended) asked stage.old rows stage.new) (asked_by (files_for into) (wanted_text wanted moment.seconds) (query_of query.now)) spec.now moment.seconds (query_of query.now) spans.now) }
-    ensures refused { IfRefused result (IsUnplacedRun (F.Sampled options limit) waits (L.folder logs.new) (asked_by (files_for into) (wanted_text wanted moment.seconds) (query_of query.now)) spec.now moment.seconds (query_of query.now) spans.now) }
+    ensures stopped { OnErr result (IsStopped (F.Sampled options limit) waits (L.folder logs.new) (stage.new ≡ stage.old) (λ asked rows. Stops (kind_of G.state G.ended) asked stage.old rows stage.new) (asked_for (files_for into) (wanted_text wanted moment.seconds) (query_of query.now)) spec.now moment.seconds (query_of query.now) spans.now) }
+    ensures refused { IfRefused result (IsUnplacedRun (F.Sampled options limit) waits (L.folder logs.new) (asked_for (files_for into) (wanted_text wanted moment.seconds) (query_of query.now)) spec.now moment.seconds (query_of query.now) spans.now) }
     ensures plan { IfPlan result (IsUnplanned (F.Sampled options limit) waits (L.folder logs.new) spec.now moment.seconds (query_of query.now) spans.now) }
     ensures before { IfPlan result (λ fault. IsUntouched (F.Sampled options limit) waits (L.folder logs.new) (stage.new ≡ stage.old) spec.now spans.now) }
     ensures parse { IfParse result (IsParseError (F.Sampled options limit) waits (L.folder logs.new) spec.now moment.seconds (query_of query.now) spans.now) }
@@ -71,7 +70,7 @@ pub(crate) fn execute_sampled<L: LogSource, G: Stage>(
     ensures stage { IsErrOf result RunFault.StageFault → Rose (G.faults stage.old) (G.faults stage.new) }
 {
     let mut took = TookList::new(alloc);
-    match run_sampled(
+    match sample_query(
         alloc,
         options,
         limit,

@@ -8,16 +8,16 @@ ghost use Rattle.text_output.specs.Output.{kind_of};
 ghost use Rattle.row_output.specs.Rows.{Holds, Stops};
 ghost use Rattle.row_output.specs.Sinks.{IsUnplaced, files_for};
 ghost use Rattle.query_tree.specs.Views.{query_of};
-ghost use Rattle.query_types.specs.Built.{is_built};
 ghost use Rattle.input_tables.specs.Tables.{lines_of};
 ghost use Rattle.execution.specs.Executed.{IsExecuted, IsMoment, IsParseError, IsStopped, IsUnplanned, IsUntouched};
 ghost use Rattle.execution.specs.Executed.{IsUnplaced as IsUnplacedRun};
-ghost use Rattle.sampled_run.specs.Finishes.{asked_by};
 ghost use Rattle.execution.specs.Faults.{IfParse, IfPlan, IfRefused, unplanned};
+ghost use Rattle.execution.specs.Plans.{asked_for};
 ghost use Rattle.execution.specs.declared.formats.LogFormat.TheVariants as F;
 
+use crate::carrying::carry_out;
 use crate::errors::most_bad;
-use crate::planning::plan_over;
+use crate::planning::{output_over, plan_over};
 use crate::{Ran, RunFault};
 use any_format::Wanted;
 use checkpoint::Spans;
@@ -25,12 +25,11 @@ use command_words::Spec;
 use input_tables::TableFormat;
 use log_reading::{LogSource, TookList};
 use lp_outside::Stage;
-use plan_run::run_plan;
 use query_run::WriteFault;
 use query_tree::Query;
 use query_types::TypeFault;
 use row_output::Into;
-use sampled_run::{Moment, output_of_rows};
+use sampled_run::Moment;
 use std::alloc::Global;
 
 // Why a plan isn't made.
@@ -57,7 +56,6 @@ pub(crate) fn execute_tabled<L: LogSource, G: Stage>(
     into: Into,
     stage: &mut G,
 ) -> Result<Ran, RunFault>
-    requires built { is_built (query_of query.now) ≡ true }
     requires moment { IsMoment moment.seconds }
     requires none { IsUnplaced into }
     requires few { length spans.now ≤ 100000 }
@@ -65,10 +63,10 @@ pub(crate) fn execute_tabled<L: LogSource, G: Stage>(
     requires readable { AreReadable L.folder L.ready logs.old spans.now }
     ensures grows { OnlyGrow (L.folder logs.old) (L.folder logs.new) }
     ensures goes_logs { L.goes logs.old logs.new }
-    ensures ran { IfOk result (λ ran. IsExecuted (F.Tabled format) waits (L.folder logs.new) (λ asked rows. Holds (kind_of G.state G.ended) asked stage.old rows ran.outputs stage.new) (asked_by (files_for into) (wanted_text wanted moment.seconds) (query_of query.now)) spec.now moment.seconds (query_of query.now) spans.now ran.counts) }
+    ensures ran { IfOk result (λ ran. IsExecuted (F.Tabled format) waits (L.folder logs.new) (λ asked rows. Holds (kind_of G.state G.ended) asked stage.old rows ran.outputs stage.new) (asked_for (files_for into) (wanted_text wanted moment.seconds) (query_of query.now)) spec.now moment.seconds (query_of query.now) spans.now ran.counts) }
     ensures within { IfOk result (λ ran. IsWithin spec.now.errors ran.counts.bad) }
-    ensures stopped { OnErr result (IsStopped (F.Tabled format) waits (L.folder logs.new) (stage.new ≡ stage.old) (λ asked rows. Stops (kind_of G.state G.ended) asked stage.old rows stage.new) (asked_by (files_for into) (wanted_text wanted moment.seconds) (query_of query.now)) spec.now moment.seconds (query_of query.now) spans.now) }
-    ensures refused { IfRefused result (IsUnplacedRun (F.Tabled format) waits (L.folder logs.new) (asked_by (files_for into) (wanted_text wanted moment.seconds) (query_of query.now)) spec.now moment.seconds (query_of query.now) spans.now) }
+    ensures stopped { OnErr result (IsStopped (F.Tabled format) waits (L.folder logs.new) (stage.new ≡ stage.old) (λ asked rows. Stops (kind_of G.state G.ended) asked stage.old rows stage.new) (asked_for (files_for into) (wanted_text wanted moment.seconds) (query_of query.now)) spec.now moment.seconds (query_of query.now) spans.now) }
+    ensures refused { IfRefused result (IsUnplacedRun (F.Tabled format) waits (L.folder logs.new) (asked_for (files_for into) (wanted_text wanted moment.seconds) (query_of query.now)) spec.now moment.seconds (query_of query.now) spans.now) }
     ensures plan { IfPlan result (IsUnplanned (F.Tabled format) waits (L.folder logs.new) spec.now moment.seconds (query_of query.now) spans.now) }
     ensures before { IfPlan result (λ fault. IsUntouched (F.Tabled format) waits (L.folder logs.new) (stage.new ≡ stage.old) spec.now spans.now) }
     ensures parse { IfParse result (IsParseError (F.Tabled format) waits (L.folder logs.new) spec.now moment.seconds (query_of query.now) spans.now) }
@@ -85,11 +83,12 @@ pub(crate) fn execute_tabled<L: LogSource, G: Stage>(
         Ok(plan) => plan,
         Err(fault) => return Err(unplanned(fault)),
     };
-    let Ok(output) = output_of_rows(alloc, wanted, moment, into, query, &plan) else {
+    let Ok(output) = output_over(alloc, wanted, moment, into, query, &plan) else {
+        drop(plan);
         return Err(RunFault::Memory);
     };
     let mut took = TookList::new(alloc);
-    match run_plan(
+    match carry_out(
         alloc,
         format,
         output,

@@ -83,7 +83,7 @@ Examples
   logparser -o:CSV \"SELECT name, MUL(price, 2) AS twice FROM list.csv WHERE name LIKE 'a%'\"
   logparser -iCheckpoint:day.cp -fileMode:0 \"SELECT Text INTO errors.csv FROM app.log\"
 
-Not built yet, and answered so: COUNT and the like, GROUP BY, HAVING, subqueries.
+Not built yet, and answered so: subqueries.
 
 The manual is docs/manual.md in the repository; docs/examples.md answers common questions.
 

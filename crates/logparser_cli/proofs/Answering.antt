@@ -10,6 +10,7 @@ use Rattle.execution.specs.Executed.{IsExecuted, IsMoment, IsUntouched, Writes, 
 use Rattle.execution.specs.Executed.{HoldsFront as HoldsSpans, IsParseError as IsExceeded, IsStopped as IsStoppedIn, IsUnplaced as IsUnplacedIn, IsUnplanned as IsUnplannedIn, WritesAll as WritesSpans}
 use Rattle.execution.specs.Formats.{lines_in, log_format}
 use Rattle.execution.specs.Outputs.{asked_in, is_standard}
+use Rattle.execution.specs.Plans.{query_plan}
 use Rattle.execution.specs.Texts.{into_in}
 use Rattle.execution.specs.Faults.{IfParse, IfPlan, IfRefused}
 use Rattle.execution.specs.declared.fault.RunFault.{RunFault}
@@ -23,7 +24,6 @@ use Rattle.query_text.specs.declared.fault.QueryFault.{QueryFault}
 use Rattle.query_text.specs.declared.fault.QueryFault.TheVariants as Q
 use Rattle.query_types.specs.declared.fault.TypeFault.{TypeFault}
 use Rattle.query_types.specs.declared.table.TableColumns.{TableColumns}
-use Rattle.query_types.specs.Planned.{plan_of}
 use Rattle.order_top.specs.Finish.{Row}
 use Rattle.row_output.specs.Asked.{Asked}
 use Rattle.row_output.specs.Rows.{IsRefused as IsRefusedRow}
@@ -194,7 +194,7 @@ unplanned : (old new : World) (mid : Option Folder) (spec : Spec) (moment : ℤ)
 unplanned old new mid spec moment q spans fault found grow plan before = record {
   logs = found.logs;
   are_logs = logs_later old.folder mid new.folder q found.logs grow found.are_logs;
-  unplanned = on_whole new.folder (log_format spec q) spec.ts_format found.logs spans (λ table. plan_of table moment q ≡ Err fault) (λ table. plan_of table moment q ≡ Err fault) found.wholes (λ table is. is) plan;
+  unplanned = on_whole new.folder (log_format spec q) spec.ts_format found.logs spans (λ table. query_plan table moment q ≡ Err fault) (λ table. query_plan table moment q ≡ Err fault) found.wholes (λ table is. is) plan;
   unwritten = on_whole new.folder (log_format spec q) spec.ts_format found.logs spans (λ table. IsUnwritten old.held new.held) (λ table. IsUnwritten old.held new.held) found.wholes (λ table same. same) before;
 }
 

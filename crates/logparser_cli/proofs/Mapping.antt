@@ -10,7 +10,6 @@ use Rattle.order_top.specs.Finish.{Row}
 use Rattle.query_run.specs.declared.executing.Counts.{Counts}
 use Rattle.query_types.specs.declared.fault.TypeFault.{TypeFault}
 use Rattle.query_types.specs.declared.table.TableColumns.{TableColumns}
-use Rattle.query_types.specs.Planned.{Planned}
 use Rattle.row_output.specs.Asked.{Asked}
 use Rattle.execution.specs.declared.formats.LogFormat.{LogFormat}
 use Rattle.execution.specs.declared.formats.LogFormat.TheVariants as F
@@ -18,6 +17,7 @@ use Rattle.execution.specs.declared.fault.RunFault.{RunFault}
 use Rattle.execution.specs.declared.fault.RunFault.TheVariants as X
 use Rattle.execution.specs.Faults.{IfPlan}
 use Rattle.execution.specs.Formats.{lines_in}
+use Rattle.execution.specs.Plans.{PlannedQuery}
 use Rattle.execution.specs.Executed.{HoldsFront, IsExecuted, IsStopped, IsUntouched, OnTable, Writes, WritesAll, rows_in}
 
 told_map : (told : Option Folder) (P Q : Folder → Type 0) → ((folder : Folder) → P folder → Q folder) → Told told P → Told told Q
@@ -30,10 +30,10 @@ on_table_map (F.Sampled options limit) waits pattern None spans P Q so p = tt
 on_table_map (F.Sampled options limit) waits pattern (Some folder) spans P Q so p = λ kept. so _ (p kept)
 
 -- what is so of what is asked of a plan's rows
-abbrev pub Follows : (Asked → List Row → Type 0) → (Asked → List Row → Type 0) → (Planned → Asked) → Type 0
-Follows Has Other asked = (plan : Planned) (rows : List Row) → Has (asked plan) rows → Other (asked plan) rows
+abbrev pub Follows : (Asked → List Row → Type 0) → (Asked → List Row → Type 0) → (PlannedQuery → Asked) → Type 0
+Follows Has Other asked = (plan : PlannedQuery) (rows : List Row) → Has (asked plan) rows → Other (asked plan) rows
 
-pub executed_map : (format : LogFormat) (waits : Bool) (told : Option Folder) (Has Other : Asked → List Row → Type 0) (asked : Planned → Asked) (spec : Spec) (moment : ℤ) (q : model.Query) (spans : List Span) (counts : Counts) → Follows Has Other asked
+pub executed_map : (format : LogFormat) (waits : Bool) (told : Option Folder) (Has Other : Asked → List Row → Type 0) (asked : PlannedQuery → Asked) (spec : Spec) (moment : ℤ) (q : model.Query) (spans : List Span) (counts : Counts) → Follows Has Other asked
     → IsExecuted format waits told Has asked spec moment q spans counts → IsExecuted format waits told Other asked spec moment q spans counts
 executed_map format waits told Has Other asked spec moment q spans counts so ran =
     on_table_map format waits spec.ts_format told spans (WritesAll format waits told Has asked spec moment q spans counts) (WritesAll format waits told Other asked spec moment q spans counts)
@@ -44,7 +44,7 @@ executed_map format waits told Has Other asked spec moment q spans counts so ran
           (λ folder f kept. let r = f kept in record { has = so w.plan (rows_in format waits spec.ts_format w.plan folder spans) r.has; processed = r.processed; output = r.output; bad = r.bad }) w.written;
     }) ran
 
-front_map : (format : LogFormat) (waits : Bool) (told : Option Folder) (Nothing None' : Type 0) (Front Other : Asked → List Row → Type 0) (asked : Planned → Asked) (spec : Spec) (moment : ℤ) (q : model.Query) (spans : List Span) (table : TableColumns) → (Nothing → None') → Follows Front Other asked
+front_map : (format : LogFormat) (waits : Bool) (told : Option Folder) (Nothing None' : Type 0) (Front Other : Asked → List Row → Type 0) (asked : PlannedQuery → Asked) (spec : Spec) (moment : ℤ) (q : model.Query) (spans : List Span) (table : TableColumns) → (Nothing → None') → Follows Front Other asked
     → Nothing ⊎ HoldsFront format waits told Front asked spec moment q spans table → None' ⊎ HoldsFront format waits told Other asked spec moment q spans table
 front_map format waits told Nothing None' Front Other asked spec moment q spans table none so (inl nothing) = inl (none nothing)
 front_map format waits told Nothing None' Front Other asked spec moment q spans table none so (inr holds) = inr (record {
@@ -54,7 +54,7 @@ front_map format waits told Nothing None' Front Other asked spec moment q spans 
       (λ folder f kept. so holds.plan (rows_in format waits spec.ts_format holds.plan folder spans) (f kept)) holds.front;
 })
 
-pub stopped_map : (format : LogFormat) (waits : Bool) (told : Option Folder) (Nothing None' : Type 0) (Front Other : Asked → List Row → Type 0) (asked : Planned → Asked) (spec : Spec) (moment : ℤ) (q : model.Query) (spans : List Span) → (Nothing → None') → Follows Front Other asked
+pub stopped_map : (format : LogFormat) (waits : Bool) (told : Option Folder) (Nothing None' : Type 0) (Front Other : Asked → List Row → Type 0) (asked : PlannedQuery → Asked) (spec : Spec) (moment : ℤ) (q : model.Query) (spans : List Span) → (Nothing → None') → Follows Front Other asked
     → IsStopped format waits told Nothing Front asked spec moment q spans → IsStopped format waits told None' Other asked spec moment q spans
 stopped_map format waits told Nothing None' Front Other asked spec moment q spans none so stop =
     on_table_map format waits spec.ts_format told spans (λ table. Nothing ⊎ HoldsFront format waits told Front asked spec moment q spans table) (λ table. None' ⊎ HoldsFront format waits told Other asked spec moment q spans table)

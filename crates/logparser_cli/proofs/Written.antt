@@ -10,13 +10,13 @@ use Rattle.log_reading.specs.declared.span.Span.{Span}
 use Rattle.lp_outside.specs.declared.stage.Mark.{Mark}
 use Rattle.lp_outside.specs.Streams.{stream_state}
 use Rattle.order_top.specs.Finish.{Row}
-use Rattle.query_types.specs.Planned.{Planned}
 use Rattle.row_output.specs.Asked.{AreGood, Asked, Files, OutputText, left_of, text_in}
 use Rattle.row_output.specs.Rows.{Holds, HoldsAt, Stops, StopsAt}
 use Rattle.text_output.specs.Output.{kind_of}
 use Rattle.text_output.specs.declared.target.Output.{Output}
 use Rattle.tpl_output.specs.Sections.{Sections}
 use Rattle.execution.specs.Outputs.{asked_in, files_named, forbidden_by, is_standard, is_stdout}
+use Rattle.execution.specs.Plans.{PlannedQuery}
 use Rattle.execution.specs.Texts.{into_in}
 use Rattle.logparser_cli.specs.Outputs.{AreCut, AreOut, HasFront, HasWritten, IsUnwritten, held}
 use Rattle.logparser_cli.proofs.Filed.{are_left, are_written, file_kind, names_split, seen_by}
@@ -30,7 +30,7 @@ named_standard spec logs None = refl
 named_standard spec logs (Some name) = some_unless (is_stdout name.text) (record { pattern = name.text; forbidden = forbidden_by spec logs; mode = spec.file_mode })
 
 -- whether a query's rows go to files
-pub goes_to_files : (spec : Spec) (template : Sections) (moment : ℤ) (q : model.Query) (spans : List Span) (plan : Planned) (standard : Bool) → is_standard (into_in q) ≡ standard → is_some (asked_in spec template moment q spans plan).files ≡ not standard
+pub goes_to_files : (spec : Spec) (template : Sections) (moment : ℤ) (q : model.Query) (spans : List Span) (plan : PlannedQuery) (standard : Bool) → is_standard (into_in q) ≡ standard → is_some (asked_in spec template moment q spans plan).files ≡ not standard
 goes_to_files spec template moment q spans plan standard is = named_standard spec (map (λ (span : Span). span.name) spans) (into_in q) ∙ ap not is
 
 out_at : {S : Type 0} (written : S → Option (List ℕ)) (ended : S → List ℕ → ℕ → Mark → Type 0) (start now : S) (files : Option Files) (text : OutputText) (rows : List Row) (outputs : List Output) (tells : Type 0) (contents : Contents) → is_some files ≡ false

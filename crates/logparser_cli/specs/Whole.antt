@@ -9,6 +9,7 @@ use Rattle.checkpoint.specs.Wholes.{whole_spans}
 use Rattle.execution.specs.Executed.{IsTyped, Writes, rows_in, told_table}
 use Rattle.execution.specs.Formats.{lines_in, log_format}
 use Rattle.execution.specs.Outputs.{asked_in}
+use Rattle.execution.specs.Plans.{PlannedQuery, query_plan}
 use Rattle.execution.specs.declared.formats.LogFormat.{LogFormat}
 use Rattle.execution.specs.declared.formats.LogFormat.TheVariants as F
 use Rattle.input_tables.specs.Tables.{table_of}
@@ -19,7 +20,6 @@ use Rattle.order_top.specs.Finish.{Row}
 use Rattle.query_run.specs.declared.executing.Counts.{Counts}
 use Rattle.query_types.specs.declared.fault.TypeFault.{TypeFault}
 use Rattle.query_types.specs.declared.table.TableColumns.{TableColumns}
-use Rattle.query_types.specs.Planned.{Planned, plan_of}
 use Rattle.row_output.specs.Asked.{Asked}
 use Rattle.row_output.specs.Rows.{IsRefused}
 use Rattle.row_output.specs.declared.fault.Refused.{Refused}
@@ -45,8 +45,8 @@ told_statistics false counts = []
 
 -- the rows of the query's plan over a table are written
 pub record WritesAll (told : Option Folder) (old new : Held) (template : Sections) (spec : Spec) (moment : ℤ) (q : model.Query) (logs : List NameLength) (counts : Counts) (table : TableColumns) : Type 0 where
-  pub plan : Planned
-  pub is_planned : plan_of table moment q ≡ Ok plan
+  pub plan : PlannedQuery
+  pub is_planned : query_plan table moment q ≡ Ok plan
   pub written : Told told (Writes (HasWritten old new) (asked_in spec template moment q (whole_spans logs)) spec (log_format spec q) false plan (whole_spans logs) counts)
 
 -- a whole run: what the query leaves of its rows over the whole logs is written, and `err` has gained the statistics; of bad
@@ -61,8 +61,8 @@ pub record IsWhole (old new : World) (template : Sections) (spec : Spec) (moment
 
 -- a fact on the rows of the query's plan over a table, and on what is asked of them
 pub record OnRows (told : Option Folder) (P : Asked → List Row → Type 0) (template : Sections) (spec : Spec) (moment : ℤ) (q : model.Query) (logs : List NameLength) (table : TableColumns) : Type 0 where
-  pub plan : Planned
-  pub is_planned : plan_of table moment q ≡ Ok plan
+  pub plan : PlannedQuery
+  pub is_planned : query_plan table moment q ≡ Ok plan
   pub holds : Told told (λ folder. P (asked_in spec template moment q (whole_spans logs) plan) (rows_in (log_format spec q) false spec.ts_format plan folder (whole_spans logs)))
 
 -- nothing was written, or some of it
@@ -95,5 +95,5 @@ pub record IsUnplaced (before now : Option Folder) (old new : Held) (template : 
 pub record IsUnplanned (before now : Option Folder) (old new : Held) (spec : Spec) (moment : ℤ) (q : model.Query) (fault : TypeFault) : Type 0 where
   pub logs : List NameLength
   pub are_logs : AreLogs before now q logs
-  pub unplanned : OnWhole (log_format spec q) spec.ts_format now logs (λ table. plan_of table moment q ≡ Err fault)
+  pub unplanned : OnWhole (log_format spec q) spec.ts_format now logs (λ table. query_plan table moment q ≡ Err fault)
   pub unwritten : OnWhole (log_format spec q) spec.ts_format now logs (λ table. IsUnwritten old new)

@@ -23,11 +23,10 @@ use Rattle.output_formats.specs.declared.csv.Headers.TheVariants as H
 use Rattle.execution.specs.declared.formats.LogFormat.{LogFormat}
 use Rattle.execution.specs.Formats.{format_of, input_of, log_format}
 use Rattle.execution.specs.Outputs.{files_named}
+use Rattle.execution.specs.Plans.{PlannedQuery, asked_for, query_plan}
 use Rattle.execution.specs.Texts.{into_in, output_of, run_text, text_as}
-use Rattle.query_types.specs.Planned.{Planned, plan_of}
 use Rattle.row_output.specs.Asked.{Asked as AskedRows, Files, RowsText, left_of, text_in}
 use Rattle.run_model.specs.Meanings.{Asked, Part, Split, Given, IsOne}
-use Rattle.sampled_run.specs.Finishes.{asked_by}
 use Rattle.tpl_output.specs.Sections.{Sections, sections_of}
 use Rattle.program_meaning.specs.Asked.{HasOptions, Asks}
 use Rattle.program_meaning.specs.Gives.{GivesOver, Gives, past_in, rows_over, splits_of, table_over}
@@ -131,7 +130,7 @@ text_same s O.Tsv one other moment same = refl
 text_same s O.W3c one other moment same = refl
 text_same s O.Tpl one other moment same = ap (λ (t : Sections). text_as s O.Tpl t moment) (same refl)
 
-same_plan : {E : Type 0} (p q : Planned) (r : Result Planned E) → r ≡ Ok p → r ≡ Ok q → p ≡ q
+same_plan : {E : Type 0} (p q : PlannedQuery) (r : Result PlannedQuery E) → r ≡ Ok p → r ≡ Ok q → p ≡ q
 same_plan p q r a b = cc
 
 same_files : (p q : Files) (r : Option Files) → r ≡ Some p → r ≡ Some q → p ≡ q
@@ -143,8 +142,8 @@ one_given asked past x y a b =
     let queries : a.q ≡ b.q = sym (a.asks.only b.q b.asks.query.parses) in
     let formats : log_format a.spec a.q ≡ log_format b.spec b.q = sym (format_bare a.spec (input_of a.spec a.q)) ∙ ((λ i. log_format (specs i) (queries i)) ∙ format_bare b.spec (input_of b.spec b.q)) in
     let patterns : a.spec.ts_format ≡ b.spec.ts_format = λ i. (specs i).ts_format in
-    let plans : a.plan ≡ b.plan = same_plan a.plan b.plan (plan_of (table_over (log_format a.spec a.q) a.spec.ts_format past) asked.moment a.q) a.is_planned
-    ((λ i. plan_of (table_over (formats i) (patterns i) past) asked.moment (queries i)) ∙ b.is_planned) in
+    let plans : a.plan ≡ b.plan = same_plan a.plan b.plan (query_plan (table_over (log_format a.spec a.q) a.spec.ts_format past) asked.moment a.q) a.is_planned
+    ((λ i. query_plan (table_over (formats i) (patterns i) past) asked.moment (queries i)) ∙ b.is_planned) in
     let names : files_named a.spec [] (into_in a.q) ≡ files_named b.spec [] (into_in b.q) = sym (files_bare a.spec (into_in a.q)) ∙ ((λ i. files_named (specs i) [] (into_in (queries i))) ∙ files_bare b.spec (into_in b.q)) in
     let files : a.files ≡ b.files = same_files a.files b.files (files_named a.spec [] (into_in a.q)) a.are_files (names ∙ b.are_files) in
     let outputs : output_of a.spec a.q ≡ output_of b.spec b.q = λ i. output_of (specs i) (queries i) in
@@ -152,8 +151,8 @@ one_given asked past x y a b =
     let texts : run_text a.spec a.template asked.moment a.q ≡ run_text b.spec b.template asked.moment b.q =
     text_same a.spec (output_of a.spec a.q) a.template b.template asked.moment templates
     ∙ (sym (text_bare a.spec (output_of a.spec a.q) b.template asked.moment) ∙ ((λ i. text_as (specs i) (outputs i) b.template asked.moment) ∙ text_bare b.spec (output_of b.spec b.q) b.template asked.moment)) in
-    let rows_asked : asked_by (Some a.files) (run_text a.spec a.template asked.moment a.q) a.q a.plan ≡ asked_by (Some b.files) (run_text b.spec b.template asked.moment b.q) b.q b.plan =
-    λ i. asked_by (Some (files i)) (texts i) (queries i) (plans i) in
+    let rows_asked : asked_for (Some a.files) (run_text a.spec a.template asked.moment a.q) a.q a.plan ≡ asked_for (Some b.files) (run_text b.spec b.template asked.moment b.q) b.q b.plan =
+    λ i. asked_for (Some (files i)) (texts i) (queries i) (plans i) in
     let rows : rows_over (log_format a.spec a.q) a.spec.ts_format a.plan past ≡ rows_over (log_format b.spec b.q) b.spec.ts_format b.plan past = λ i. rows_over (formats i) (patterns i) (plans i) past in
     let splits : x.splits ≡ y.splits = a.puts.splits ∙ ((λ i. splits_of (files i) (text_in (rows_asked i)) (left_of (rows_asked i) (rows i))) ∙ sym b.puts.splits) in
     let counts : x.rows ≡ y.rows = a.puts.rows_are ∙ ((λ i. Rattle.std.specs.Prelude.length (left_of (rows_asked i) (rows i))) ∙ sym b.puts.rows_are) in

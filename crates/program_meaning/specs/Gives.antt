@@ -11,21 +11,17 @@ use Rattle.command_words.specs.declared.formats.OutputFormat.TheVariants as O
 use Rattle.command_words.specs.declared.spec.Spec.{Spec}
 use Rattle.execution.specs.declared.formats.LogFormat.{LogFormat}
 use Rattle.execution.specs.declared.formats.LogFormat.TheVariants as F
+use Rattle.execution.specs.Built.{is_run_built}
 use Rattle.execution.specs.Formats.{log_format}
 use Rattle.execution.specs.Outputs.{files_named}
+use Rattle.execution.specs.Plans.{PlannedQuery, asked_for, query_plan, table_rows, told_rows}
 use Rattle.execution.specs.Texts.{into_in, output_of, run_text}
-use Rattle.input_tables.specs.Tables.{readings_of, table_of}
+use Rattle.input_tables.specs.Tables.{table_of}
 use Rattle.log_reading.specs.Found.{Found, found_of}
 use Rattle.multiplex.specs.Splitting.{OutputRows, split}
-use Rattle.plan_rows.specs.Picks.{plan_picks}
-use Rattle.query_run.specs.Rows.{picked}
-use Rattle.query_types.specs.Built.{is_built}
 use Rattle.query_types.specs.declared.table.TableColumns.{TableColumns}
-use Rattle.query_types.specs.Planned.{Planned, plan_of}
 use Rattle.row_output.specs.Asked.{Asked as AskedRows, Files, OutputText, left_of, text_in}
 use Rattle.run_model.specs.Meanings.{Asked, Part, Split, Given}
-use Rattle.sampled_run.specs.Finishes.{asked_by}
-use Rattle.sampled_run.specs.Rules.{rows_with}
 use Rattle.tpl_output.specs.Sections.{Sections, fault_of, sections_of}
 use Rattle.program_meaning.specs.Asked.{Asks}
 
@@ -41,15 +37,15 @@ first_in (part ∷ parts) = or_first (log_with part.identity part.columns) (firs
 abbrev pub past_in : List Part → Past
 past_in parts = record { first = first_in parts; founds = flat_map part_found parts }
 
--- the table of a format over them, and the rows of a plan
+-- the table of a format over them, and the output rows of a plan
 
 abbrev pub table_over : LogFormat → List Piece → Past → TableColumns
 table_over (F.Tabled format) pattern past = table_of format
 table_over (F.Sampled options limit) pattern past = table_with (told_at limit pattern past)
 
-abbrev pub rows_over : LogFormat → List Piece → Planned → Past → List (List Value)
-rows_over (F.Tabled format) pattern plan past = picked (plan_picks (readings_of format) plan.items plan.condition) past.founds
-rows_over (F.Sampled options limit) pattern plan past = rows_with pattern (told_at limit pattern past) plan past.founds
+abbrev pub rows_over : LogFormat → List Piece → PlannedQuery → Past → List (List Value)
+rows_over (F.Tabled format) pattern plan past = table_rows format plan past.founds
+rows_over (F.Sampled options limit) pattern plan past = told_rows pattern (told_at limit pattern past) plan past.founds
 
 -- an output with its text, in a file that has nothing and in one that has something
 abbrev pub split_of : OutputText → OutputRows → Split
@@ -72,14 +68,14 @@ pub record GivesOver (asked : Asked) (past : Past) (given : Given) : Type 0 wher
   pub spec : Spec
   pub q : Query
   pub asks : Asks asked spec q
-  pub built : is_built q ≡ true
+  pub built : is_run_built spec q ≡ true
   pub template : Sections
   pub is_template : HasTemplate spec q asked.template template
-  pub plan : Planned
-  pub is_planned : plan_of (table_over (log_format spec q) spec.ts_format past) asked.moment q ≡ Ok plan
+  pub plan : PlannedQuery
+  pub is_planned : query_plan (table_over (log_format spec q) spec.ts_format past) asked.moment q ≡ Ok plan
   pub files : Files
   pub are_files : files_named spec [] (into_in q) ≡ Some files
-  pub puts : PutsOut files (asked_by (Some files) (run_text spec template asked.moment q) q plan) (rows_over (log_format spec q) spec.ts_format plan past) given
+  pub puts : PutsOut files (asked_for (Some files) (run_text spec template asked.moment q) q plan) (rows_over (log_format spec q) spec.ts_format plan past) given
 
 -- No list of a subquery is kept, since no query with one is built.
 abbrev pub Gives : Asked → List Part → List (List Kept) → Given → Type 0

@@ -6,28 +6,21 @@ use Rattle.lp_model.specs.Outside.{Told}
 use Rattle.log_reading.specs.Spans.{AreKept, BadLine, took_of}
 use Rattle.text_output.specs.Output.{kind_of}
 use Rattle.query_tree.specs.Views.{query_of}
-use Rattle.query_types.specs.Planned.{Planned}
 use Rattle.query_types.specs.declared.fault.TypeFault.{TypeFault}
 use Rattle.row_output.specs.Asked.{Asked}
 use Rattle.row_output.specs.Rows.{Holds, Stops}
 use Rattle.row_output.specs.Sinks.{files_for}
 use Rattle.row_output.specs.declared.fault.Refused.{Refused}
-use Rattle.sampled_run.specs.Finishes.{asked_by}
 use Rattle.execution.specs.declared.fault.Ran.{Ran}
 use Rattle.execution.specs.declared.formats.LogFormat.{LogFormat}
 use Rattle.execution.specs.declared.formats.LogFormat.TheVariants as F
 use Rattle.execution.specs.Executed.{IsExecuted, IsParseError, IsStopped, IsUnplaced, IsUnplanned, IsUntouched}
 use Rattle.execution.specs.Faults.{IfParse, IfPlan, IfRefused}
 use Rattle.execution.specs.Formats.{input_of, lines_in, log_format}
+use Rattle.execution.specs.Plans.{PlannedQuery, asked_for}
 use Rattle.execution.proofs.Asking.{as_asked, stopped_at_once}
-use Rattle.execution.proofs.FormatLemmas.{built_query, separated}
+use Rattle.execution.proofs.FormatLemmas.{separated}
 use Rattle.execution.proofs.executing.execute.Goals as goal
-
-pub execute_tabled-requires-clause-built : goal.execute_tabled-requires-clause-built
-execute_tabled-requires-clause-built g c = built_query c.args.spec.now (query_of c.args.query.now) c.requires.built
-
-pub execute_sampled-requires-clause-built : goal.execute_sampled-requires-clause-built
-execute_sampled-requires-clause-built g c = built_query c.args.spec.now (query_of c.args.query.now) c.requires.built
 
 pub execute_sampled-requires-clause-separator : goal.execute_sampled-requires-clause-separator
 execute_sampled-requires-clause-separator g c =
@@ -47,10 +40,10 @@ returns-in-Tabled-clause-ran g c =
     let u = c.args.stage.now in
     let v = c.execute_tabled.new.stage in
     let q = query_of c.args.query.now in
-    let Of : LogFormat → (Planned → Asked) → Type 0 = λ f a. IfOk c.execute_tabled.result (λ (ran : Ran). IsExecuted f c.args.waits told (λ asked rows. Holds kind asked u rows ran.outputs v) a c.args.spec.now c.args.moment q c.args.spans.now ran.counts) in
+    let Of : LogFormat → (PlannedQuery → Asked) → Type 0 = λ f a. IfOk c.execute_tabled.result (λ (ran : Ran). IsExecuted f c.args.waits told (λ asked rows. Holds kind asked u rows ran.outputs v) a c.args.spec.now c.args.moment q c.args.spans.now ran.counts) in
     let asked = as_asked c.args.spec.now q c.args.spans.now c.output_of.result _ c.args.moment (files_for c.in-Ok.into) (wanted_text c.wanted_as-wanted.result c.args.moment) c.in-Ok.ensures.files c.output_of.ensures (c.wanted_as-wanted.ensures c.args.moment) in
-    subst (λ (a : Planned → Asked). Of (log_format c.args.spec.now q) a) asked
-    (subst (λ (f : LogFormat). Of f (asked_by (files_for c.in-Ok.into) (wanted_text c.wanted_as-wanted.result c.args.moment) q)) (sym c.in-Tabled.is ∙ c.log_format.ensures) (simp to_z-of_z at c.execute_tabled.ensures.ran))
+    subst (λ (a : PlannedQuery → Asked). Of (log_format c.args.spec.now q) a) asked
+    (subst (λ (f : LogFormat). Of f (asked_for (files_for c.in-Ok.into) (wanted_text c.wanted_as-wanted.result c.args.moment) q)) (sym c.in-Tabled.is ∙ c.log_format.ensures) (simp to_z-of_z at c.execute_tabled.ensures.ran))
 
 pub returns-in-Tabled-clause-stopped : goal.returns-in-Tabled-clause-stopped
 returns-in-Tabled-clause-stopped g c =
@@ -60,20 +53,20 @@ returns-in-Tabled-clause-stopped g c =
     let u = c.args.stage.now in
     let v = c.execute_tabled.new.stage in
     let q = query_of c.args.query.now in
-    let Of : LogFormat → (Planned → Asked) → Type 0 = λ f a. OnErr c.execute_tabled.result (IsStopped f c.args.waits told (v ≡ u) (λ asked rows. Stops kind asked u rows v) a c.args.spec.now c.args.moment q c.args.spans.now) in
+    let Of : LogFormat → (PlannedQuery → Asked) → Type 0 = λ f a. OnErr c.execute_tabled.result (IsStopped f c.args.waits told (v ≡ u) (λ asked rows. Stops kind asked u rows v) a c.args.spec.now c.args.moment q c.args.spans.now) in
     let asked = as_asked c.args.spec.now q c.args.spans.now c.output_of.result _ c.args.moment (files_for c.in-Ok.into) (wanted_text c.wanted_as-wanted.result c.args.moment) c.in-Ok.ensures.files c.output_of.ensures (c.wanted_as-wanted.ensures c.args.moment) in
-    subst (λ (a : Planned → Asked). Of (log_format c.args.spec.now q) a) asked
-    (subst (λ (f : LogFormat). Of f (asked_by (files_for c.in-Ok.into) (wanted_text c.wanted_as-wanted.result c.args.moment) q)) (sym c.in-Tabled.is ∙ c.log_format.ensures) (simp to_z-of_z at c.execute_tabled.ensures.stopped))
+    subst (λ (a : PlannedQuery → Asked). Of (log_format c.args.spec.now q) a) asked
+    (subst (λ (f : LogFormat). Of f (asked_for (files_for c.in-Ok.into) (wanted_text c.wanted_as-wanted.result c.args.moment) q)) (sym c.in-Tabled.is ∙ c.log_format.ensures) (simp to_z-of_z at c.execute_tabled.ensures.stopped))
 
 pub returns-in-Tabled-clause-refused : goal.returns-in-Tabled-clause-refused
 returns-in-Tabled-clause-refused g c =
     let range : FitsSigned w64 c.args.moment = c.ranges.moment in
     let told = g.L.LogSource.folder c.execute_tabled.new.logs in
     let q = query_of c.args.query.now in
-    let Of : LogFormat → (Planned → Asked) → Type 0 = λ f a. IfRefused c.execute_tabled.result (λ (why : Refused). IsUnplaced f c.args.waits told a c.args.spec.now c.args.moment q c.args.spans.now why) in
+    let Of : LogFormat → (PlannedQuery → Asked) → Type 0 = λ f a. IfRefused c.execute_tabled.result (λ (why : Refused). IsUnplaced f c.args.waits told a c.args.spec.now c.args.moment q c.args.spans.now why) in
     let asked = as_asked c.args.spec.now q c.args.spans.now c.output_of.result _ c.args.moment (files_for c.in-Ok.into) (wanted_text c.wanted_as-wanted.result c.args.moment) c.in-Ok.ensures.files c.output_of.ensures (c.wanted_as-wanted.ensures c.args.moment) in
-    subst (λ (a : Planned → Asked). Of (log_format c.args.spec.now q) a) asked
-    (subst (λ (f : LogFormat). Of f (asked_by (files_for c.in-Ok.into) (wanted_text c.wanted_as-wanted.result c.args.moment) q)) (sym c.in-Tabled.is ∙ c.log_format.ensures) (simp to_z-of_z at c.execute_tabled.ensures.refused))
+    subst (λ (a : PlannedQuery → Asked). Of (log_format c.args.spec.now q) a) asked
+    (subst (λ (f : LogFormat). Of f (asked_for (files_for c.in-Ok.into) (wanted_text c.wanted_as-wanted.result c.args.moment) q)) (sym c.in-Tabled.is ∙ c.log_format.ensures) (simp to_z-of_z at c.execute_tabled.ensures.refused))
 
 pub returns-in-Tabled-clause-plan : goal.returns-in-Tabled-clause-plan
 returns-in-Tabled-clause-plan g c =
@@ -105,10 +98,10 @@ returns-in-Sampled-clause-ran g c =
     let u = c.args.stage.now in
     let v = c.execute_sampled.new.stage in
     let q = query_of c.args.query.now in
-    let Of : LogFormat → (Planned → Asked) → Type 0 = λ f a. IfOk c.execute_sampled.result (λ (ran : Ran). IsExecuted f c.args.waits told (λ asked rows. Holds kind asked u rows ran.outputs v) a c.args.spec.now c.args.moment q c.args.spans.now ran.counts) in
+    let Of : LogFormat → (PlannedQuery → Asked) → Type 0 = λ f a. IfOk c.execute_sampled.result (λ (ran : Ran). IsExecuted f c.args.waits told (λ asked rows. Holds kind asked u rows ran.outputs v) a c.args.spec.now c.args.moment q c.args.spans.now ran.counts) in
     let asked = as_asked c.args.spec.now q c.args.spans.now c.output_of.result _ c.args.moment (files_for c.in-Ok.into) (wanted_text c.wanted_as-wanted.result c.args.moment) c.in-Ok.ensures.files c.output_of.ensures (c.wanted_as-wanted.ensures c.args.moment) in
-    subst (λ (a : Planned → Asked). Of (log_format c.args.spec.now q) a) asked
-    (subst (λ (f : LogFormat). Of f (asked_by (files_for c.in-Ok.into) (wanted_text c.wanted_as-wanted.result c.args.moment) q)) (sym c.in-Sampled.is ∙ c.log_format.ensures) (simp to_z-of_z at c.execute_sampled.ensures.ran))
+    subst (λ (a : PlannedQuery → Asked). Of (log_format c.args.spec.now q) a) asked
+    (subst (λ (f : LogFormat). Of f (asked_for (files_for c.in-Ok.into) (wanted_text c.wanted_as-wanted.result c.args.moment) q)) (sym c.in-Sampled.is ∙ c.log_format.ensures) (simp to_z-of_z at c.execute_sampled.ensures.ran))
 
 pub returns-in-Sampled-clause-stopped : goal.returns-in-Sampled-clause-stopped
 returns-in-Sampled-clause-stopped g c =
@@ -118,20 +111,20 @@ returns-in-Sampled-clause-stopped g c =
     let u = c.args.stage.now in
     let v = c.execute_sampled.new.stage in
     let q = query_of c.args.query.now in
-    let Of : LogFormat → (Planned → Asked) → Type 0 = λ f a. OnErr c.execute_sampled.result (IsStopped f c.args.waits told (v ≡ u) (λ asked rows. Stops kind asked u rows v) a c.args.spec.now c.args.moment q c.args.spans.now) in
+    let Of : LogFormat → (PlannedQuery → Asked) → Type 0 = λ f a. OnErr c.execute_sampled.result (IsStopped f c.args.waits told (v ≡ u) (λ asked rows. Stops kind asked u rows v) a c.args.spec.now c.args.moment q c.args.spans.now) in
     let asked = as_asked c.args.spec.now q c.args.spans.now c.output_of.result _ c.args.moment (files_for c.in-Ok.into) (wanted_text c.wanted_as-wanted.result c.args.moment) c.in-Ok.ensures.files c.output_of.ensures (c.wanted_as-wanted.ensures c.args.moment) in
-    subst (λ (a : Planned → Asked). Of (log_format c.args.spec.now q) a) asked
-    (subst (λ (f : LogFormat). Of f (asked_by (files_for c.in-Ok.into) (wanted_text c.wanted_as-wanted.result c.args.moment) q)) (sym c.in-Sampled.is ∙ c.log_format.ensures) (simp to_z-of_z at c.execute_sampled.ensures.stopped))
+    subst (λ (a : PlannedQuery → Asked). Of (log_format c.args.spec.now q) a) asked
+    (subst (λ (f : LogFormat). Of f (asked_for (files_for c.in-Ok.into) (wanted_text c.wanted_as-wanted.result c.args.moment) q)) (sym c.in-Sampled.is ∙ c.log_format.ensures) (simp to_z-of_z at c.execute_sampled.ensures.stopped))
 
 pub returns-in-Sampled-clause-refused : goal.returns-in-Sampled-clause-refused
 returns-in-Sampled-clause-refused g c =
     let range : FitsSigned w64 c.args.moment = c.ranges.moment in
     let told = g.L.LogSource.folder c.execute_sampled.new.logs in
     let q = query_of c.args.query.now in
-    let Of : LogFormat → (Planned → Asked) → Type 0 = λ f a. IfRefused c.execute_sampled.result (λ (why : Refused). IsUnplaced f c.args.waits told a c.args.spec.now c.args.moment q c.args.spans.now why) in
+    let Of : LogFormat → (PlannedQuery → Asked) → Type 0 = λ f a. IfRefused c.execute_sampled.result (λ (why : Refused). IsUnplaced f c.args.waits told a c.args.spec.now c.args.moment q c.args.spans.now why) in
     let asked = as_asked c.args.spec.now q c.args.spans.now c.output_of.result _ c.args.moment (files_for c.in-Ok.into) (wanted_text c.wanted_as-wanted.result c.args.moment) c.in-Ok.ensures.files c.output_of.ensures (c.wanted_as-wanted.ensures c.args.moment) in
-    subst (λ (a : Planned → Asked). Of (log_format c.args.spec.now q) a) asked
-    (subst (λ (f : LogFormat). Of f (asked_by (files_for c.in-Ok.into) (wanted_text c.wanted_as-wanted.result c.args.moment) q)) (sym c.in-Sampled.is ∙ c.log_format.ensures) (simp to_z-of_z at c.execute_sampled.ensures.refused))
+    subst (λ (a : PlannedQuery → Asked). Of (log_format c.args.spec.now q) a) asked
+    (subst (λ (f : LogFormat). Of f (asked_for (files_for c.in-Ok.into) (wanted_text c.wanted_as-wanted.result c.args.moment) q)) (sym c.in-Sampled.is ∙ c.log_format.ensures) (simp to_z-of_z at c.execute_sampled.ensures.refused))
 
 pub returns-in-Sampled-clause-plan : goal.returns-in-Sampled-clause-plan
 returns-in-Sampled-clause-plan g c =

@@ -5,14 +5,14 @@ use Rattle.text_output.specs.Output.{kind_of}
 use Rattle.query_tree.specs.Views.{query_of}
 use Rattle.row_output.specs.Sinks.{files_for}
 use Rattle.delimited_input.specs.Lines.{delimited_lines}
-use Rattle.sampled_run.specs.Finishes.{asked_by}
+use Rattle.execution.specs.Plans.{asked_for}
 use Rattle.execution.proofs.Taking.{taken}
 use Rattle.execution.proofs.SampledRuns.{executed, stopped, unplaced, unplaced_stopped, unplanned, untouched, refused_stopped, parse_error}
 use Rattle.execution.proofs.sampled.execute_sampled.Goals as goal
 
 pub returns-in-Ok-clause-ran : goal.returns-in-Ok-clause-ran
 returns-in-Ok-clause-ran g c =
-    executed (kind_of g.G.Stage.state g.G.Stage.ended) (g.L.LogSource.folder c.run_sampled.new.logs) c.args.stage.now c.run_sampled.new.stage (asked_by (files_for c.args.into) (wanted_text c.args.wanted c.args.moment.seconds) (query_of c.args.query.now)) c.args.spec.now c.args.moment.seconds (query_of c.args.query.now) c.args.options c.args.limit c.args.waits
+    executed (kind_of g.G.Stage.state g.G.Stage.ended) (g.L.LogSource.folder c.sample_query.new.logs) c.args.stage.now c.sample_query.new.stage (asked_for (files_for c.args.into) (wanted_text c.args.wanted c.args.moment.seconds) (query_of c.args.query.now)) c.args.spec.now c.args.moment.seconds (query_of c.args.query.now) c.args.options c.args.limit c.args.waits
     c.as_slice.result.now c.args.spans.now c.in-Ok.run' c.as_slice.ensures c.in-Ok.ensures.ran
 
 pub returns-in-Ok-clause-within : goal.returns-in-Ok-clause-within
@@ -20,54 +20,54 @@ returns-in-Ok-clause-within g c = subst (λ (most : Option ℕ). IsWithin most c
 
 pub returns-in-Ok-clause-took : goal.returns-in-Ok-clause-took
 returns-in-Ok-clause-took g c =
-    taken (g.L.LogSource.folder c.run_sampled.new.logs) (delimited_lines c.args.options) c.args.waits c.as_slice.result.now c.args.spans.now c.new-took.result c.run_sampled.new.took c.as_slice.ensures c.new-took.ensures c.in-Ok.ensures.took
+    taken (g.L.LogSource.folder c.sample_query.new.logs) (delimited_lines c.args.options) c.args.waits c.as_slice.result.now c.args.spans.now c.new-took.result c.sample_query.new.took c.as_slice.ensures c.new-took.ensures c.in-Ok.ensures.took
 
 pub returns-in-Err-Bad-clause-stopped : goal.returns-in-Err-Bad-clause-stopped
 returns-in-Err-Bad-clause-stopped g c =
-    stopped (kind_of g.G.Stage.state g.G.Stage.ended) (g.L.LogSource.folder c.run_sampled.new.logs) c.args.stage.now c.run_sampled.new.stage (asked_by (files_for c.args.into) (wanted_text c.args.wanted c.args.moment.seconds) (query_of c.args.query.now)) c.args.spec.now c.args.moment.seconds (query_of c.args.query.now) c.args.options c.args.limit c.args.waits
+    stopped (kind_of g.G.Stage.state g.G.Stage.ended) (g.L.LogSource.folder c.sample_query.new.logs) c.args.stage.now c.sample_query.new.stage (asked_for (files_for c.args.into) (wanted_text c.args.wanted c.args.moment.seconds) (query_of c.args.query.now)) c.args.spec.now c.args.moment.seconds (query_of c.args.query.now) c.args.options c.args.limit c.args.waits
     c.as_slice.result.now c.args.spans.now c.as_slice.ensures (rw c.in-Err-Bad.field-0-is at c.in-Err-Bad.ensures.stopped)
 
 pub returns-in-Err-Logs-clause-stopped : goal.returns-in-Err-Logs-clause-stopped
 returns-in-Err-Logs-clause-stopped g c =
-    stopped (kind_of g.G.Stage.state g.G.Stage.ended) (g.L.LogSource.folder c.run_sampled.new.logs) c.args.stage.now c.run_sampled.new.stage (asked_by (files_for c.args.into) (wanted_text c.args.wanted c.args.moment.seconds) (query_of c.args.query.now)) c.args.spec.now c.args.moment.seconds (query_of c.args.query.now) c.args.options c.args.limit c.args.waits
+    stopped (kind_of g.G.Stage.state g.G.Stage.ended) (g.L.LogSource.folder c.sample_query.new.logs) c.args.stage.now c.sample_query.new.stage (asked_for (files_for c.args.into) (wanted_text c.args.wanted c.args.moment.seconds) (query_of c.args.query.now)) c.args.spec.now c.args.moment.seconds (query_of c.args.query.now) c.args.options c.args.limit c.args.waits
     c.as_slice.result.now c.args.spans.now c.as_slice.ensures (rw c.in-Err-Logs.field-0-is at c.in-Err-Logs.ensures.stopped)
 
 pub returns-in-Err-Output-clause-stopped : goal.returns-in-Err-Output-clause-stopped
 returns-in-Err-Output-clause-stopped g c =
-    stopped (kind_of g.G.Stage.state g.G.Stage.ended) (g.L.LogSource.folder c.run_sampled.new.logs) c.args.stage.now c.run_sampled.new.stage (asked_by (files_for c.args.into) (wanted_text c.args.wanted c.args.moment.seconds) (query_of c.args.query.now)) c.args.spec.now c.args.moment.seconds (query_of c.args.query.now) c.args.options c.args.limit c.args.waits
+    stopped (kind_of g.G.Stage.state g.G.Stage.ended) (g.L.LogSource.folder c.sample_query.new.logs) c.args.stage.now c.sample_query.new.stage (asked_for (files_for c.args.into) (wanted_text c.args.wanted c.args.moment.seconds) (query_of c.args.query.now)) c.args.spec.now c.args.moment.seconds (query_of c.args.query.now) c.args.options c.args.limit c.args.waits
     c.as_slice.result.now c.args.spans.now c.as_slice.ensures (rw c.in-Err-Output.field-0-is at c.in-Err-Output.ensures.stopped)
 
 pub returns-clause-stopped : goal.returns-clause-stopped
 returns-clause-stopped g c =
-    stopped (kind_of g.G.Stage.state g.G.Stage.ended) (g.L.LogSource.folder c.run_sampled.new.logs) c.args.stage.now c.run_sampled.new.stage (asked_by (files_for c.args.into) (wanted_text c.args.wanted c.args.moment.seconds) (query_of c.args.query.now)) c.args.spec.now c.args.moment.seconds (query_of c.args.query.now) c.args.options c.args.limit c.args.waits
+    stopped (kind_of g.G.Stage.state g.G.Stage.ended) (g.L.LogSource.folder c.sample_query.new.logs) c.args.stage.now c.sample_query.new.stage (asked_for (files_for c.args.into) (wanted_text c.args.wanted c.args.moment.seconds) (query_of c.args.query.now)) c.args.spec.now c.args.moment.seconds (query_of c.args.query.now) c.args.options c.args.limit c.args.waits
     c.as_slice.result.now c.args.spans.now c.as_slice.ensures (rw c.in-Err-Memory.field-0-is at c.in-Err-Memory.ensures.stopped)
 
 pub returns-in-Err-Refused-clause-stopped : goal.returns-in-Err-Refused-clause-stopped
 returns-in-Err-Refused-clause-stopped g c =
-    unplaced_stopped (kind_of g.G.Stage.state g.G.Stage.ended) (g.L.LogSource.folder c.run_sampled.new.logs) c.args.stage.now c.run_sampled.new.stage (asked_by (files_for c.args.into) (wanted_text c.args.wanted c.args.moment.seconds) (query_of c.args.query.now)) c.args.spec.now c.args.moment.seconds (query_of c.args.query.now) c.args.options c.args.limit c.args.waits
+    unplaced_stopped (kind_of g.G.Stage.state g.G.Stage.ended) (g.L.LogSource.folder c.sample_query.new.logs) c.args.stage.now c.sample_query.new.stage (asked_for (files_for c.args.into) (wanted_text c.args.wanted c.args.moment.seconds) (query_of c.args.query.now)) c.args.spec.now c.args.moment.seconds (query_of c.args.query.now) c.args.options c.args.limit c.args.waits
     c.as_slice.result.now c.args.spans.now _ c.as_slice.ensures (rw c.in-Err-Refused.field-0-is at c.in-Err-Refused.ensures.stopped)
 
 pub returns-in-Err-Refused-clause-refused : goal.returns-in-Err-Refused-clause-refused
 returns-in-Err-Refused-clause-refused g c =
-    rw c.in-Err-Refused.field-0-is (unplaced (kind_of g.G.Stage.state g.G.Stage.ended) (g.L.LogSource.folder c.run_sampled.new.logs) c.args.stage.now c.run_sampled.new.stage (asked_by (files_for c.args.into) (wanted_text c.args.wanted c.args.moment.seconds) (query_of c.args.query.now)) c.args.spec.now c.args.moment.seconds (query_of c.args.query.now) c.args.options c.args.limit c.args.waits
+    rw c.in-Err-Refused.field-0-is (unplaced (kind_of g.G.Stage.state g.G.Stage.ended) (g.L.LogSource.folder c.sample_query.new.logs) c.args.stage.now c.sample_query.new.stage (asked_for (files_for c.args.into) (wanted_text c.args.wanted c.args.moment.seconds) (query_of c.args.query.now)) c.args.spec.now c.args.moment.seconds (query_of c.args.query.now) c.args.options c.args.limit c.args.waits
     c.as_slice.result.now c.args.spans.now _ c.as_slice.ensures (rw c.in-Err-Refused.field-0-is at c.in-Err-Refused.ensures.stopped))
 
 pub returns-in-Err-Plan-clause-stopped : goal.returns-in-Err-Plan-clause-stopped
 returns-in-Err-Plan-clause-stopped g c =
-    refused_stopped (kind_of g.G.Stage.state g.G.Stage.ended) (g.L.LogSource.folder c.run_sampled.new.logs) c.args.stage.now c.run_sampled.new.stage (asked_by (files_for c.args.into) (wanted_text c.args.wanted c.args.moment.seconds) (query_of c.args.query.now)) c.args.spec.now c.args.moment.seconds (query_of c.args.query.now) c.args.options c.args.limit c.args.waits
+    refused_stopped (kind_of g.G.Stage.state g.G.Stage.ended) (g.L.LogSource.folder c.sample_query.new.logs) c.args.stage.now c.sample_query.new.stage (asked_for (files_for c.args.into) (wanted_text c.args.wanted c.args.moment.seconds) (query_of c.args.query.now)) c.args.spec.now c.args.moment.seconds (query_of c.args.query.now) c.args.options c.args.limit c.args.waits
     c.as_slice.result.now c.args.spans.now _ c.as_slice.ensures (rw c.in-Err-Plan.field-0-is at c.in-Err-Plan.ensures.stopped)
 
 pub returns-in-Err-Plan-clause-plan : goal.returns-in-Err-Plan-clause-plan
 returns-in-Err-Plan-clause-plan g c =
-    rw c.in-Err-Plan.field-0-is (unplanned (kind_of g.G.Stage.state g.G.Stage.ended) (g.L.LogSource.folder c.run_sampled.new.logs) c.args.stage.now c.run_sampled.new.stage (asked_by (files_for c.args.into) (wanted_text c.args.wanted c.args.moment.seconds) (query_of c.args.query.now)) c.args.spec.now c.args.moment.seconds (query_of c.args.query.now) c.args.options c.args.limit c.args.waits
+    rw c.in-Err-Plan.field-0-is (unplanned (kind_of g.G.Stage.state g.G.Stage.ended) (g.L.LogSource.folder c.sample_query.new.logs) c.args.stage.now c.sample_query.new.stage (asked_for (files_for c.args.into) (wanted_text c.args.wanted c.args.moment.seconds) (query_of c.args.query.now)) c.args.spec.now c.args.moment.seconds (query_of c.args.query.now) c.args.options c.args.limit c.args.waits
     c.as_slice.result.now c.args.spans.now _ c.as_slice.ensures (rw c.in-Err-Plan.field-0-is at c.in-Err-Plan.ensures.stopped))
 
 pub returns-in-Err-Plan-clause-before : goal.returns-in-Err-Plan-clause-before
 returns-in-Err-Plan-clause-before g c =
-    untouched (kind_of g.G.Stage.state g.G.Stage.ended) (g.L.LogSource.folder c.run_sampled.new.logs) c.args.stage.now c.run_sampled.new.stage (asked_by (files_for c.args.into) (wanted_text c.args.wanted c.args.moment.seconds) (query_of c.args.query.now)) c.args.spec.now c.args.moment.seconds (query_of c.args.query.now) c.args.options c.args.limit c.args.waits
+    untouched (kind_of g.G.Stage.state g.G.Stage.ended) (g.L.LogSource.folder c.sample_query.new.logs) c.args.stage.now c.sample_query.new.stage (asked_for (files_for c.args.into) (wanted_text c.args.wanted c.args.moment.seconds) (query_of c.args.query.now)) c.args.spec.now c.args.moment.seconds (query_of c.args.query.now) c.args.options c.args.limit c.args.waits
     c.as_slice.result.now c.args.spans.now _ c.as_slice.ensures (rw c.in-Err-Plan.field-0-is at c.in-Err-Plan.ensures.stopped)
 
 pub returns-in-Err-Bad-clause-parse : goal.returns-in-Err-Bad-clause-parse
 returns-in-Err-Bad-clause-parse g c =
-    rw c.in-Err-Bad.field-0-is (parse_error (g.L.LogSource.folder c.run_sampled.new.logs) c.args.spec.now c.args.moment.seconds (query_of c.args.query.now)
+    rw c.in-Err-Bad.field-0-is (parse_error (g.L.LogSource.folder c.sample_query.new.logs) c.args.spec.now c.args.moment.seconds (query_of c.args.query.now)
     c.args.options c.args.limit c.args.waits c.as_slice.result.now c.args.spans.now c.most_bad.result _ c.as_slice.ensures c.most_bad.ensures (rw c.in-Err-Bad.field-0-is at c.in-Err-Bad.ensures.too_many))

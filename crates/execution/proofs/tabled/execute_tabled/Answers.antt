@@ -7,20 +7,20 @@ use Rattle.log_reading.specs.Page.{IsWithin}
 use Rattle.lp_values.specs.declared.value.Value.{Value}
 use Rattle.text_output.specs.Output.{kind_of}
 use Rattle.query_tree.specs.Views.{query_of}
-use Rattle.query_types.specs.Planned.{Planned, planned_in}
 use Rattle.row_output.specs.Asked.{Asked}
 use Rattle.row_output.specs.Kept.{asked_of}
 use Rattle.row_output.specs.Rows.{Holds, IsRefused, Stops}
 use Rattle.row_output.specs.Sinks.{files_for}
 use Rattle.row_output.specs.declared.into.Into.{Into}
 use Rattle.input_tables.specs.Tables.{lines_of}
-use Rattle.sampled_run.specs.Finishes.{asked_by}
+use Rattle.execution.specs.Fitting.{planned_query}
+use Rattle.execution.specs.Plans.{PlannedQuery, asked_for}
 use Rattle.execution.proofs.Taking.{taken}
 use Rattle.execution.proofs.TabledRuns.{executed, front, parse_error}
 use Rattle.execution.proofs.tabled.execute_tabled.Goals as goal
 
-abbrev asked_with : Into → Wanted → ℤ → model.Query → Planned → Asked
-asked_with into wanted moment q = asked_by (files_for into) (wanted_text wanted moment) q
+abbrev asked_with : Into → Wanted → ℤ → model.Query → PlannedQuery → Asked
+asked_with into wanted moment q = asked_for (files_for into) (wanted_text wanted moment) q
 
 pub returns-in-Err-clause-grows : goal.returns-in-Err-clause-grows
 returns-in-Err-clause-grows g c = OnlyGrow-refl _
@@ -28,52 +28,52 @@ returns-in-Err-clause-grows g c = OnlyGrow-refl _
 pub returns-in_default-clause-grows : goal.returns-in_default-clause-grows
 returns-in_default-clause-grows g c = OnlyGrow-refl _
 
-pub returns-in-Ok-run_plan-clause-ran : goal.returns-in-Ok-run_plan-clause-ran
-returns-in-Ok-run_plan-clause-ran g c =
-    let run = c.in-Ok-run_plan.ensures in
-    let Has : Asked → List (List Value) → Type 0 = λ asked rows. Holds (kind_of g.G.Stage.state g.G.Stage.ended) asked c.args.stage.now rows c.in-Ok-run_plan.run'.outputs c.run_plan.new.stage in
-    executed (g.L.LogSource.folder c.run_plan.new.logs) Has (asked_with c.args.into c.args.wanted c.args.moment.seconds (query_of c.args.query.now)) c.args.spec.now c.args.moment.seconds (query_of c.args.query.now)
-    c.args.format c.args.waits (planned_in c.in-Ok.plan) c.as_slice.result.now c.args.spans.now c.in-Ok-run_plan.run'.counts (asked_of c.in-Ok-output_of_rows.output) c.as_slice.ensures c.in-Ok.ensures.plan c.in-Ok-output_of_rows.ensures.asked
+pub returns-in-Ok-carry_out-clause-ran : goal.returns-in-Ok-carry_out-clause-ran
+returns-in-Ok-carry_out-clause-ran g c =
+    let run = c.in-Ok-carry_out.ensures in
+    let Has : Asked → List (List Value) → Type 0 = λ asked rows. Holds (kind_of g.G.Stage.state g.G.Stage.ended) asked c.args.stage.now rows c.in-Ok-carry_out.run'.outputs c.carry_out.new.stage in
+    executed (g.L.LogSource.folder c.carry_out.new.logs) Has (asked_with c.args.into c.args.wanted c.args.moment.seconds (query_of c.args.query.now)) c.args.spec.now c.args.moment.seconds (query_of c.args.query.now)
+    c.args.format c.args.waits (planned_query c.in-Ok.plan) c.as_slice.result.now c.args.spans.now c.in-Ok-carry_out.run'.counts (asked_of c.in-Ok-output_over.output) c.as_slice.ensures c.in-Ok.ensures.plan c.in-Ok-output_over.ensures.asked
     run.holds run.processed run.output run.bad
 
-pub returns-in-Ok-run_plan-clause-within : goal.returns-in-Ok-run_plan-clause-within
-returns-in-Ok-run_plan-clause-within g c = subst (λ (most : Option ℕ). IsWithin most c.in-Ok-run_plan.run'.counts.bad) c.most_bad.ensures c.in-Ok-run_plan.ensures.within
+pub returns-in-Ok-carry_out-clause-within : goal.returns-in-Ok-carry_out-clause-within
+returns-in-Ok-carry_out-clause-within g c = subst (λ (most : Option ℕ). IsWithin most c.in-Ok-carry_out.run'.counts.bad) c.most_bad.ensures c.in-Ok-carry_out.ensures.within
 
-pub returns-in-Ok-run_plan-clause-took : goal.returns-in-Ok-run_plan-clause-took
-returns-in-Ok-run_plan-clause-took g c =
-    taken (g.L.LogSource.folder c.run_plan.new.logs) (lines_of c.args.format) c.args.waits c.as_slice.result.now c.args.spans.now c.new-took.result c.run_plan.new.took c.as_slice.ensures c.new-took.ensures c.in-Ok-run_plan.ensures.took
+pub returns-in-Ok-carry_out-clause-took : goal.returns-in-Ok-carry_out-clause-took
+returns-in-Ok-carry_out-clause-took g c =
+    taken (g.L.LogSource.folder c.carry_out.new.logs) (lines_of c.args.format) c.args.waits c.as_slice.result.now c.args.spans.now c.new-took.result c.carry_out.new.took c.as_slice.ensures c.new-took.ensures c.in-Ok-carry_out.ensures.took
 
 pub returns-in-Err-Memory-clause-stopped : goal.returns-in-Err-Memory-clause-stopped
 returns-in-Err-Memory-clause-stopped g c = inr
-    (front (g.L.LogSource.folder c.run_plan.new.logs) (λ asked rows. Stops (kind_of g.G.Stage.state g.G.Stage.ended) asked c.args.stage.now rows c.run_plan.new.stage) (asked_with c.args.into c.args.wanted c.args.moment.seconds (query_of c.args.query.now)) c.args.spec.now c.args.moment.seconds (query_of c.args.query.now)
-    c.args.format c.args.waits (planned_in c.in-Ok.plan) c.as_slice.result.now c.args.spans.now (asked_of c.in-Ok-output_of_rows.output) c.as_slice.ensures c.in-Ok.ensures.plan c.in-Ok-output_of_rows.ensures.asked c.in-Err-Memory.ensures.stops)
+    (front (g.L.LogSource.folder c.carry_out.new.logs) (λ asked rows. Stops (kind_of g.G.Stage.state g.G.Stage.ended) asked c.args.stage.now rows c.carry_out.new.stage) (asked_with c.args.into c.args.wanted c.args.moment.seconds (query_of c.args.query.now)) c.args.spec.now c.args.moment.seconds (query_of c.args.query.now)
+    c.args.format c.args.waits (planned_query c.in-Ok.plan) c.as_slice.result.now c.args.spans.now (asked_of c.in-Ok-output_over.output) c.as_slice.ensures c.in-Ok.ensures.plan c.in-Ok-output_over.ensures.asked c.in-Err-Memory.ensures.stops)
 
 pub returns-in-Err-Logs-clause-stopped : goal.returns-in-Err-Logs-clause-stopped
 returns-in-Err-Logs-clause-stopped g c = inr
-    (front (g.L.LogSource.folder c.run_plan.new.logs) (λ asked rows. Stops (kind_of g.G.Stage.state g.G.Stage.ended) asked c.args.stage.now rows c.run_plan.new.stage) (asked_with c.args.into c.args.wanted c.args.moment.seconds (query_of c.args.query.now)) c.args.spec.now c.args.moment.seconds (query_of c.args.query.now)
-    c.args.format c.args.waits (planned_in c.in-Ok.plan) c.as_slice.result.now c.args.spans.now (asked_of c.in-Ok-output_of_rows.output) c.as_slice.ensures c.in-Ok.ensures.plan c.in-Ok-output_of_rows.ensures.asked c.in-Err-Logs.ensures.stops)
+    (front (g.L.LogSource.folder c.carry_out.new.logs) (λ asked rows. Stops (kind_of g.G.Stage.state g.G.Stage.ended) asked c.args.stage.now rows c.carry_out.new.stage) (asked_with c.args.into c.args.wanted c.args.moment.seconds (query_of c.args.query.now)) c.args.spec.now c.args.moment.seconds (query_of c.args.query.now)
+    c.args.format c.args.waits (planned_query c.in-Ok.plan) c.as_slice.result.now c.args.spans.now (asked_of c.in-Ok-output_over.output) c.as_slice.ensures c.in-Ok.ensures.plan c.in-Ok-output_over.ensures.asked c.in-Err-Logs.ensures.stops)
 
 pub returns-in-Err-Output-clause-stopped : goal.returns-in-Err-Output-clause-stopped
 returns-in-Err-Output-clause-stopped g c = inr
-    (front (g.L.LogSource.folder c.run_plan.new.logs) (λ asked rows. Stops (kind_of g.G.Stage.state g.G.Stage.ended) asked c.args.stage.now rows c.run_plan.new.stage) (asked_with c.args.into c.args.wanted c.args.moment.seconds (query_of c.args.query.now)) c.args.spec.now c.args.moment.seconds (query_of c.args.query.now)
-    c.args.format c.args.waits (planned_in c.in-Ok.plan) c.as_slice.result.now c.args.spans.now (asked_of c.in-Ok-output_of_rows.output) c.as_slice.ensures c.in-Ok.ensures.plan c.in-Ok-output_of_rows.ensures.asked c.in-Err-Output.ensures.stops)
+    (front (g.L.LogSource.folder c.carry_out.new.logs) (λ asked rows. Stops (kind_of g.G.Stage.state g.G.Stage.ended) asked c.args.stage.now rows c.carry_out.new.stage) (asked_with c.args.into c.args.wanted c.args.moment.seconds (query_of c.args.query.now)) c.args.spec.now c.args.moment.seconds (query_of c.args.query.now)
+    c.args.format c.args.waits (planned_query c.in-Ok.plan) c.as_slice.result.now c.args.spans.now (asked_of c.in-Ok-output_over.output) c.as_slice.ensures c.in-Ok.ensures.plan c.in-Ok-output_over.ensures.asked c.in-Err-Output.ensures.stops)
 
 pub returns-in-Err-Refused-clause-stopped : goal.returns-in-Err-Refused-clause-stopped
 returns-in-Err-Refused-clause-stopped g c = inr
-    (front (g.L.LogSource.folder c.run_plan.new.logs) (λ asked rows. Stops (kind_of g.G.Stage.state g.G.Stage.ended) asked c.args.stage.now rows c.run_plan.new.stage) (asked_with c.args.into c.args.wanted c.args.moment.seconds (query_of c.args.query.now)) c.args.spec.now c.args.moment.seconds (query_of c.args.query.now)
-    c.args.format c.args.waits (planned_in c.in-Ok.plan) c.as_slice.result.now c.args.spans.now (asked_of c.in-Ok-output_of_rows.output) c.as_slice.ensures c.in-Ok.ensures.plan c.in-Ok-output_of_rows.ensures.asked c.in-Err-Refused.ensures.stops)
+    (front (g.L.LogSource.folder c.carry_out.new.logs) (λ asked rows. Stops (kind_of g.G.Stage.state g.G.Stage.ended) asked c.args.stage.now rows c.carry_out.new.stage) (asked_with c.args.into c.args.wanted c.args.moment.seconds (query_of c.args.query.now)) c.args.spec.now c.args.moment.seconds (query_of c.args.query.now)
+    c.args.format c.args.waits (planned_query c.in-Ok.plan) c.as_slice.result.now c.args.spans.now (asked_of c.in-Ok-output_over.output) c.as_slice.ensures c.in-Ok.ensures.plan c.in-Ok-output_over.ensures.asked c.in-Err-Refused.ensures.stops)
 
 pub returns-clause-stopped : goal.returns-clause-stopped
 returns-clause-stopped g c = inr
-    (front (g.L.LogSource.folder c.run_plan.new.logs) (λ asked rows. Stops (kind_of g.G.Stage.state g.G.Stage.ended) asked c.args.stage.now rows c.run_plan.new.stage) (asked_with c.args.into c.args.wanted c.args.moment.seconds (query_of c.args.query.now)) c.args.spec.now c.args.moment.seconds (query_of c.args.query.now)
-    c.args.format c.args.waits (planned_in c.in-Ok.plan) c.as_slice.result.now c.args.spans.now (asked_of c.in-Ok-output_of_rows.output) c.as_slice.ensures c.in-Ok.ensures.plan c.in-Ok-output_of_rows.ensures.asked c.in-Err-Bad.ensures.stops)
+    (front (g.L.LogSource.folder c.carry_out.new.logs) (λ asked rows. Stops (kind_of g.G.Stage.state g.G.Stage.ended) asked c.args.stage.now rows c.carry_out.new.stage) (asked_with c.args.into c.args.wanted c.args.moment.seconds (query_of c.args.query.now)) c.args.spec.now c.args.moment.seconds (query_of c.args.query.now)
+    c.args.format c.args.waits (planned_query c.in-Ok.plan) c.as_slice.result.now c.args.spans.now (asked_of c.in-Ok-output_over.output) c.as_slice.ensures c.in-Ok.ensures.plan c.in-Ok-output_over.ensures.asked c.in-Err-Bad.ensures.stops)
 
 pub returns-in-Err-Refused-clause-refused : goal.returns-in-Err-Refused-clause-refused
 returns-in-Err-Refused-clause-refused g c =
-    rw c.in-Err-Refused.field-0-is (front (g.L.LogSource.folder c.run_plan.new.logs) (λ asked rows. IsRefused asked rows c.in-Err-Refused.why) (asked_with c.args.into c.args.wanted c.args.moment.seconds (query_of c.args.query.now)) c.args.spec.now c.args.moment.seconds (query_of c.args.query.now)
-    c.args.format c.args.waits (planned_in c.in-Ok.plan) c.as_slice.result.now c.args.spans.now (asked_of c.in-Ok-output_of_rows.output) c.as_slice.ensures c.in-Ok.ensures.plan c.in-Ok-output_of_rows.ensures.asked (rw c.in-Err-Refused.field-0-is at c.in-Err-Refused.ensures.refused))
+    rw c.in-Err-Refused.field-0-is (front (g.L.LogSource.folder c.carry_out.new.logs) (λ asked rows. IsRefused asked rows c.in-Err-Refused.why) (asked_with c.args.into c.args.wanted c.args.moment.seconds (query_of c.args.query.now)) c.args.spec.now c.args.moment.seconds (query_of c.args.query.now)
+    c.args.format c.args.waits (planned_query c.in-Ok.plan) c.as_slice.result.now c.args.spans.now (asked_of c.in-Ok-output_over.output) c.as_slice.ensures c.in-Ok.ensures.plan c.in-Ok-output_over.ensures.asked (rw c.in-Err-Refused.field-0-is at c.in-Err-Refused.ensures.refused))
 
 pub returns-clause-parse : goal.returns-clause-parse
 returns-clause-parse g c =
-    rw c.in-Err-Bad.field-0-is (parse_error (g.L.LogSource.folder c.run_plan.new.logs) c.args.spec.now c.args.moment.seconds (query_of c.args.query.now)
-    c.args.format c.args.waits (planned_in c.in-Ok.plan) c.as_slice.result.now c.args.spans.now c.most_bad.result _ c.as_slice.ensures c.in-Ok.ensures.plan c.most_bad.ensures (rw c.in-Err-Bad.field-0-is at c.in-Err-Bad.ensures.too_many))
+    rw c.in-Err-Bad.field-0-is (parse_error (g.L.LogSource.folder c.carry_out.new.logs) c.args.spec.now c.args.moment.seconds (query_of c.args.query.now)
+    c.args.format c.args.waits (planned_query c.in-Ok.plan) c.as_slice.result.now c.args.spans.now c.most_bad.result _ c.as_slice.ensures c.in-Ok.ensures.plan c.most_bad.ensures (rw c.in-Err-Bad.field-0-is at c.in-Err-Bad.ensures.too_many))
