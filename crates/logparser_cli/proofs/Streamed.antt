@@ -20,6 +20,14 @@ behind_none : (bytes : List ℕ) (left : Option (List ℕ)) → bytes ≡ [] →
 behind_none bytes None none = refl
 behind_none bytes (Some rest) none = ap (λ t. Some (t ++ rest)) none
 
+-- an input that stays was read no further
+pub not_read : {I : Type 0} (left : I → Option (List ℕ)) (given faults : I → ℕ) (before after : I) → after ≡ before → IsReadOn (input_at left given faults before) (input_at left given faults after)
+not_read left given faults before after same = record {
+  bytes = [];
+  left = behind_none [] (left after) refl ∙ ap left same;
+  given = ap given same ∙ omega arith;
+}
+
 module _ {I : Type 0} (left : I → Option (List ℕ)) (given faults : I → ℕ) (first last : InputLog I) (before : I) (goes : Goes left given first last) (none : first.gone.bytes ≡ []) (starts : first.input.now ≡ before) where
   all_left : whole_of left last ≡ left before
   all_left = goes.whole ∙ (behind_none first.gone.bytes (left first.input.now) none ∙ ap left starts)

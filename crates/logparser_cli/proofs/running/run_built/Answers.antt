@@ -11,7 +11,7 @@ use Rattle.file_stage.specs.FileTexts.{AlwaysTells}
 use Rattle.logparser_cli.specs.Outputs.{World, held, input_at, world}
 use Rattle.logparser_cli.proofs.Answering.{read_answers}
 use Rattle.logparser_cli.proofs.Given.{template_alone, template_then_logs}
-use Rattle.logparser_cli.proofs.Streamed.{names_read}
+use Rattle.logparser_cli.proofs.Streamed.{names_read, not_read}
 use Rattle.logparser_cli.proofs.running.run_built.Goals as goal
 
 pub returns-then-reads_stdin-clause-answers : goal.returns-then-reads_stdin-clause-answers
@@ -42,3 +42,6 @@ returns-in-Err-clause-given g c = template_alone (g.L.Logs.folder c.find_templat
 pub returns-else-reads_stdin-clause-given : goal.returns-else-reads_stdin-clause-given
 returns-else-reads_stdin-clause-given g c =
     template_then_logs (g.L.Logs.folder c.find_template.new.logs) (g.L.Logs.folder c.run_logs.new.logs) c.args.spec.now (query_of c.args.query.now) _ _ _ c.run_logs.ensures.grows c.find_template.ensures.reads c.run_logs.ensures.given
+
+pub returns-else-reads_stdin-clause-read : goal.returns-else-reads_stdin-clause-read
+returns-else-reads_stdin-clause-read g c = not_read g.I.Source.left g.I.Source.given g.I.Source.faults c.args.input.now c.run_logs.new.input c.run_logs.ensures.input
