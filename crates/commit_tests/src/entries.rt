@@ -3,7 +3,6 @@ use ledger::{Entry, EntrySpan, EntrySpanList, InputText, ListValues, Output, Out
 use lp_outside::{Mark, Name};
 use lp_values::{Bytes, Text, TextList};
 use std::alloc::Global;
-use std::test::Fail;
 
 /// An output of a run: its name, the place where its text begins, and the text.
 #[derive(Clone, Copy)]
@@ -13,10 +12,14 @@ pub struct Written<'a> {
     pub text: &'a [u8],
 }
 
+pub const ONE_A: &[u8] = b"Index,Text\n1,a\n";
+
+pub const BOTH: &[u8] = b"Index,Text\n1,a\n2,b\n";
+
 pub const FIRST: [Written<'static>; 1] = [Written {
     name: "o.csv",
     base: 0,
-    text: b"Index,Text\n1,a\n",
+    text: ONE_A,
 }];
 
 pub const SECOND: [Written<'static>; 1] = [Written {
@@ -24,8 +27,6 @@ pub const SECOND: [Written<'static>; 1] = [Written {
     base: 15,
     text: b"2,b\n",
 }];
-
-pub const BOTH: &[u8] = b"Index,Text\n1,a\n2,b\n";
 
 pub const THREE: [Written<'static>; 3] = [
     Written {
@@ -45,44 +46,34 @@ pub const THREE: [Written<'static>; 3] = [
     },
 ];
 
-pub fn named(text: &str) -> Result<Name, Fail> {
-    match Name::read(text) {
-        Ok(name) => Ok(name),
-        Err(_) => Err(Fail::from("no name")),
-    }
+pub fn named(text: &str) -> Option<Name> {
+    Name::read(text).ok()
 }
 
-pub fn text(alloc: Global, of: &str) -> Result<Text, Fail> {
-    Ok(Text::from_str(alloc, of)?)
+fn add_word(alloc: Global, words: &mut TextList, word: &str) -> Option<()> {
+    words.push(Text::from_str(alloc, word).ok()?).ok()
 }
 
-fn input_text(alloc: Global) -> Result<InputText, Fail> {
-    let of = "-i:TEXTLINE -headerRow:ON -iSeparator:tab -iRotation:NAMES";
-    match InputText::read(text(alloc, of)?) {
-        Some(input) => Ok(input),
-        None => Err(Fail::from("no input text")),
-    }
+fn add_words(alloc: Global, words: &mut TextList) -> Option<()> {
+    add_word(alloc, words, "-i:TEXTLINE")?;
+    add_word(alloc, words, "-iCheckpoint:cp")?;
+    add_word(alloc, words, "-fileMode:0")
 }
 
-fn words(alloc: Global) -> Result<TextList, Fail> {
-    let mut words = TextList::new(alloc);
-    for word in ["-i:TEXTLINE", "-iCheckpoint:cp", "-fileMode:0"] {
-        words.push(text(alloc, word)?)?;
-    }
-    Ok(words)
-}
-
-fn spans(alloc: Global, from: u8, to: u8, lines: u8) -> Result<EntrySpanList, Fail> {
+fn standing(alloc: Global, lines: u8) -> Option<Bytes> {
     let mut standing = Bytes::new(alloc);
-    standing.add(&[lines, 0, 0, 0, 0, 0, 0, 0, 0])?;
-    let mut spans = EntrySpanList::new(alloc);
-    spans.push(EntrySpan {
+    standing.add(&[lines, 0, 0, 0, 0, 0, 0, 0, 0]).ok()?;
+    Some(standing)
+}
+
+fn span(alloc: Global, from: u8, to: u8, lines: u8) -> Option<EntrySpan> {
+    let standing = standing(alloc, lines)?;
+    Some(EntrySpan {
         identity: named("a.log")?,
         from: u64::from(from),
         to: u64::from(to),
         standing,
-    })?;
-    Ok(spans)
+    })
 }
 
 // How many bytes of a stage the frame of a text is.
@@ -90,58 +81,83 @@ fn frame_size(output: &Written) -> u64 {
     (output.text.len() as u64).wrapping_add(24)
 }
 
-/// The length of a stage with a frame for each text.
-pub fn staged_by(outputs: &[Written]) -> u64 {
-    let mut place: u64 = 0;
-    for output in outputs {
-        place = place.wrapping_add(frame_size(output));
-    }
-    place
+fn output_at(output: &Written, place: u64) -> Option<Output> {
+    Some(Output {
+        name: named(output.name)?,
+        base: u64::from(output.base),
+        mark: Mark {
+            last: place,
+            length: output.text.len() as u64,
+        },
+    })
 }
 
-fn outputs_of(alloc: Global, outputs: &[Written]) -> Result<OutputList, Fail> {
-    let mut list = OutputList::new(alloc);
+// Adds the outputs, and gives the length of a stage with a frame for each text.
+fn add_outputs(list: &mut OutputList, outputs: &[Written]) -> Option<u64> {
     let mut place: u64 = 0;
     for output in outputs {
-        list.push(Output {
-            name: named(output.name)?,
-            base: u64::from(output.base),
-            mark: Mark {
-                last: place,
-                length: output.text.len() as u64,
-            },
-        })?;
+        list.push(output_at(output, place)?).ok()?;
         place = place.wrapping_add(frame_size(output));
     }
-    Ok(list)
+    Some(place)
 }
 
-/// The entry of a run that read lines of `a.log` from one place up to another.
-pub fn entry_of(
-    alloc: Global,
-    from: u8,
-    to: u8,
-    lines: u8,
-    outputs: &[Written],
-) -> Result<Entry, Fail> {
-    let input = input_text(alloc)?;
-    let words = words(alloc)?;
-    let query = text(alloc, "SELECT Index, Text INTO o.csv FROM a.log")?;
-    let spans = spans(alloc, from, to, lines)?;
-    let list = outputs_of(alloc, outputs)?;
-    Ok(Entry {
+fn input_text(alloc: Global) -> Option<InputText> {
+    let of = "-i:TEXTLINE -headerRow:ON -iSeparator:tab -iRotation:NAMES";
+    InputText::read(Text::from_str(alloc, of).ok()?)
+}
+
+fn query(alloc: Global) -> Option<Text> {
+    Text::from_str(alloc, "SELECT Index, Text INTO o.csv FROM a.log").ok()
+}
+
+fn bare(alloc: Global, input: InputText, query: Text) -> Entry {
+    Entry {
         form: 1,
         moment: 0,
         input,
-        words,
+        words: TextList::new(alloc),
         query,
         template: Bytes::new(alloc),
-        spans,
+        spans: EntrySpanList::new(alloc),
         lists: ListValues::new(alloc),
-        staged: staged_by(outputs),
-        outputs: list,
+        staged: 0,
+        outputs: OutputList::new(alloc),
         processed: 1,
         output: 1,
         bad: 0,
-    })
+    }
+}
+
+fn bare_entry(alloc: Global) -> Option<Entry> {
+    let input = input_text(alloc)?;
+    let query = query(alloc)?;
+    Some(bare(alloc, input, query))
+}
+
+fn fill(alloc: Global, entry: &mut Entry, span: EntrySpan, outputs: &[Written]) -> Option<()> {
+    entry.spans.push(span).ok()?;
+    add_words(alloc, &mut entry.words)?;
+    entry.staged = add_outputs(&mut entry.outputs, outputs)?;
+    Some(())
+}
+
+/// The entry of a run that read lines of `a.log` from one place up to another.
+pub fn entry_of(alloc: Global, from: u8, to: u8, lines: u8, outputs: &[Written]) -> Option<Entry> {
+    let span = span(alloc, from, to, lines)?;
+    let mut entry = bare_entry(alloc)?;
+    fill(alloc, &mut entry, span, outputs)?;
+    Some(entry)
+}
+
+pub fn first_entry(alloc: Global) -> Option<Entry> {
+    entry_of(alloc, 0, 3, 1, &FIRST)
+}
+
+pub fn second_entry(alloc: Global) -> Option<Entry> {
+    entry_of(alloc, 3, 5, 2, &SECOND)
+}
+
+pub fn three_entry(alloc: Global) -> Option<Entry> {
+    entry_of(alloc, 0, 3, 1, &THREE)
 }

@@ -9,8 +9,6 @@ mod ledgers;
 #[cfg(test)]
 mod machine;
 #[cfg(test)]
-mod payloads;
-#[cfg(test)]
 mod runs;
 #[cfg(test)]
 mod stops;

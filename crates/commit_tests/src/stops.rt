@@ -1,13 +1,14 @@
 // Runs that are stopped at each of their calls.
-use crate::entries::{BOTH, FIRST, SECOND, THREE, entry_of, named};
-use crate::ledgers::after_one;
-use crate::runs::{files, run, settle, torn_list};
-use commit::{Stopped, commit_two_texts, open_gate, put, seal, settle_disk, start};
-use ledger::{Entry, OutputList, walk};
-use lp_outside::{DiskFailed, Mark};
+use crate::entries::{BOTH, ONE_A, SECOND, THREE, entry_of, named, second_entry, three_entry};
+use crate::runs::{
+    after_one, crash, entries, files, holds, holds_three, run_second, run_three, settle, size_of,
+    stop_after,
+};
+use commit::{CommitFiles, Stopped, commit_two_texts, open_gate, put, seal, settle_disk, start};
+use ledger::{Entry, OutputList};
+use lp_outside::{Mark, Name};
 use memory_outside::{MemoryDisk, Torn};
 use std::alloc::Global;
-use std::test::Fail;
 
 const TORN: [Torn; 5] = [
     Torn::Kept,
@@ -17,178 +18,289 @@ const TORN: [Torn; 5] = [
     Torn::Filled(0x37),
 ];
 
+// Whether the second run is stopped at a call.
+fn second_stops(disk: &mut MemoryDisk, entry: &Entry, call: u64) -> Option<bool> {
+    stop_after(disk, call);
+    Some(!run_second(disk, entry)?)
+}
+
+// Whether a run of three outputs is stopped at a call.
+fn three_stops(disk: &mut MemoryDisk, entry: &Entry, call: u64) -> Option<bool> {
+    stop_after(disk, call);
+    Some(!run_three(disk, entry)?)
+}
+
+// Whether a settling is stopped at a call.
+fn settling_stops(disk: &mut MemoryDisk, call: u64) -> Option<bool> {
+    stop_after(disk, call);
+    Some(!settle(disk)?)
+}
+
+fn crash_and_settle(alloc: Global, disk: &mut MemoryDisk, torn: Torn) -> Option<bool> {
+    crash(alloc, disk, torn)?;
+    settle(disk)
+}
+
+// Whether the output is the first run's, and both runs' after the second.
+fn has_first(disk: &mut MemoryDisk, entry: &Entry) -> Option<bool> {
+    let first = holds(disk, "o.csv", ONE_A);
+    let done = run_second(disk, entry)?;
+    Some(first && done && holds(disk, "o.csv", BOTH))
+}
+
+// Whether the disk holds the first run or both, and its files are those.
+fn is_one_or_both(disk: &mut MemoryDisk, entry: &Entry, stopped: bool) -> Option<bool> {
+    match entries(disk)? {
+        2 => Some(holds(disk, "o.csv", BOTH)),
+        1 => Some(stopped && has_first(disk, entry)?),
+        _ => Some(false),
+    }
+}
+
+fn second_is_kept(
+    alloc: Global,
+    disk: &mut MemoryDisk,
+    entry: &Entry,
+    torn: Torn,
+    call: u64,
+) -> Option<bool> {
+    let stopped = second_stops(disk, entry, call)?;
+    let settled = crash_and_settle(alloc, disk, torn)?;
+    let kept = is_one_or_both(disk, entry, stopped)?;
+    Some((call < 63 || !stopped) && settled && kept)
+}
+
+fn a_run_is_kept(alloc: Global, torn: Torn, call: u64) -> Option<bool> {
+    let entry = second_entry(alloc)?;
+    let mut disk = after_one(alloc)?;
+    second_is_kept(alloc, &mut disk, &entry, torn, call)
+}
+
 // The second run stops at each call in turn. Behind the crash the disk holds the first run or both, and its files are those.
 #[test]
-fn a_run_that_stops(rt: HostRuntime) -> Result<(), Fail> {
-    let output = named("o.csv")?;
-    let entry = entry_of(rt.alloc(), 3, 5, 2, &SECOND)?;
+fn a_run_that_stops(rt: HostRuntime) {
     for torn in TORN {
         for call in 0..64 {
-            let mut disk = after_one(rt.alloc())?;
-            disk.stop_after(call);
-            let stopped = run(&mut disk, &SECOND, &entry)?.is_err();
-            assert!(rt; call < 63 || !stopped);
-            disk.crash(&torn_list(rt.alloc(), torn)?)?;
-            settle(&mut disk)??;
-            let entries = walk(&mut disk, &named("cp")?)?.entries;
-            assert!(rt; entries == 2 || stopped);
-            if entries == 1 {
-                assert_eq!(rt; disk.bytes(&output), FIRST[0].text);
-                run(&mut disk, &SECOND, &entry)??;
-            }
-            assert_eq!(rt; disk.bytes(&output), BOTH);
+            assert!(rt;
+                a_run_is_kept(rt.alloc(), torn, call) == Some(true),
+                "at {call}"
+            );
         }
     }
-    Ok(())
+}
+
+// Whether the disk holds the run of three outputs, or nothing of it and then it.
+fn is_none_or_three(disk: &mut MemoryDisk, entry: &Entry, stopped: bool) -> Option<bool> {
+    let done = if entries(disk)? == 0 {
+        stopped && run_three(disk, entry)?
+    } else {
+        true
+    };
+    Some(done && holds_three(disk))
+}
+
+fn three_is_kept(
+    alloc: Global,
+    disk: &mut MemoryDisk,
+    entry: &Entry,
+    torn: Torn,
+    call: u64,
+) -> Option<bool> {
+    let stopped = three_stops(disk, entry, call)?;
+    crash(alloc, disk, torn)?;
+    settling_stops(disk, call / 2)?;
+    let settled = crash_and_settle(alloc, disk, torn)?;
+    let kept = is_none_or_three(disk, entry, stopped)?;
+    Some((call < 63 || !stopped) && settled && kept)
+}
+
+fn a_settling_is_kept(alloc: Global, torn: Torn, call: u64) -> Option<bool> {
+    let entry = three_entry(alloc)?;
+    let mut disk = MemoryDisk::new(alloc);
+    three_is_kept(alloc, &mut disk, &entry, torn, call)
 }
 
 // A run with three outputs stops at one call, and the next settling at another; then the disk is settled.
 #[test]
-fn a_settling_that_stops(rt: HostRuntime) -> Result<(), Fail> {
-    let entry = entry_of(rt.alloc(), 0, 3, 1, &THREE)?;
+fn a_settling_that_stops(rt: HostRuntime) {
     for torn in TORN {
         for call in 0..64 {
-            let mut disk = MemoryDisk::new(rt.alloc());
-            disk.stop_after(call);
-            let stopped = run(&mut disk, &THREE, &entry)?.is_err();
-            assert!(rt; call < 63 || !stopped);
-            disk.crash(&torn_list(rt.alloc(), torn)?)?;
-            disk.stop_after(call / 2);
-            let _ = settle(&mut disk)?;
-            disk.crash(&torn_list(rt.alloc(), torn)?)?;
-            settle(&mut disk)??;
-            if walk(&mut disk, &named("cp")?)?.entries == 0 {
-                assert!(rt; stopped);
-                run(&mut disk, &THREE, &entry)??;
-            }
-            for output in THREE {
-                assert_eq!(rt; disk.bytes(&named(output.name)?), output.text);
-            }
+            assert!(rt;
+                a_settling_is_kept(rt.alloc(), torn, call) == Some(true),
+                "at {call}"
+            );
         }
     }
-    Ok(())
 }
 
-// The second run is sealed and stops at the write of its gate, of which a crash leaves one byte or another.
-fn stopped_at_the_gate(alloc: Global, entry: &Entry, torn: Torn) -> Result<MemoryDisk, Fail> {
-    let names = files()?;
-    let mut disk = after_one(alloc)?;
-    let place = settle_disk(&mut disk, &names.ledger, &names.stage)?;
-    start(&mut disk, &names.stage)?;
+// The place of the closed gate on a disk that is settled.
+fn gate(disk: &mut MemoryDisk, files: &CommitFiles) -> Option<u64> {
+    settle_disk(disk, &files.ledger, &files.stage).ok()
+}
+
+fn starts(disk: &mut MemoryDisk, files: &CommitFiles) -> bool {
+    start(disk, &files.stage).is_ok()
+}
+
+fn puts(disk: &mut MemoryDisk, files: &CommitFiles, text: &[u8]) -> bool {
     let (mut staged, mut mark) = (0, Mark::none());
-    put(
-        &mut disk,
-        &names.stage,
-        &mut staged,
-        0,
-        &mut mark,
-        SECOND[0].text,
-    )?;
-    seal(&mut disk, &names.ledger, &names.stage, place, entry)?;
-    disk.stop_after(0);
-    if open_gate(&mut disk, &names.ledger, place) != Err(DiskFailed) {
-        return Err(Fail::from("no stop"));
-    }
-    disk.crash(&torn_list(alloc, torn)?)?;
-    Ok(disk)
+    put(disk, &files.stage, &mut staged, 0, &mut mark, text).is_ok()
+}
+
+// No gate lies further on.
+const FAR: u64 = 4_000_000_000;
+
+fn seals(disk: &mut MemoryDisk, files: &CommitFiles, place: u64, entry: &Entry) -> bool {
+    place < FAR && seal(disk, &files.ledger, &files.stage, place, entry).is_ok()
+}
+
+fn opens(disk: &mut MemoryDisk, files: &CommitFiles, place: u64) -> bool {
+    place < FAR && open_gate(disk, &files.ledger, place).is_ok()
+}
+
+fn is_sealed(disk: &mut MemoryDisk, files: &CommitFiles, place: u64, entry: &Entry) -> bool {
+    starts(disk, files) && puts(disk, files, SECOND[0].text) && seals(disk, files, place, entry)
+}
+
+// The second run is sealed and stops at the write of its gate.
+fn stops_at_the_gate(disk: &mut MemoryDisk, entry: &Entry) -> Option<bool> {
+    let files = files()?;
+    let place = gate(disk, &files)?;
+    let sealed = is_sealed(disk, &files, place, entry);
+    stop_after(disk, 0);
+    Some(sealed && !opens(disk, &files, place))
+}
+
+// Whether so many entries are there behind a crash and a settling, and then both.
+fn is_settled(disk: &mut MemoryDisk, entry: &Entry, count: u64) -> Option<bool> {
+    let settled = settle(disk)?;
+    let there = entries(disk)?;
+    let done = there == 2 || run_second(disk, entry)?;
+    Some(settled && there == count && done && holds(disk, "o.csv", BOTH))
+}
+
+// A crash leaves one byte or another of the gate.
+fn gate_is_left(alloc: Global, byte: u8, count: u64) -> Option<bool> {
+    let entry = second_entry(alloc)?;
+    let mut disk = after_one(alloc)?;
+    let stopped = stops_at_the_gate(&mut disk, &entry)?;
+    crash(alloc, &mut disk, Torn::Filled(byte))?;
+    Some(stopped && is_settled(&mut disk, &entry, count)?)
 }
 
 // With the gate's byte the second run is done, and with another it wasn't.
 #[test]
-fn a_stop_at_the_gate(rt: HostRuntime) -> Result<(), Fail> {
-    let entry = entry_of(rt.alloc(), 3, 5, 2, &SECOND)?;
-    for (left, entries) in [(0xA5, 2), (0x37, 1)] {
-        let mut disk = stopped_at_the_gate(rt.alloc(), &entry, Torn::Filled(left))?;
-        settle(&mut disk)??;
-        assert_eq!(rt; walk(&mut disk, &named("cp")?)?.entries, entries);
-        if entries == 1 {
-            run(&mut disk, &SECOND, &entry)??;
-        }
-        assert_eq!(rt; disk.bytes(&named("o.csv")?), BOTH);
-    }
-    Ok(())
+fn a_stop_at_the_gate(rt: HostRuntime) {
+    assert!(rt; gate_is_left(rt.alloc(), 0xA5, 2) == Some(true));
+    assert!(rt; gate_is_left(rt.alloc(), 0x37, 1) == Some(true));
+}
+
+fn three_stopped(alloc: Global, entry: &Entry, call: u64) -> Option<MemoryDisk> {
+    let mut disk = MemoryDisk::new(alloc);
+    three_stops(&mut disk, entry, call)?;
+    Some(disk)
 }
 
 // A run with three outputs stops behind the write of the second.
-fn stopped_behind_two(alloc: Global, entry: &Entry) -> Result<MemoryDisk, Fail> {
-    for at in 0..64 {
-        let mut disk = MemoryDisk::new(alloc);
-        disk.stop_after(at);
-        let _ = run(&mut disk, &THREE, entry)?;
-        if disk.bytes(&named("out_b.csv")?) == THREE[1].text {
-            return Ok(disk);
+fn stopped_behind_two(alloc: Global, entry: &Entry) -> Option<MemoryDisk> {
+    for call in 0..64 {
+        let disk = three_stopped(alloc, entry, call)?;
+        if holds(&disk, "out_b.csv", b"v\n2\n") {
+            return Some(disk);
         }
     }
-    Err(Fail::from("no such stop"))
+    None
+}
+
+fn is_finished(alloc: Global, disk: &mut MemoryDisk, call: u64) -> Option<bool> {
+    let torn = Torn::Filled(0x37);
+    let empty = holds(disk, "out_c.csv", b"");
+    crash(alloc, disk, torn)?;
+    let stopped = settling_stops(disk, call)?;
+    let settled = crash_and_settle(alloc, disk, torn)?;
+    Some(empty && (call < 31 || !stopped) && settled && holds_three(disk))
+}
+
+fn outputs_are_finished(alloc: Global, call: u64) -> Option<bool> {
+    let entry = three_entry(alloc)?;
+    let found = stopped_behind_two(alloc, &entry);
+    drop(entry);
+    let mut disk = found?;
+    is_finished(alloc, &mut disk, call)
 }
 
 // Behind such a stop the settling stops at each of its calls in turn, the first sync of an output among them; the next
 // settling is whole.
 #[test]
-fn a_stop_among_the_outputs(rt: HostRuntime) -> Result<(), Fail> {
-    let entry = entry_of(rt.alloc(), 0, 3, 1, &THREE)?;
-    let torn = torn_list(rt.alloc(), Torn::Filled(0x37))?;
+fn a_stop_among_the_outputs(rt: HostRuntime) {
     for call in 0..32 {
-        let mut disk = stopped_behind_two(rt.alloc(), &entry)?;
-        assert_eq!(rt; disk.bytes(&named("out_c.csv")?).len(), 0);
-        disk.crash(&torn)?;
-        disk.stop_after(call);
-        let stopped = settle(&mut disk)?.is_err();
-        assert!(rt; call < 31 || !stopped);
-        disk.crash(&torn)?;
-        settle(&mut disk)??;
-        for output in THREE {
-            assert_eq!(rt; disk.bytes(&named(output.name)?), output.text);
-        }
+        assert!(rt;
+            outputs_are_finished(rt.alloc(), call) == Some(true),
+            "at {call}"
+        );
     }
-    Ok(())
 }
 
-// A run of two texts through the trait of stages.
+// A run of two texts through the trait of stages; none for one name.
 #[tactic(auto, using(ledger::proofs::Pairs::lists_apart))]
-fn run_two_texts(
+fn commit_two(
     alloc: Global,
     disk: &mut MemoryDisk,
-    from: u8,
-) -> Result<Result<(), Stopped>, Fail> {
-    let mut entry = entry_of(alloc, from, from.wrapping_add(3), 1, &THREE)?;
+    entry: &mut Entry,
+    first: &Name,
+    second: &Name,
+) -> Option<Result<(), Stopped>> {
+    let files = files()?;
     entry.outputs = OutputList::new(alloc);
-    let (one, two) = (&THREE[0], &THREE[1]);
-    let (first, second) = (named(one.name)?, named(two.name)?);
-    if first != second {
-        return Ok(commit_two_texts(
-            disk,
-            files()?,
-            &mut entry,
-            &first,
-            one.text,
-            &second,
-            two.text,
-        ));
+    let (one, two) = (THREE[0].text, THREE[1].text);
+    if *first != *second {
+        return Some(commit_two_texts(disk, files, entry, first, one, second, two));
     }
-    Err(Fail::from("one name"))
+    None
+}
+
+fn run_two_texts(alloc: Global, disk: &mut MemoryDisk, from: u8) -> Option<Result<(), Stopped>> {
+    let first = named(THREE[0].name)?;
+    let second = named(THREE[1].name)?;
+    let mut entry = entry_of(alloc, from, from.wrapping_add(3), 1, &[])?;
+    commit_two(alloc, disk, &mut entry, &first, &second)
+}
+
+// Whether the disk holds one run or two, as the second ended.
+fn has_ended(disk: &mut MemoryDisk, ended: Result<(), Stopped>) -> Option<bool> {
+    let there = entries(disk)?;
+    let size = if there == 2 { 8 } else { 4 };
+    let told = match ended {
+        Ok(()) => there == 2,
+        Err(Stopped::BeforeGate) => there == 1,
+        Err(_) => true,
+    };
+    Some(told && size_of(disk, "out_a.csv")? == size && size_of(disk, "out_b.csv")? == size)
+}
+
+fn two_texts_are_kept(alloc: Global, disk: &mut MemoryDisk, torn: Torn, call: u64) -> Option<bool> {
+    let first = run_two_texts(alloc, disk, 0)?.is_ok();
+    stop_after(disk, call);
+    let ended = run_two_texts(alloc, disk, 3)?;
+    let settled = crash_and_settle(alloc, disk, torn)?;
+    let told = has_ended(disk, ended)?;
+    Some(first && (call < 63 || ended.is_ok()) && settled && told)
+}
+
+fn two_runs_are_kept(alloc: Global, torn: Torn, call: u64) -> Option<bool> {
+    let mut disk = MemoryDisk::new(alloc);
+    two_texts_are_kept(alloc, &mut disk, torn, call)
 }
 
 // The second of two such runs stops at each call in turn, and the disk holds one run or two.
 #[test]
-fn a_run_of_two_texts_that_stops(rt: HostRuntime) -> Result<(), Fail> {
+fn a_run_of_two_texts_that_stops(rt: HostRuntime) {
     for torn in TORN {
         for call in 0..64 {
-            let mut disk = MemoryDisk::new(rt.alloc());
-            assert_eq!(rt; run_two_texts(rt.alloc(), &mut disk, 0)?, Ok(()));
-            disk.stop_after(call);
-            let ended = run_two_texts(rt.alloc(), &mut disk, 3)?;
-            assert!(rt; call < 63 || ended == Ok(()));
-            disk.crash(&torn_list(rt.alloc(), torn)?)?;
-            settle(&mut disk)??;
-            let entries = walk(&mut disk, &named("cp")?)?.entries;
-            assert!(rt; ended != Ok(()) || entries == 2);
-            assert!(rt; ended != Err(Stopped::BeforeGate) || entries == 1);
-            let size = if entries == 2 { 8 } else { 4 };
-            for output in [&THREE[0], &THREE[1]] {
-                assert_eq!(rt; disk.bytes(&named(output.name)?).len(), size);
-            }
+            assert!(rt;
+                two_runs_are_kept(rt.alloc(), torn, call) == Some(true),
+                "at {call}"
+            );
         }
     }
-    Ok(())
 }
