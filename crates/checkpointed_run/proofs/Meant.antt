@@ -1,6 +1,7 @@
 -- What was carried out is what the meaning of what was asked gives.
-use Rattle.std.proofs.Common.{◌≡◌, true, List, length, Some, refl, sym, ◌∙◌, ap, subst}
+use Rattle.std.proofs.Common.{◌≡◌, ◌+◌, true, ℕ, List, length, Some, refl, sym, ◌∙◌, ap, subst, arith}
 use Rattle.std.specs.Prelude.{Ok}
+use Rattle.grammar.specs.Filled.{given_bad}
 use Rattle.grammar.specs.Trees.{Query}
 use Rattle.lp_model.specs.Outside.{Folder}
 use Rattle.lp_values.specs.declared.value.Value.{Value}
@@ -26,9 +27,13 @@ pub record IsMet (Has : Asked → List (List Value) → Type 0) (asked : Planned
   pub output : counts.output ≡ length (left_of (asked plan) (rows_over (log_format spec q) spec.ts_format plan (past_of (lines_in (log_format spec q)) true folder spans)))
   pub bad : counts.bad ≡ length (spans_bad (lines_in (log_format spec q)) true folder spans)
 
-met_in : (format : LogFormat) (Has : Asked → List (List Value) → Type 0) (asked : PlannedQuery → Asked) (spec : Spec) (q : Query) (moment : Rattle.std.specs.Prelude.ℤ) (folder : Folder) (spans : List Span) (counts : Counts) → log_format spec q ≡ format
+-- none came from subqueries
+none_else : (all own given : ℕ) → given ≡ 0 → all ≡ given + own → all ≡ own
+none_else all own given none sum = omega arith
+
+met_in : (format : LogFormat) (Has : Asked → List (List Value) → Type 0) (asked : PlannedQuery → Asked) (spec : Spec) (q : Query) (moment : Rattle.std.specs.Prelude.ℤ) (folder : Folder) (spans : List Span) (counts : Counts) → log_format spec q ≡ format → given_bad q ≡ 0
     → AreKept (lines_in format) true spans folder → IsExecuted format true (Some folder) Has asked spec moment q spans counts → IsMet Has asked spec q moment folder spans counts
-met_in (F.Tabled format) Has asked spec q moment folder spans counts same kept executed =
+met_in (F.Tabled format) Has asked spec q moment folder spans counts same none kept executed =
     let w = executed.written kept in
     let past = λ (f : LogFormat). past_of (lines_in f) true folder spans in
     record {
@@ -37,9 +42,9 @@ met_in (F.Tabled format) Has asked spec q moment folder spans counts same kept e
       has = subst (λ (f : LogFormat). Has (asked executed.plan) (rows_over f spec.ts_format executed.plan (past f))) (sym same) w.has;
       processed = w.processed ∙ ap (λ (f : LogFormat). length (spans_found (lines_in f) true folder spans)) (sym same);
       output = w.output ∙ ap (λ (f : LogFormat). length (left_of (asked executed.plan) (rows_over f spec.ts_format executed.plan (past f)))) (sym same);
-      bad = w.bad ∙ ap (λ (f : LogFormat). length (spans_bad (lines_in f) true folder spans)) (sym same);
+      bad = none_else counts.bad _ (given_bad q) none w.bad ∙ ap (λ (f : LogFormat). length (spans_bad (lines_in f) true folder spans)) (sym same);
     }
-met_in (F.Sampled options limit) Has asked spec q moment folder spans counts same kept executed =
+met_in (F.Sampled options limit) Has asked spec q moment folder spans counts same none kept executed =
     let all = executed kept in
     let w = all.written kept in
     let past = λ (f : LogFormat). past_of (lines_in f) true folder spans in
@@ -49,10 +54,10 @@ met_in (F.Sampled options limit) Has asked spec q moment folder spans counts sam
       has = subst (λ (f : LogFormat). Has (asked all.plan) (rows_over f spec.ts_format all.plan (past f))) (sym same) w.has;
       processed = w.processed ∙ ap (λ (f : LogFormat). length (spans_found (lines_in f) true folder spans)) (sym same);
       output = w.output ∙ ap (λ (f : LogFormat). length (left_of (asked all.plan) (rows_over f spec.ts_format all.plan (past f)))) (sym same);
-      bad = w.bad ∙ ap (λ (f : LogFormat). length (spans_bad (lines_in f) true folder spans)) (sym same);
+      bad = none_else counts.bad _ (given_bad q) none w.bad ∙ ap (λ (f : LogFormat). length (spans_bad (lines_in f) true folder spans)) (sym same);
     }
 
 -- what was executed, in the words of the meaning
-pub met : (Has : Asked → List (List Value) → Type 0) (asked : PlannedQuery → Asked) (spec : Spec) (q : Query) (moment : Rattle.std.specs.Prelude.ℤ) (folder : Folder) (spans : List Span) (counts : Counts)
+pub met : (Has : Asked → List (List Value) → Type 0) (asked : PlannedQuery → Asked) (spec : Spec) (q : Query) (moment : Rattle.std.specs.Prelude.ℤ) (folder : Folder) (spans : List Span) (counts : Counts) → given_bad q ≡ 0
     → AreKept (lines_in (log_format spec q)) true spans folder → IsExecuted (log_format spec q) true (Some folder) Has asked spec moment q spans counts → IsMet Has asked spec q moment folder spans counts
-met Has asked spec q moment folder spans counts kept executed = met_in (log_format spec q) Has asked spec q moment folder spans counts refl kept executed
+met Has asked spec q moment folder spans counts none kept executed = met_in (log_format spec q) Has asked spec q moment folder spans counts refl none kept executed

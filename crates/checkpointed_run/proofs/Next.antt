@@ -13,7 +13,7 @@ use Rattle.ledger_model.specs.Grammar.{IsEntry, payload_of}
 use Rattle.disk_model.specs.Disk.{DiskState}
 use Rattle.disk_model.specs.Disk.{Files as Contents}
 use Rattle.execution.specs.Formats.{lines_in, log_format}
-use Rattle.execution.specs.Outputs.{asked_in, files_named, forbidden_by, own_names}
+use Rattle.execution.specs.Outputs.{asked_in, files_named, forbidden_by, log_names, own_names}
 use Rattle.execution.specs.Plans.{PlannedQuery, asked_for}
 use Rattle.execution.specs.Texts.{into_in, run_text}
 use Rattle.ledger_model.specs.Entries.{Entry}
@@ -53,6 +53,7 @@ use Rattle.checkpointed_run.specs.Files.{files_with, ArePlaced}
 use Rattle.checkpointed_run.specs.Grounds.{IsRead, GoOn}
 use Rattle.checkpointed_run.specs.Sound.{IsSound}
 use Rattle.checkpointed_run.proofs.Meant.{IsMet, met}
+use Rattle.execution.proofs.NotGiven.{none_bad}
 use Rattle.checkpointed_run.proofs.OutputsApart.{outputs_apart}
 use Rattle.checkpointed_run.proofs.Placed.{outputs_are}
 use Rattle.column_kinds.specs.Past.{Past}
@@ -168,13 +169,13 @@ module _ {D : Type 0} (state : D → DiskState) (ended : Commit D → List ℕ �
   named_by logs = ap (files_named request.spec logs) read.into_is ∙ rw read.no_stdout refl
 
   abbrev pub logs : List (List ℕ)
-  logs = map (λ (span : Span). span.name) spans
+  logs = log_names request.q spans
 
   pub kept : AreKept lines true spans folder
   kept = each_kept lines written folder spans go.sound
 
   pub is_met : IsMet (λ a rows. Holds kind a started rows outputs now) asked request.spec request.q request.moment folder spans counts
-  is_met = met (λ a rows. Holds kind a started rows outputs now) asked request.spec request.q request.moment folder spans counts kept carried.executed
+  is_met = met (λ a rows. Holds kind a started rows outputs now) asked request.spec request.q request.moment folder spans counts (none_bad request.spec request.q read.built) kept carried.executed
 
   abbrev pub past : Past
   past = past_of lines true folder spans

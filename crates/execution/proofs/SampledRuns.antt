@@ -1,5 +1,6 @@
 -- What a run over sampled columns says of its query.
-use Rattle.std.proofs.Common.{◌≡◌, Bool, List, ℕ, ℤ, Option, Some, None, inl, inr, subst}
+use Rattle.std.proofs.Common.{◌≡◌, ◌∙◌, ◌+◌, Bool, List, ℕ, ℤ, Option, Some, None, inl, inr, ap, subst}
+use Rattle.grammar.specs.Filled.{given_bad}
 use Rattle.grammar.specs.Trees as model
 use Rattle.lp_model.specs.Outside.{Folder, Told}
 use Rattle.command_words.specs.declared.spec.Spec.{Spec}
@@ -9,6 +10,7 @@ use Rattle.log_reading.specs.declared.span.Span.{Span}
 use Rattle.log_reading.specs.Page.{IsTooMany}
 use Rattle.log_reading.specs.Spans.{AreKept, BadLine, spans_bad_lines}
 use Rattle.text_output.specs.Output.{StageKind}
+use Rattle.query_run.specs.declared.executing.Counts.{Counts}
 use Rattle.query_run.specs.declared.executing.Written.{Written}
 use Rattle.query_types.specs.declared.fault.TypeFault.{TypeFault}
 use Rattle.row_output.specs.Asked.{Asked}
@@ -16,8 +18,11 @@ use Rattle.row_output.specs.Rows.{Holds, Stops}
 use Rattle.row_output.specs.declared.fault.Refused.{Refused}
 use Rattle.column_kinds.specs.Spans.{past_of}
 use Rattle.execution.specs.declared.formats.LogFormat.TheVariants as F
+use Rattle.execution.specs.Budgets.{IsBudget}
+use Rattle.execution.specs.declared.errors.BadBudget.{BadBudget}
 use Rattle.execution.specs.Executed.{IsExecuted, IsStopped, IsParseError, IsUnplaced, IsUnplanned, IsUntouched}
 use Rattle.execution.specs.Plans.{PlannedQuery}
+use Rattle.execution.proofs.Budgeting.{AreAll, told_beside}
 use Rattle.execution.specs.Telling.{IsFront, IsRefused, IsTold, Telling, telling}
 use Rattle.execution.specs.Telling.{IsUnplaced as IsRefusedOutput}
 
@@ -28,23 +33,23 @@ abbrev rules_with : ℕ → Spec → ℤ → model.Query → (PlannedQuery → A
 rules_with limit spec moment q asked = telling limit spec.ts_format moment q asked
 
 module _ {S : Type 0} (kind : StageKind S) (told : Option Folder) (start now : S) (asked : PlannedQuery → Asked) (spec : Spec) (moment : ℤ) (q : model.Query) (options : DelimitedOptions) (limit : ℕ) (waits : Bool) where
-  written_all : (told : Option Folder) (spans : List Span) (run : Written)
+  written_all : (told : Option Folder) (spans : List Span) (run : Written) (counts : Counts) → AreAll q run.counts counts
       → Told told (λ folder. Kept options waits spans folder → IsTold kind (rules_with limit spec moment q asked) start (past_of (delimited_lines options) waits folder spans) (delimited_lines options) waits folder spans run now)
-      → IsExecuted (F.Sampled options limit) waits told (λ asked rows. Holds kind asked start rows run.outputs now) asked spec moment q spans run.counts
-  written_all None spans run ran = tt
-  written_all (Some folder) spans run ran = λ kept.
+      → IsExecuted (F.Sampled options limit) waits told (λ asked rows. Holds kind asked start rows run.outputs now) asked spec moment q spans counts
+  written_all None spans run counts of_all ran = tt
+  written_all (Some folder) spans run counts of_all ran = λ kept.
       let all = ran kept in
       record {
         plan = all.plan;
         is_planned = all.planned;
-        written = λ again. record { has = all.holds; processed = all.processed; output = all.rows; bad = all.bad };
+        written = λ again. record { has = all.holds; processed = of_all.processed ∙ all.processed; output = of_all.output ∙ all.rows; bad = of_all.bad ∙ ap (λ (n : ℕ). given_bad q + n) all.bad };
       }
 
-  pub executed : (slice spans : List Span) (run : Written) → slice ≡ spans
+  pub executed : (slice spans : List Span) (run : Written) (counts : Counts) → slice ≡ spans → AreAll q run.counts counts
       → Told told (λ folder. Kept options waits slice folder → IsTold kind (rules_with limit spec moment q asked) start (past_of (delimited_lines options) waits folder slice) (delimited_lines options) waits folder slice run now)
-      → IsExecuted (F.Sampled options limit) waits told (λ asked rows. Holds kind asked start rows run.outputs now) asked spec moment q spans run.counts
-  executed slice spans run listed ran =
-      subst (λ (s : List Span). IsExecuted (F.Sampled options limit) waits told (λ asked rows. Holds kind asked start rows run.outputs now) asked spec moment q s run.counts) listed (written_all told slice run ran)
+      → IsExecuted (F.Sampled options limit) waits told (λ asked rows. Holds kind asked start rows run.outputs now) asked spec moment q spans counts
+  executed slice spans run counts listed of_all ran =
+      subst (λ (s : List Span). IsExecuted (F.Sampled options limit) waits told (λ asked rows. Holds kind asked start rows run.outputs now) asked spec moment q s counts) listed (written_all told slice run counts of_all ran)
 
   -- ---- it stopped
 
@@ -112,10 +117,10 @@ module _ {S : Type 0} (kind : StageKind S) (told : Option Folder) (start now : S
       → IsStopped (F.Sampled options limit) waits told (now ≡ start) (λ asked rows. Stops kind asked start rows now) asked spec moment q spans
   refused_stopped slice spans fault listed refused = stopped slice spans listed (refused_front told slice fault refused)
 
-pub parse_error : (told : Option Folder) (spec : Spec) (moment : ℤ) (q : model.Query) (options : DelimitedOptions) (limit : ℕ) (waits : Bool) (slice spans : List Span) (most : Option ℕ) (line : BadLine)
-    → slice ≡ spans → most ≡ spec.errors
-    → Told told (λ folder. Kept options waits slice folder → IsTooMany most 0 (spans_bad_lines (delimited_lines options) waits folder slice) line)
+pub parse_error : (told : Option Folder) (spec : Spec) (moment : ℤ) (q : model.Query) (options : DelimitedOptions) (limit : ℕ) (waits : Bool) (slice spans : List Span) (errors : ℕ) (budget : BadBudget) (line : BadLine)
+    → slice ≡ spans → spec.errors ≡ Some errors → IsBudget spec.errors (given_bad q) budget
+    → Told told (λ folder. Kept options waits slice folder → IsTooMany (Some budget.most) 0 (spans_bad_lines (delimited_lines options) waits folder slice) line)
     → IsParseError (F.Sampled options limit) waits told spec moment q spans line
-parse_error told spec moment q options limit waits slice spans most line listed same exceeds =
-    let Of : List Span → Option ℕ → Type 0 = λ s m. Told told (λ folder. Kept options waits s folder → IsTooMany m 0 (spans_bad_lines (delimited_lines options) waits folder s) line) in
-    record { typed = tt; exceeds = subst (λ (m : Option ℕ). Of spans m) same (subst (λ (s : List Span). Of s most) listed exceeds) }
+parse_error told spec moment q options limit waits slice spans errors budget line listed are is exceeds =
+    let Of : List Span → Type 0 = λ s. Told told (λ folder. Kept options waits s folder → IsTooMany spec.errors (given_bad q) (spans_bad_lines (delimited_lines options) waits folder s) line) in
+    record { typed = tt; exceeds = subst Of listed (told_beside told spec.errors (given_bad q) errors budget (Kept options waits slice) (λ folder. spans_bad_lines (delimited_lines options) waits folder slice) line are is exceeds) }

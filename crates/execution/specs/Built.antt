@@ -23,7 +23,7 @@ asks_query (test.IsNull at value negated) = false
 asks_query (test.Like at value pattern negated) = false
 asks_query (test.Between at value low high negated) = false
 asks_query (test.InList at value items negated) = false
-asks_query (test.InQuery at value negated) = true
+asks_query (test.InQuery at value negated given) = true
 
 abbrev pub maybe_asks : Option Test → Bool
 maybe_asks None = false

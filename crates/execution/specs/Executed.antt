@@ -1,5 +1,6 @@
 -- What a query writes over spans of logs.
-use Rattle.std.specs.Prelude.{◌≡◌, ◌⊎◌, ℕ, ℤ, Bool, List, length, pos, ◌≤ℤ◌, ◌<ℤ◌, Option, Ok, Err, ⊤}
+use Rattle.std.specs.Prelude.{◌≡◌, ◌⊎◌, ◌+◌, ℕ, ℤ, Bool, List, length, pos, ◌≤ℤ◌, ◌<ℤ◌, Option, Ok, Err, ⊤}
+use Rattle.grammar.specs.Filled.{given_bad}
 use Rattle.grammar.specs.Trees as model
 use Rattle.lp_model.specs.Outside.{Folder, Told}
 use Rattle.lp_time.specs.declared.piece.Piece.{Piece}
@@ -49,18 +50,18 @@ abbrev pub rows_in : LogFormat → Bool → List Piece → PlannedQuery → Fold
 rows_in (F.Tabled format) waits pattern plan folder spans = table_rows format plan (spans_found (lines_of format) waits folder spans)
 rows_in (F.Sampled options limit) waits pattern plan folder spans = told_rows pattern (told_in options waits limit pattern folder spans) plan (spans_found (delimited_lines options) waits folder spans)
 
--- Of what is asked of a plan's rows this is so; so many records, rows and bad lines were met.
-pub record Writes (Has : Asked → List (List Value) → Type 0) (asked : PlannedQuery → Asked) (spec : Spec) (format : LogFormat) (waits : Bool) (plan : PlannedQuery) (spans : List Span) (counts : Counts) (folder : Folder) : Type 0 where
+-- Of what is asked of a plan's rows this is so; so many records, rows and bad lines were met, those of the query's subqueries before.
+pub record Writes (Has : Asked → List (List Value) → Type 0) (asked : PlannedQuery → Asked) (spec : Spec) (q : model.Query) (format : LogFormat) (waits : Bool) (plan : PlannedQuery) (spans : List Span) (counts : Counts) (folder : Folder) : Type 0 where
   pub has : Has (asked plan) (rows_in format waits spec.ts_format plan folder spans)
   pub processed : counts.processed ≡ length (spans_found (lines_in format) waits folder spans)
   pub output : counts.output ≡ length (left_of (asked plan) (rows_in format waits spec.ts_format plan folder spans))
-  pub bad : counts.bad ≡ length (spans_bad (lines_in format) waits folder spans)
+  pub bad : counts.bad ≡ given_bad q + length (spans_bad (lines_in format) waits folder spans)
 
 -- where each span begins as its log was kept, the rows of the query's plan over a table are written
 pub record WritesAll (format : LogFormat) (waits : Bool) (told : Option Folder) (Has : Asked → List (List Value) → Type 0) (asked : PlannedQuery → Asked) (spec : Spec) (moment : ℤ) (q : model.Query) (spans : List Span) (counts : Counts) (table : TableColumns) : Type 0 where
   pub plan : PlannedQuery
   pub is_planned : query_plan table moment q ≡ Ok plan
-  pub written : Told told (λ folder. AreKept (lines_in format) waits spans folder → Writes Has asked spec format waits plan spans counts folder)
+  pub written : Told told (λ folder. AreKept (lines_in format) waits spans folder → Writes Has asked spec q format waits plan spans counts folder)
 
 -- the query's rows are written
 abbrev pub IsExecuted : LogFormat → Bool → Option Folder → (Asked → List (List Value) → Type 0) → (PlannedQuery → Asked) → Spec → ℤ → model.Query → List Span → Counts → Type 0
@@ -85,10 +86,10 @@ abbrev pub IsTyped : LogFormat → ℤ → model.Query → Type 0
 IsTyped (F.Tabled format) moment q = (plan : PlannedQuery) × (query_plan (table_of format) moment q ≡ Ok plan)
 IsTyped (F.Sampled options limit) moment q = ⊤
 
--- of the bad lines of the spans, in order, this is the first that is one too many
+-- of the bad lines of the spans, in order, this is the first that is one too many, with those of the query's subqueries before
 pub record IsParseError (format : LogFormat) (waits : Bool) (told : Option Folder) (spec : Spec) (moment : ℤ) (q : model.Query) (spans : List Span) (line : BadLine) : Type 0 where
   pub typed : IsTyped format moment q
-  pub exceeds : Told told (λ folder. AreKept (lines_in format) waits spans folder → IsTooMany spec.errors 0 (spans_bad_lines (lines_in format) waits folder spans) line)
+  pub exceeds : Told told (λ folder. AreKept (lines_in format) waits spans folder → IsTooMany spec.errors (given_bad q) (spans_bad_lines (lines_in format) waits folder spans) line)
 
 -- a query has no plan, by this fault
 abbrev pub IsUnplanned : LogFormat → Bool → Option Folder → Spec → ℤ → model.Query → List Span → TypeFault → Type 0

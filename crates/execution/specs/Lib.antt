@@ -1,6 +1,7 @@
 pub mod Formats
 pub mod Built
 pub mod Plans
+pub mod Budgets
 pub mod Executed
 pub mod Faults
 pub mod Texts

@@ -8,7 +8,6 @@ ghost use Rattle.log_reading.specs.Spans.{AllSpans, AreReadable, AreKept, IsSpan
 ghost use Rattle.text_output.specs.Output.{kind_of};
 ghost use Rattle.row_output.specs.Rows.{Holds, Stops};
 ghost use Rattle.query_tree.specs.Views.{query_of};
-ghost use Rattle.execution.specs.Built.{is_run_built};
 ghost use Rattle.execution.specs.Executed.{IsMoment, IsExecuted, IsParseError, IsStopped, IsUnplaced, IsUnplanned, IsUntouched};
 ghost use Rattle.execution.specs.Faults.{IfParse, IfPlan, IfRefused};
 ghost use Rattle.execution.specs.Formats.{lines_in, log_format};
@@ -16,6 +15,7 @@ ghost use Rattle.execution.specs.Outputs.{asked_in};
 ghost use Rattle.execution.specs.Texts.{output_of, sections_in};
 ghost use Rattle.command_words.specs.declared.formats.OutputFormat.TheVariants as O;
 
+use crate::errors::bad_budget;
 use crate::formats::{LogFormat, log_format};
 use crate::outputs::into_of;
 use crate::sampled::execute_sampled;
@@ -34,7 +34,8 @@ use tpl_output::Template;
 
 /// Runs a query over spans of logs, in order: their records, of which it takes those that WHERE keeps, and the text of the rows
 /// that SELECT makes of them, by the template where the output is by one. The columns of CSV and TSV logs are known behind their
-/// first records. Where unended lines wait, it takes of each span the lines that LF ends, and answers what it took; else a last
+/// first records. A query with subqueries has what they gave; their logs may be no outputs, and their bad lines count
+/// before its own. Where unended lines wait, it takes of each span the lines that LF ends, and answers what it took; else a last
 /// line without LF is taken too.
 pub fn execute<L: LogSource, G: Stage>(
     alloc: Global,
@@ -50,7 +51,6 @@ pub fn execute<L: LogSource, G: Stage>(
     requires moment { IsMoment moment }
     requires range { IsInRange spec.now }
     requires template { output_of spec.now (query_of query.now) ≡ O.Tpl → IsSome template }
-    requires built { is_run_built spec.now (query_of query.now) ≡ true }
     requires stage { IfSome spec.now.checkpoint (λ ledger. name_fault (ledger ++ codes ".stage") ≡ None) }
     requires few { length spans.now ≤ 100000 }
     requires spans { AllSpans spans.now IsSpan }
@@ -76,14 +76,19 @@ pub fn execute<L: LogSource, G: Stage>(
     let Ok(into) = into_of(alloc, spec, query, spans) else {
         return Err(RunFault::Memory);
     };
+    let Ok(budget) = bad_budget(spec.errors, query) else {
+        drop(into);
+        return Err(RunFault::Memory);
+    };
     let moment = Moment { seconds: moment };
     let wanted = wanted_as(spec, output_of(spec, query), template);
     match log_format(spec, query) {
         LogFormat::Tabled(format) => execute_tabled(
-            alloc, spec, format, query, moment, logs, spans, waits, wanted, into, stage,
+            alloc, spec, format, query, moment, logs, spans, waits, budget, wanted, into, stage,
         ),
         LogFormat::Sampled(options, limit) => execute_sampled(
-            alloc, spec, options, limit, query, moment, logs, spans, waits, wanted, into, stage,
+            alloc, spec, options, limit, query, moment, logs, spans, waits, budget, wanted, into,
+            stage,
         ),
     }
 }

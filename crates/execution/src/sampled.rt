@@ -9,14 +9,16 @@ ghost use Rattle.any_format.specs.Wanted.{wanted_text};
 ghost use Rattle.text_output.specs.Output.{kind_of};
 ghost use Rattle.row_output.specs.Rows.{Holds, Stops};
 ghost use Rattle.row_output.specs.Sinks.{IsUnplaced, files_for};
+ghost use Rattle.grammar.specs.Filled.{given_bad};
 ghost use Rattle.query_tree.specs.Views.{query_of};
+ghost use Rattle.execution.specs.Budgets.{IsBudget};
 ghost use Rattle.execution.specs.Executed.{IsExecuted, IsMoment, IsParseError, IsStopped, IsUnplanned, IsUntouched};
 ghost use Rattle.execution.specs.Executed.{IsUnplaced as IsUnplacedRun};
 ghost use Rattle.execution.specs.Faults.{IfParse, IfPlan, IfRefused};
 ghost use Rattle.execution.specs.Plans.{asked_for};
 ghost use Rattle.execution.specs.declared.formats.LogFormat.TheVariants as F;
 
-use crate::errors::most_bad;
+use crate::errors::{BadBudget, with_before};
 use crate::sampling::sample_query;
 use crate::{Ran, RunFault};
 use any_format::Wanted;
@@ -41,12 +43,14 @@ pub(crate) fn execute_sampled<L: LogSource, G: Stage>(
     logs: &mut L,
     spans: &Spans,
     waits: bool,
+    budget: BadBudget,
     wanted: Wanted,
     into: Into,
     stage: &mut G,
 ) -> Result<Ran, RunFault>
     requires separator { ¬ IsRefused options.separator }
     requires moment { IsMoment moment.seconds }
+    requires budget { IsBudget spec.now.errors (given_bad (query_of query.now)) budget }
     requires none { IsUnplaced into }
     requires few { length spans.now ≤ 100000 }
     requires spans { AllSpans spans.now IsSpan }
@@ -79,7 +83,7 @@ pub(crate) fn execute_sampled<L: LogSource, G: Stage>(
         wanted,
         into,
         query,
-        most_bad(spec.errors),
+        Some(budget.most),
         waits,
         logs,
         spans.as_slice(),
@@ -87,12 +91,15 @@ pub(crate) fn execute_sampled<L: LogSource, G: Stage>(
         stage,
     ) {
         Ok(run) => Ok(Ran {
-            counts: run.counts,
+            counts: with_before(run.counts, budget.before),
             outputs: run.outputs,
             took,
         }),
         Err(SampleFault::Plan(fault)) => Err(RunFault::Plan(fault)),
-        Err(SampleFault::Bad { log, row }) => Err(RunFault::ParseErrors { log, row }),
+        Err(SampleFault::Bad { log, row }) => match spec.errors {
+            Some(_) => Err(RunFault::ParseErrors { log, row }),
+            None => Err(RunFault::Memory),
+        },
         Err(SampleFault::Refused(why)) => Err(RunFault::Refused(why)),
         Err(SampleFault::Logs) => Err(RunFault::LogsFault),
         Err(SampleFault::Output) => Err(RunFault::StageFault),

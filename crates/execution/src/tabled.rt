@@ -7,7 +7,9 @@ ghost use Rattle.any_format.specs.Wanted.{wanted_text};
 ghost use Rattle.text_output.specs.Output.{kind_of};
 ghost use Rattle.row_output.specs.Rows.{Holds, Stops};
 ghost use Rattle.row_output.specs.Sinks.{IsUnplaced, files_for};
+ghost use Rattle.grammar.specs.Filled.{given_bad};
 ghost use Rattle.query_tree.specs.Views.{query_of};
+ghost use Rattle.execution.specs.Budgets.{IsBudget};
 ghost use Rattle.input_tables.specs.Tables.{lines_of};
 ghost use Rattle.execution.specs.Executed.{IsExecuted, IsMoment, IsParseError, IsStopped, IsUnplanned, IsUntouched};
 ghost use Rattle.execution.specs.Executed.{IsUnplaced as IsUnplacedRun};
@@ -16,7 +18,7 @@ ghost use Rattle.execution.specs.Plans.{asked_for};
 ghost use Rattle.execution.specs.declared.formats.LogFormat.TheVariants as F;
 
 use crate::carrying::carry_out;
-use crate::errors::most_bad;
+use crate::errors::{BadBudget, with_before};
 use crate::planning::{output_over, plan_over};
 use crate::{Ran, RunFault};
 use any_format::Wanted;
@@ -52,11 +54,13 @@ pub(crate) fn execute_tabled<L: LogSource, G: Stage>(
     logs: &mut L,
     spans: &Spans,
     waits: bool,
+    budget: BadBudget,
     wanted: Wanted,
     into: Into,
     stage: &mut G,
 ) -> Result<Ran, RunFault>
     requires moment { IsMoment moment.seconds }
+    requires budget { IsBudget spec.now.errors (given_bad (query_of query.now)) budget }
     requires none { IsUnplaced into }
     requires few { length spans.now ≤ 100000 }
     requires spans { AllSpans spans.now IsSpan }
@@ -96,12 +100,12 @@ pub(crate) fn execute_tabled<L: LogSource, G: Stage>(
         waits,
         logs,
         spans.as_slice(),
-        most_bad(spec.errors),
+        Some(budget.most),
         &mut took,
         stage,
     ) {
         Ok(run) => Ok(Ran {
-            counts: run.counts,
+            counts: with_before(run.counts, budget.before),
             outputs: run.outputs,
             took,
         }),
@@ -109,6 +113,9 @@ pub(crate) fn execute_tabled<L: LogSource, G: Stage>(
         Err(WriteFault::Logs) => Err(RunFault::LogsFault),
         Err(WriteFault::Output) => Err(RunFault::StageFault),
         Err(WriteFault::Refused(why)) => Err(RunFault::Refused(why)),
-        Err(WriteFault::Bad { log, row }) => Err(RunFault::ParseErrors { log, row }),
+        Err(WriteFault::Bad { log, row }) => match spec.errors {
+            Some(_) => Err(RunFault::ParseErrors { log, row }),
+            None => Err(RunFault::Memory),
+        },
     }
 }

@@ -1,5 +1,6 @@
 pub mod Classes
 pub mod Trees
+pub mod Filled
 pub mod Forms
 pub mod Rules
 pub mod Derivations

@@ -1,5 +1,7 @@
 -- Tokens, and what a query means as a tree.
 use Rattle.std.specs.Prelude.{ℕ, ℤ, Bool, true, false, List, [], ◌∷◌, ◌++◌, Option, Some, None}
+use Rattle.in_set.specs.Facts.{Facts}
+use Rattle.lp_values.specs.declared.kind.Kind.{Kind}
 use Rattle.grammar.specs.Classes.{Class, is_a}
 use Rattle.grammar.specs.declared.Class.TheVariants as c
 
@@ -41,7 +43,16 @@ mutual
     no_else : Otherwise
     an_else : Tree → Otherwise
 
--- a condition: a comparison has the number of its sign, and a subquery's condition stands without the subquery
+-- what a subquery gave, once it was run: the place of its expression, its kind, and what is remembered of its values; and the names of its
+-- logs, and how many bad lines these have
+pub record Given : Type 0 where
+  pub place : ℕ
+  pub kind : Kind
+  pub values : Facts
+  pub logs : List (List ℕ)
+  pub bad : ℕ
+
+-- a condition: a comparison has the number of its sign; an IN over a subquery stands without the subquery, and has what it gave once it was run
 pub data Test : Type 0 where
   Or : ℕ → Test → Test → Test
   And : ℕ → Test → Test → Test
@@ -51,7 +62,7 @@ pub data Test : Type 0 where
   Like : ℕ → Tree → Placed → Bool → Test
   Between : ℕ → Tree → Tree → Tree → Bool → Test
   InList : ℕ → Tree → Trees → Bool → Test
-  InQuery : ℕ → Tree → Bool → Test
+  InQuery : ℕ → Tree → Bool → Option Given → Test
 
 -- an expression with its alias
 pub record Item : Type 0 where
@@ -203,7 +214,7 @@ test_place (IsNull at a neg) = at
 test_place (Like at a p neg) = at
 test_place (Between at a b d neg) = at
 test_place (InList at a es neg) = at
-test_place (InQuery at a neg) = at
+test_place (InQuery at a neg given) = at
 
 abbrev pub test_at : ℕ → Test → Test
 test_at at (Or old a b) = Or at a b
@@ -214,7 +225,7 @@ test_at at (IsNull old a neg) = IsNull at a neg
 test_at at (Like old a p neg) = Like at a p neg
 test_at at (Between old a b d neg) = Between at a b d neg
 test_at at (InList old a es neg) = InList at a es neg
-test_at at (InQuery old a neg) = InQuery at a neg
+test_at at (InQuery old a neg given) = InQuery at a neg given
 
 -- a condition in parentheses stands where they do
 abbrev pub condition_at : ℕ → Condition → Condition
@@ -242,7 +253,7 @@ abbrev pub range_test : Tree → Bool → Range → Condition
 range_test e neg (like p) = record { test = Like (place_of e) e p neg; asked = [] }
 range_test e neg (between b d) = record { test = Between (place_of e) e b d neg; asked = [] }
 range_test e neg (within (values es)) = record { test = InList (place_of e) e (trees_of es) neg; asked = [] }
-range_test e neg (within (asked q)) = record { test = InQuery (place_of e) e neg; asked = q ∷ [] }
+range_test e neg (within (asked q)) = record { test = InQuery (place_of e) e neg None; asked = q ∷ [] }
 
 -- a test of its first expression and what stands behind
 abbrev pub test_of : Tree → Tail → Condition

@@ -51,7 +51,7 @@ test_has (test.IsNull at value negated) = has_aggregate value
 test_has (test.Like at value pattern negated) = has_aggregate value
 test_has (test.Between at value low high negated) = has_aggregate value || has_aggregate low || has_aggregate high
 test_has (test.InList at value items negated) = has_aggregate value || have_aggregate items
-test_has (test.InQuery at value negated) = has_aggregate value
+test_has (test.InQuery at value negated given) = has_aggregate value
 
 abbrev pub maybe_has : Option Test → Bool
 maybe_has None = false

@@ -1,18 +1,20 @@
 -- What a condition of a query means, with the places of its fields, aggregates and GROUPINGs.
 use Rattle.std.specs.Prelude.{ℕ, Bool, List, [], Option, Some, None, Result, Ok, Err, Box}
 use Rattle.std.specs.declared.alloc.Global.{Global}
-use Rattle.grammar.specs.Trees.{Tree, Trees, no_trees, more_trees, Test, place_of}
+use Rattle.grammar.specs.Trees.{Given, Tree, Trees, no_trees, more_trees, Test, place_of}
 use Rattle.grammar.specs.Trees.{Test as test}
+use Rattle.in_set.specs.Facts.{Facts}
 use Rattle.lp_values.specs.declared.comparison.Compare.{Compare}
 use Rattle.lp_values.specs.declared.kind.Kind.{Kind}
 use Rattle.lp_values.specs.declared.kind.Kind.TheVariants as K
 use Rattle.lp_values.specs.declared.value.Value.{Value}
 use Rattle.query_types.specs.declared.fault.TypeFault.{TypeFault}
 use Rattle.query_types.specs.declared.fault.TypeFault.TheVariants as F
+use Rattle.query_types.specs.declared.table.NamedKind.{NamedKind}
 use Rattle.query_types.specs.declared.table.TableColumns.{TableColumns}
 use Rattle.query_types.specs.Conditions.{compare_of}
-use Rattle.query_types.specs.Meanings.{added, followed}
-use Rattle.group_planning.specs.declared.check.SenseCheck.{SenseCheck, Or', And', Not', Compare as Compares, IsNull, Like, Between, Within}
+use Rattle.query_types.specs.Meanings.{added, fits, followed, where_it_is}
+use Rattle.group_planning.specs.declared.check.SenseCheck.{SenseCheck, Or', And', Not', Compare as Compares, IsNull, Like, Between, Within, Contained}
 use Rattle.group_planning.specs.Senses.{Sense, sense_of, listed_senses, kind_sensed}
 use Rattle.group_planning.specs.Sensing.{Named, sensed, fitting_sense}
 
@@ -25,6 +27,7 @@ pub data Check : Type 0 where
   like : Sense → List ℕ → Bool → Check
   between : Sense → Sense → Sense → Bool → Check
   within : Sense → List Sense → Bool → Check
+  contained : Sense → Facts → Bool → Check
 
 -- the same, less where it lies in memory
 abbrev pub check_of : SenseCheck → Check
@@ -36,9 +39,16 @@ check_of (IsNull value negated) = null (sense_of value) negated
 check_of (Like value pattern negated) = like (sense_of value) pattern negated
 check_of (Between value low high negated) = between (sense_of value) (sense_of low) (sense_of high) negated
 check_of (Within value items negated) = within (sense_of value) (listed_senses items) negated
+check_of (Contained value values negated) = contained (sense_of value) values.value negated
 
 abbrev pub boxed_check : Box SenseCheck Global → Check
 boxed_check box = check_of box.value
+
+-- a value that is to be one of those that a subquery gave, whose kind has to fit; where it doesn't, the fault is at the subquery's
+-- expression. A subquery that wasn't run gives no plan
+abbrev pub contained_sense : List NamedKind → ℕ → Bool → Option Given → Sense → Result Check TypeFault
+contained_sense columns at negated None value = Err (F.UnknownFunction at)
+contained_sense columns at negated (Some given) value = where_it_is (fits (kind_sensed columns value) given.kind) (F.KindMismatch given.place) (contained value given.values negated)
 
 module _ (wide : Bool) (table : TableColumns) (moment : Value) (aliases : List Named) where
   -- a right side, whose kind has to fit the left one's
@@ -50,7 +60,7 @@ module _ (wide : Bool) (table : TableColumns) (moment : Value) (aliases : List N
   all_fit_sensed kind no_trees = Ok []
   all_fit_sensed kind (more_trees item items) = added (fit_sensed kind item) (all_fit_sensed kind items)
 
-  -- what a condition means where these aliases are in force, or its first fault from the left; subqueries aren't built yet
+  -- what a condition means where these aliases are in force, or its first fault from the left
   abbrev pub checked : Test → Result Check TypeFault
   checked (test.Or at a b) = followed (checked a) (λ x. followed (checked b) (λ y. Ok (either x y)))
   checked (test.And at a b) = followed (checked a) (λ x. followed (checked b) (λ y. Ok (both x y)))
@@ -64,7 +74,7 @@ module _ (wide : Bool) (table : TableColumns) (moment : Value) (aliases : List N
       (λ y. followed (fit_sensed (kind_sensed table.columns x) high) (λ z. Ok (between x y z negated))))
   checked (test.InList at value items negated) =
       followed (sensed wide table moment aliases value) (λ x. followed (all_fit_sensed (kind_sensed table.columns x) items) (λ xs. Ok (within x xs negated)))
-  checked (test.InQuery at value negated) = Err (F.UnknownFunction at)
+  checked (test.InQuery at value negated given) = followed (sensed wide table moment aliases value) (contained_sense table.columns at negated given)
 
   -- WHERE or HAVING, where it stands
   abbrev pub maybe_checked : Option Test → Result (Option Check) TypeFault

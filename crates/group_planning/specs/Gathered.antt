@@ -8,7 +8,7 @@ use Rattle.query_types.specs.Terms.{Term, Terms, column, made, no_terms, more_te
 use Rattle.group_planning.specs.declared.gathering.Aggregate.{Aggregate}
 use Rattle.group_planning.specs.Senses.{Sense, Senses, field, fixed, formed, aggregate, grouping, no_senses, more_senses, senses_of, sense_of, same_aggregate, same_sense}
 use Rattle.group_planning.specs.Clauses.{Clauses}
-use Rattle.group_planning.specs.Checks.{Check, either, both, opposite, compared, null, like, between, within}
+use Rattle.group_planning.specs.Checks.{Check, either, both, opposite, compared, null, like, between, within, contained}
 
 -- an aggregate and its argument
 pub record Counted : Type 0 where
@@ -51,6 +51,7 @@ gathered_in found (null value negated) = gathered found value
 gathered_in found (like value pattern negated) = gathered found value
 gathered_in found (between value low high negated) = gathered (gathered (gathered found value) low) high
 gathered_in found (within value items negated) = list_gathered (gathered found value) items
+gathered_in found (contained value values negated) = gathered found value
 
 abbrev pub maybe_gathered : List Counted → Option Check → List Counted
 maybe_gathered found None = found
@@ -98,3 +99,4 @@ module _ (keys : List Sense) (found : List Counted) where
   seated_in (like value pattern negated) = filter.like (seated value) pattern negated
   seated_in (between value low high negated) = filter.between (seated value) (seated low) (seated high) negated
   seated_in (within value items negated) = filter.within (seated value) (map seated items) negated
+  seated_in (contained value values negated) = filter.contained (seated value) values negated

@@ -8,7 +8,7 @@ use Rattle.query_types.specs.declared.fault.TypeFault.TheVariants as F
 use Rattle.query_types.specs.Meanings.{added}
 use Rattle.query_types.specs.Orders.{place_found}
 use Rattle.group_planning.specs.Senses.{Sense, Senses, field, fixed, formed, aggregate, grouping, no_senses, more_senses, senses_of, same_sense, is_key}
-use Rattle.group_planning.specs.Checks.{Check, either, both, opposite, compared, null, like, between, within}
+use Rattle.group_planning.specs.Checks.{Check, either, both, opposite, compared, null, like, between, within, contained}
 use Rattle.group_planning.specs.Clauses.{Clauses}
 
 -- the place of the first field that may not stand, or GROUPING of what is no key; `free` tells that fields may stand here, as they
@@ -39,6 +39,7 @@ module _ (keys : List Sense) (free : Bool) where
   misplaced_in (like value pattern negated) = misplaced keys free value
   misplaced_in (between value low high negated) = option_or (misplaced keys free value) (option_or (misplaced keys free low) (misplaced keys free high))
   misplaced_in (within value items negated) = option_or (misplaced keys free value) (list_misplaced items)
+  misplaced_in (contained value values negated) = misplaced keys free value
 
   abbrev pub maybe_misplaced : Option Check → Option ℕ
   maybe_misplaced None = None

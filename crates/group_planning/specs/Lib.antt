@@ -6,3 +6,4 @@ pub mod Judged
 pub mod Gathered
 pub mod Groups
 pub mod Asked
+pub mod Subquery

@@ -1,7 +1,9 @@
 // A condition of a query with groups once its names are replaced.
 
 use crate::sense::{SenseForm, SenseList};
+use in_set::InSet;
 use lp_values::{Compare, Text};
+use std::rc::Rc;
 
 /// A condition, with the places of its fields, aggregates and GROUPINGs.
 #[derive(Drop)]
@@ -33,6 +35,12 @@ pub enum SenseCheck {
     Within {
         value: SenseForm,
         items: SenseList,
+        negated: bool,
+    },
+    /// The value is one of those that a subquery gave.
+    Contained {
+        value: SenseForm,
+        values: Rc<InSet>,
         negated: bool,
     },
 }

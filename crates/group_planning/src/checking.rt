@@ -2,11 +2,11 @@
 ghost use Rattle.std.specs.Prelude.{◌≡◌, map, option_map, IfOk};
 ghost use Rattle.grammar.specs.Trees.{Test as test};
 ghost use Rattle.grammar.specs.Trees.{trees_of as listed};
-ghost use Rattle.query_tree.specs.Views.{tree_of, trees_of, test_of, placed_of, number_of};
+ghost use Rattle.query_tree.specs.Views.{given_of, tree_of, trees_of, test_of, placed_of, number_of};
 ghost use Rattle.query_types.specs.Meanings.{Answers};
 ghost use Rattle.group_planning.specs.Senses.{listed_senses, sense_of};
 ghost use Rattle.group_planning.specs.Sensing.{named_of};
-ghost use Rattle.group_planning.specs.Checks.{either, both, opposite, boxed_check, check_of, fit_sensed, all_fit_sensed, checked, maybe_checked};
+ghost use Rattle.group_planning.specs.Checks.{either, both, opposite, boxed_check, check_of, fit_sensed, all_fit_sensed, contained_sense, checked, maybe_checked};
 
 use crate::alias::SenseAlias;
 use crate::check::SenseCheck;
@@ -15,9 +15,10 @@ use crate::kinds::kind_of_sense;
 use crate::sense::{SenseForm, SenseList};
 use crate::sensing::sensed;
 use lp_values::{Compare, Kind, Value};
-use query_tree::{Cond, Expr, ExprList, Placed};
-use query_types::{TableColumns, TypeFault};
+use query_tree::{Cond, Expr, ExprList, Given, Placed};
+use query_types::{TableColumns, TypeFault, fits};
 use std::alloc::{AllocError, Global};
+use std::rc::Rc;
 
 // A right side, whose kind has to fit.
 fn fit_sensed(
@@ -169,6 +170,51 @@ fn within(
     Ok(Box::new(alloc, check)?)
 }
 
+// A value of which it is asked whether it is one of those that a subquery gave, where its kind fits.
+fn contained_sense(
+    table: &TableColumns,
+    at: u32,
+    negated: bool,
+    given: &Option<Given>,
+    value: SenseForm,
+) -> Result<SenseCheck, TypeFault>
+    ensures { Answers check_of result (contained_sense table.now.columns at negated (option_map given_of given.now) (sense_of value)) }
+{
+    let Some(given) = given else {
+        drop(value);
+        return Err(TypeFault::UnknownFunction { at });
+    };
+    if !fits(kind_of_sense(table, &value), given.kind) {
+        drop(value);
+        return Err(TypeFault::KindMismatch { at: given.place });
+    }
+    Ok(SenseCheck::Contained {
+        value,
+        values: Rc::clone(&given.values)?,
+        negated,
+    })
+}
+
+// A test among the values of a subquery.
+#[inline(never)]
+fn contained(
+    alloc: Global,
+    wide: bool,
+    table: &TableColumns,
+    moment: &Value,
+    aliases: &[SenseAlias],
+    at: u32,
+    value: &Expr,
+    negated: bool,
+    given: &Option<Given>,
+) -> Result<Box<SenseCheck>, TypeFault>
+    ensures { Answers boxed_check result (checked wide table.now moment.now (map named_of aliases.now) (test.InQuery at (tree_of value.now) negated (option_map given_of given.now))) }
+{
+    let value = sensed(alloc, wide, table, moment, aliases, value)?;
+    let check = contained_sense(table, at, negated, given, value)?;
+    Ok(Box::new(alloc, check)?)
+}
+
 // The first or the second.
 #[inline(never)]
 fn or(
@@ -261,7 +307,15 @@ fn boxed(
         } => like(
             alloc, wide, table, moment, aliases, value, pattern, *negated,
         ),
-        Cond::InQuery { at, .. } => Err(TypeFault::UnknownFunction { at: *at }),
+        Cond::InQuery {
+            at,
+            value,
+            subquery: _,
+            negated,
+            given,
+        } => contained(
+            alloc, wide, table, moment, aliases, *at, value, *negated, given,
+        ),
     }
 }
 

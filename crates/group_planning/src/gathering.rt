@@ -142,6 +142,11 @@ fn gather_in(
             gather(alloc, found, value)?;
             gather_all(alloc, found, items.items.as_slice())
         }
+        SenseCheck::Contained {
+            value,
+            values: _,
+            negated: _,
+        } => gather(alloc, found, value),
     }
 }
 

@@ -23,9 +23,9 @@ fn is_free(free: bool, keys: &[SenseForm], sense: &SenseForm) -> bool
     free || is_key(keys, sense)
 }
 
-// The first that is misplaced in some senses.
+/// The first that is misplaced in some senses.
 #[cycle(places)]
-fn all_misplaced(senses: &[SenseForm], keys: &[SenseForm], free: bool) -> Option<u32>
+pub(crate) fn all_misplaced(senses: &[SenseForm], keys: &[SenseForm], free: bool) -> Option<u32>
     ensures { result ≡ all_misplaced (map sense_of keys.now) free (senses_of (map sense_of senses.now)) }
 {
     for sense in senses {
@@ -98,11 +98,20 @@ fn misplaced_in(check: &SenseCheck, keys: &[SenseForm], free: bool) -> Option<u3
             let behind = all_misplaced(items.items.as_slice(), keys, free);
             misplaced(value, keys, free).or(behind)
         }
+        SenseCheck::Contained {
+            value,
+            values: _,
+            negated: _,
+        } => misplaced(value, keys, free),
     }
 }
 
-// The first that is misplaced in WHERE or HAVING.
-fn maybe_misplaced(check: &Option<SenseCheck>, keys: &[SenseForm], free: bool) -> Option<u32>
+/// The first that is misplaced in WHERE or HAVING.
+pub(crate) fn maybe_misplaced(
+    check: &Option<SenseCheck>,
+    keys: &[SenseForm],
+    free: bool,
+) -> Option<u32>
     ensures { result ≡ maybe_misplaced (map sense_of keys.now) free (option_map check_of check.now) }
 {
     match check {

@@ -2,6 +2,7 @@
 //!
 //! To the crates above: [`plan_groups`] answers exactly the plan that `specs::Groups` gives a query and a table, or exactly the
 //! first fault of its clauses, with its place. [`is_grouped`] tells which queries have groups.
+//! [`plan_subquery`] answers the plan that `specs::Subquery` gives a subquery, in which aggregates and GROUPING are faults.
 #![tactic(auto)]
 
 mod aggregates;
@@ -22,7 +23,9 @@ mod seating;
 mod selecting;
 mod sense;
 mod sensing;
+mod subquery;
 
 pub use asking::is_grouped;
 pub use plan::GroupPlan;
 pub use planning::plan_groups;
+pub use subquery::plan_subquery;

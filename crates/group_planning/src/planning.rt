@@ -249,8 +249,8 @@ fn groups_behind(
     Ok(groups_of(alloc, table, moment, query, clauses, order)?)
 }
 
-// The aliases of USING and of SELECT, and how many are those of USING.
-fn aliases_of(
+/// The aliases of USING and of SELECT, and how many are those of USING.
+pub(crate) fn aliases_of(
     alloc: Global,
     table: &TableColumns,
     moment: &Value,

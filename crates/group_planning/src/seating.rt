@@ -12,9 +12,11 @@ use crate::check::SenseCheck;
 use crate::gathering::{Aggregate, aggregate_place};
 use crate::sameness::first_same;
 use crate::sense::{SenseForm, SenseList};
+use in_set::InSet;
 use lp_values::{Compare, Kind, Text};
 use query_types::{Condition, Form, Meaning, MeaningList, Operation, made};
 use std::alloc::{AllocError, Global};
+use std::rc::Rc;
 
 // The column at a place behind so many.
 fn column_at(first: usize, place: Option<usize>) -> Result<Form, AllocError>
@@ -222,6 +224,27 @@ fn seat_within(
     Ok(Box::new(alloc, condition)?)
 }
 
+// A test among the values of a subquery over such a row.
+fn seat_contained(
+    alloc: Global,
+    keys: &[SenseForm],
+    found: &[Aggregate],
+    value: &SenseForm,
+    values: &Rc<InSet>,
+    negated: bool,
+) -> Result<Box<Condition>, AllocError>
+    ensures { IfOk result (λ condition. boxed_filter condition ≡ seated_in (map sense_of keys.now) (map counted_of found.now) (check.contained (sense_of value.now) values.now.value negated)) }
+{
+    let value = seat(alloc, keys, found, value)?;
+    let values = Rc::clone(values)?;
+    let condition = Condition::Contained {
+        value,
+        values,
+        negated,
+    };
+    Ok(Box::new(alloc, condition)?)
+}
+
 // The first or the second.
 fn or(
     alloc: Global,
@@ -295,6 +318,11 @@ fn seated_in(
             items,
             negated,
         } => seat_within(alloc, keys, found, value, items, *negated),
+        SenseCheck::Contained {
+            value,
+            values,
+            negated,
+        } => seat_contained(alloc, keys, found, value, values, *negated),
     }
 }
 

@@ -1,5 +1,6 @@
 -- What is found with one value more.
 use Rattle.std.proofs.Common.{◌≡◌, ℕ, ℤ, pos, ◌*ℤ◌, Bool, true, false, ◌||◌, List, [], ◌∷◌, ◌++◌, refl, sym, ◌∙◌, ap, inl, inr, nat_eq, arith}
+use Rattle.std.proofs.Common.{subst, fold, append-nil, append_assoc}
 use Rattle.std.proofs.lemmas.Bool.{cases_Bool}
 use Rattle.std.proofs.lemmas.List.Folds.{list_any-append}
 use Rattle.std.specs.List.{list_any}
@@ -15,7 +16,7 @@ use Rattle.std.specs.Cmp.Lexicographic.{pointwise, bytes_decides, texts_ties}
 use Rattle.jiff_core.proofs.SignedLemmas.{signed_arith}
 use Rattle.lp_values.specs.Comparing.{compared, truth_of}
 use Rattle.lp_values.specs.Truths.{either}
-use Rattle.in_set.specs.Facts.{Facts, StandsFor, found, with_value, in_list, verdict, has_any}
+use Rattle.in_set.specs.Facts.{Facts, StandsFor, facts_of, found, no_facts, with_value, in_list, verdict, has_any}
 
 -- one more of the same sort
 pub same_sort : (a b others : Bool) → verdict (a || b) others ≡ either (verdict a others) (truth_of b)
@@ -178,3 +179,20 @@ found_more f (Stamp a) (Stamp b) = same_found (list_any (int_eq b.seconds) f.sta
 
 pub stands_more : (f : Facts) (x : Value) (values : List Value) → StandsFor f values → StandsFor (with_value f x) (values ++ x ∷ [])
 stands_more f x values stands v = found_more f x v ∙ (ap (λ (t : Truth). either t (compared C.Equal v x)) (stands v) ∙ sym (in_more v values x))
+
+none_found : StandsFor no_facts []
+none_found Null = refl
+none_found (Int number) = refl
+none_found (Real number) = refl
+none_found (Text text) = refl
+none_found (Stamp stamp) = refl
+
+-- with values behind those that a set stands for it stands for all
+stands_with : (f : Facts) (front values : List Value) → StandsFor f front → StandsFor (fold with_value f values) (front ++ values)
+stands_with f front [] stands = subst (λ (l : List Value). StandsFor f l) (sym (append-nil front)) stands
+stands_with f front (x ∷ values) stands =
+    subst (λ (l : List Value). StandsFor (fold with_value (with_value f x) values) l) (append_assoc front (x ∷ []) values) (stands_with (with_value f x) (front ++ x ∷ []) values (stands_more f x front stands))
+
+-- what is remembered of a list finds exactly what is in the list
+pub finds_all : (values : List Value) → StandsFor (facts_of values) values
+finds_all values = stands_with no_facts [] values none_found

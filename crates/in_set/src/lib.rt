@@ -9,7 +9,7 @@ ghost use Rattle.std.specs.Prelude.{◌≡◌, ◌++◌, ◌∷◌, [], List, fa
 ghost use Rattle.std.specs.List.{list_any};
 ghost use Rattle.lp_values.specs.declared.value.Value.{Value as Seen};
 ghost use Rattle.std.specs.Ordering.{int_eq};
-ghost use Rattle.in_set.specs.Facts.{StandsFor, found, in_list, verdict, with_value, has_any};
+ghost use Rattle.in_set.specs.Facts.{StandsFor, facts_of, found, in_list, verdict, with_value, has_any};
 
 use indexmap::IndexSet;
 use lp_values::{Text, Truth, Value};
@@ -47,7 +47,8 @@ fn verdict(equal: bool, others: bool) -> Truth
 
 impl InSet {
     pub fn new(alloc: Global) -> InSet
-        ensures { StandsFor result [] }
+        ensures stands { StandsFor result [] }
+        ensures none { result ≡ facts_of [] }
     {
         InSet {
             numbers: IndexSet::new(alloc),
@@ -60,6 +61,7 @@ impl InSet {
     /// Takes one value more. An `Err` changes nothing.
     pub fn add(&mut self, value: Value) -> Result<(), AllocError>
         ensures stands { OnOk result ((values : List Seen) → StandsFor self.old values → StandsFor self.new (values ++ value ∷ [])) }
+        ensures one { OnOk result (self.new ≡ with_value self.old value) }
         ensures err { OnErr result (self.new ≡ self.old) }
     {
         self.remember(value)
@@ -98,7 +100,8 @@ impl InSet {
 
     /// The OR of the equalities with each value.
     pub fn holds(&self, value: &Value) -> Truth
-        ensures { (values : List Seen) → StandsFor self.now values → result ≡ in_list value.now values }
+        ensures holds { (values : List Seen) → StandsFor self.now values → result ≡ in_list value.now values }
+        ensures found { result ≡ found self.now value.now }
     {
         self.find(value)
     }

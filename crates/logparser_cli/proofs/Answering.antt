@@ -1,6 +1,7 @@
 -- What the steps of a run make of its answer.
 use Rattle.std.proofs.Common.{◌≡◌, ◌⊎◌, ℕ, ℤ, ◌+◌, ◌^◌, ◌≤◌, Bool, true, false, List, Option, Err, refl, inl, inr, arith}
 use Rattle.std.specs.Prelude.{option_map}
+use Rattle.grammar.specs.Filled.{given_bad}
 use Rattle.grammar.specs.Trees as model
 use Rattle.lp_model.specs.Outside.{Folder, OnlyGrow, Rose}
 use Rattle.checkpoint.specs.Wholes.{whole_spans}
@@ -115,7 +116,7 @@ whole old new mid template spec moment q spans counts found grow ran within told
       (λ table w. record {
         plan = w.plan;
         is_planned = w.is_planned;
-        written = whole_told new.folder (log_format spec q) found.logs spans (λ s folder. Writes (HasWritten old.held new.held) (asked_in spec template moment q s) spec (log_format spec q) false w.plan s counts folder) found.wholes w.written;
+        written = whole_told new.folder (log_format spec q) found.logs spans (λ s folder. Writes (HasWritten old.held new.held) (asked_in spec template moment q s) spec q (log_format spec q) false w.plan s counts folder) found.wholes w.written;
       })
       ran;
   within = within;
@@ -161,7 +162,7 @@ exceeded old new mid template spec moment q spans line found grow stop e = recor
   logs = found.logs;
   are_logs = logs_later old.folder mid new.folder q found.logs grow found.are_logs;
   typed = e.typed;
-  exceeds = whole_told new.folder (log_format spec q) found.logs spans (λ s folder. IsTooMany spec.errors 0 (spans_bad_lines (lines_in (log_format spec q)) false folder s) line) found.wholes e.exceeds;
+  exceeds = whole_told new.folder (log_format spec q) found.logs spans (λ s folder. IsTooMany spec.errors (given_bad q) (spans_bad_lines (lines_in (log_format spec q)) false folder s) line) found.wholes e.exceeds;
   front = stopped_front old new template spec moment q found.logs spans found.wholes stop;
 }
 

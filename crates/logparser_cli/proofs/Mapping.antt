@@ -40,7 +40,7 @@ executed_map format waits told Has Other asked spec moment q spans counts so ran
     (λ table w. record {
       plan = w.plan;
       is_planned = w.is_planned;
-      written = told_map told (λ folder. AreKept (lines_in format) waits spans folder → Writes Has asked spec format waits w.plan spans counts folder) (λ folder. AreKept (lines_in format) waits spans folder → Writes Other asked spec format waits w.plan spans counts folder)
+      written = told_map told (λ folder. AreKept (lines_in format) waits spans folder → Writes Has asked spec q format waits w.plan spans counts folder) (λ folder. AreKept (lines_in format) waits spans folder → Writes Other asked spec q format waits w.plan spans counts folder)
           (λ folder f kept. let r = f kept in record { has = so w.plan (rows_in format waits spec.ts_format w.plan folder spans) r.has; processed = r.processed; output = r.output; bad = r.bad }) w.written;
     }) ran
 

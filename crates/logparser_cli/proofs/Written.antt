@@ -1,5 +1,5 @@
 -- What an output has gained as a stage, told of standard output and of files.
-use Rattle.std.proofs.Common.{◌≡◌, ℕ, ℤ, true, false, true≢false, not, Bool, List, map, Option, Some, None, subst, sym, refl, ◌∙◌, ap, arith}
+use Rattle.std.proofs.Common.{◌≡◌, ℕ, ℤ, true, false, true≢false, not, Bool, List, Option, Some, None, subst, sym, refl, ◌∙◌, ap, arith}
 use Rattle.std.specs.Prelude.{is_some, if◌then◌else◌}
 use Rattle.disk_model.specs.Disk.{DiskState, Files as Contents}
 use Rattle.grammar.specs.Trees as model
@@ -15,7 +15,7 @@ use Rattle.row_output.specs.Rows.{Holds, HoldsAt, Stops, StopsAt}
 use Rattle.text_output.specs.Output.{kind_of}
 use Rattle.text_output.specs.declared.target.Output.{Output}
 use Rattle.tpl_output.specs.Sections.{Sections}
-use Rattle.execution.specs.Outputs.{asked_in, files_named, forbidden_by, is_standard, is_stdout}
+use Rattle.execution.specs.Outputs.{asked_in, files_named, forbidden_by, is_standard, is_stdout, log_names}
 use Rattle.execution.specs.Plans.{PlannedQuery}
 use Rattle.execution.specs.Texts.{into_in}
 use Rattle.logparser_cli.specs.Outputs.{AreCut, AreOut, HasFront, HasWritten, IsUnwritten, held}
@@ -31,7 +31,7 @@ named_standard spec logs (Some name) = some_unless (is_stdout name.text) (record
 
 -- whether a query's rows go to files
 pub goes_to_files : (spec : Spec) (template : Sections) (moment : ℤ) (q : model.Query) (spans : List Span) (plan : PlannedQuery) (standard : Bool) → is_standard (into_in q) ≡ standard → is_some (asked_in spec template moment q spans plan).files ≡ not standard
-goes_to_files spec template moment q spans plan standard is = named_standard spec (map (λ (span : Span). span.name) spans) (into_in q) ∙ ap not is
+goes_to_files spec template moment q spans plan standard is = named_standard spec (log_names q spans) (into_in q) ∙ ap not is
 
 out_at : {S : Type 0} (written : S → Option (List ℕ)) (ended : S → List ℕ → ℕ → Mark → Type 0) (start now : S) (files : Option Files) (text : OutputText) (rows : List Row) (outputs : List Output) (tells : Type 0) (contents : Contents) → is_some files ≡ false
     → HoldsAt files (kind_of (stream_state written) ended) text start rows outputs now → AreOut (held tells contents (written start)) (held tells contents (written now)) files text rows

@@ -1,5 +1,6 @@
 -- What a run writes.
 use Rattle.std.specs.Prelude.{◌≡◌, ◌⊎◌, ℕ, ℤ, Bool, true, false, List, [], Option, Ok, Err}
+use Rattle.grammar.specs.Filled.{given_bad}
 use Rattle.grammar.specs.Trees as model
 use Rattle.lp_model.specs.Outside.{Folder, Told, Gains, GainsSome, Rose}
 use Rattle.lp_model.specs.Report.{statistics}
@@ -47,7 +48,7 @@ told_statistics false counts = []
 pub record WritesAll (told : Option Folder) (old new : Held) (template : Sections) (spec : Spec) (moment : ℤ) (q : model.Query) (logs : List NameLength) (counts : Counts) (table : TableColumns) : Type 0 where
   pub plan : PlannedQuery
   pub is_planned : query_plan table moment q ≡ Ok plan
-  pub written : Told told (Writes (HasWritten old new) (asked_in spec template moment q (whole_spans logs)) spec (log_format spec q) false plan (whole_spans logs) counts)
+  pub written : Told told (Writes (HasWritten old new) (asked_in spec template moment q (whole_spans logs)) spec q (log_format spec q) false plan (whole_spans logs) counts)
 
 -- a whole run: what the query leaves of its rows over the whole logs is written, and `err` has gained the statistics; of bad
 -- lines there were no more than there may be
@@ -81,7 +82,7 @@ pub record IsParseError (before now : Option Folder) (old new : Held) (template 
   pub logs : List NameLength
   pub are_logs : AreLogs before now q logs
   pub typed : IsTyped (log_format spec q) moment q
-  pub exceeds : Told now (λ folder. IsTooMany spec.errors 0 (spans_bad_lines (lines_in (log_format spec q)) false folder (whole_spans logs)) line)
+  pub exceeds : Told now (λ folder. IsTooMany spec.errors (given_bad q) (spans_bad_lines (lines_in (log_format spec q)) false folder (whole_spans logs)) line)
   pub front : IsFront now old new template spec moment q logs
 
 -- an output of the rows is refused by this fault

@@ -8,3 +8,4 @@ mod formats;
 mod running;
 
 pub use formats::run_plan;
+pub use running::make_picker;

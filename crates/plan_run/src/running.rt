@@ -24,7 +24,7 @@ use row_output::RowOutput;
 use std::alloc::{AllocError, Global};
 
 /// The picker of a plan over a format's table.
-fn make_picker(alloc: Global, format: TableFormat, plan: Plan) -> Result<PlanPicker, AllocError>
+pub fn make_picker(alloc: Global, format: TableFormat, plan: Plan) -> Result<PlanPicker, AllocError>
     requires covers { Covers plan.used plan.items (option_map filter_of plan.condition) }
     requires size { length plan.used ≡ length (columns_of format) }
     ensures plan { IfOk result (λ picker. picker.ready.plan ≡ plan) }

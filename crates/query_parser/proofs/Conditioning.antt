@@ -115,7 +115,7 @@ single_between {old = old} {new = new} n one =
 none_made : (x : model.Test) (qs : List model.Query) → qs ≡ [] → ◌≡◌ {A = model.Condition} (record { test = x; asked = qs }) (record { test = x; asked = [] })
 none_made x qs is = ap (λ (l : List model.Query). record { test = x; asked = l }) is
 
-one_made : (e : model.Tree) (neg : Bool) (x : model.Test) (qs : List model.Query) (q : model.Query) → x ≡ test.InQuery (model.place_of e) e neg → qs ≡ q ∷ []
+one_made : (e : model.Tree) (neg : Bool) (x : model.Test) (qs : List model.Query) (q : model.Query) → x ≡ test.InQuery (model.place_of e) e neg None → qs ≡ q ∷ []
     → ◌≡◌ {A = model.Condition} (record { test = x; asked = qs }) (model.range_test e neg (model.within (first_asked qs)))
 one_made e neg x qs q same is = rw (same, is) refl
 

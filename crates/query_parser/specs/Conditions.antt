@@ -94,7 +94,7 @@ numbers_in_tail (t.Ranged neg r) = numbers_in_range r
 -- a value that is in a set, or isn't
 abbrev pub tested_in : model.Tree → Bool → Values → model.Test
 tested_in e neg (v.Listed es) = test.InList (model.place_of e) e (model.trees_of (trees_of es)) neg
-tested_in e neg (v.Asked n) = test.InQuery (model.place_of e) e neg
+tested_in e neg (v.Asked n) = test.InQuery (model.place_of e) e neg None
 
 -- a value that is like a text, between two others or in a set, or isn't
 abbrev pub tested_range : model.Tree → Bool → Range → model.Test

@@ -71,6 +71,7 @@ impl Tail {
                         value,
                         subquery,
                         negated,
+                        given: None,
                     },
                 },
             },

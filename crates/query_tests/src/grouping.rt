@@ -8,7 +8,7 @@ use std::fmt::Write;
 use std::str;
 use std::test::Fail;
 
-fn table(alloc: Global) -> Result<TableColumns, AllocError> {
+pub(crate) fn table(alloc: Global) -> Result<TableColumns, AllocError> {
     let mut columns = NamedKinds::new(alloc);
     for (name, kind) in [("a", Kind::Integer), ("b", Kind::Text), ("c", Kind::Real)] {
         let name = Text::from_str(alloc, name)?;
@@ -28,8 +28,8 @@ fn show_operation(to: &mut String, by: &Operation) -> Result<(), AllocError> {
     }
 }
 
-// A form: a column by its place, behind `#`.
-fn show_form(to: &mut String, alloc: Global, form: &Form) -> Result<(), Fail> {
+/// A form: a column by its place, behind `#`.
+pub(crate) fn show_form(to: &mut String, alloc: Global, form: &Form) -> Result<(), Fail> {
     match form {
         Form::Column(index) => write!(to, " #{index}")?,
         Form::Constant(value) => {
@@ -50,7 +50,8 @@ fn show_form(to: &mut String, alloc: Global, form: &Form) -> Result<(), Fail> {
     Ok(())
 }
 
-fn show_items(to: &mut String, alloc: Global, plan: &Plan) -> Result<(), Fail> {
+/// What a plan asks of each row, and whether it has a condition.
+pub(crate) fn show_items(to: &mut String, alloc: Global, plan: &Plan) -> Result<(), Fail> {
     for item in plan.items.as_slice() {
         show_form(to, alloc, item.form())?;
     }

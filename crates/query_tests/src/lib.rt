@@ -7,7 +7,11 @@
 #[cfg(test)]
 mod grouping;
 #[cfg(test)]
+mod listing;
+#[cfg(test)]
 mod queries;
+#[cfg(test)]
+mod subquery_plans;
 #[cfg(test)]
 mod tokens;
 #[cfg(test)]

@@ -8,6 +8,7 @@ use Rattle.grammar.specs.Trees.{Test as test}
 use Rattle.grammar.specs.Trees.{Query as query}
 use Rattle.grammar.specs.Trees.{Queries as queries}
 use Rattle.grammar.specs.Trees as model
+use Rattle.grammar.specs.Filled as model_filled
 use Rattle.lp_values.specs.declared.comparison.Compare.{Compare}
 use Rattle.lp_values.specs.declared.comparison.Compare.TheVariants as h
 use Rattle.query_tree.specs.declared.placed.Placed.{Placed}
@@ -17,6 +18,8 @@ use Rattle.query_tree.specs.declared.expression.ExprList.{ExprList}
 use Rattle.query_tree.specs.declared.expression.When.{When}
 use Rattle.query_tree.specs.declared.expression.WhenList.{WhenList, WhenList', out-WhenList, Row_of-When, end_of-When, more_of-When}
 use Rattle.query_tree.specs.declared.condition.Cond.{Cond, Or', And', Not', Compare as Compares, IsNull, Like, Between, InList, InQuery}
+use Rattle.query_tree.specs.declared.given.Given.{Given}
+use Rattle.query_tree.specs.declared.given.PlacedGiven.{PlacedGiven}
 use Rattle.query_tree.specs.declared.query.Item.{Item}
 use Rattle.query_tree.specs.declared.query.ItemList.{ItemList}
 use Rattle.query_tree.specs.declared.query.Query.{Query, Query'}
@@ -71,6 +74,12 @@ trees_of es = map tree_of es.items.items
 abbrev pub whens_of : WhenList → List (model.Tree × model.Tree)
 whens_of ws = map when_of (out-WhenList ws).items.items
 
+abbrev pub given_of : Given → model.Given
+given_of given = record { place = given.place; kind = given.kind; values = given.values.value; logs = given.logs.value; bad = given.bad }
+
+abbrev pub placed_given : PlacedGiven → model_filled.PlacedGiven
+placed_given one = record { at = one.at; given = given_of one.given }
+
 abbrev pub test_of : Cond → model.Test
 test_of (Or' at p a q b) = test.Or at (test_of a) (test_of b)
 test_of (And' at p a q b) = test.And at (test_of a) (test_of b)
@@ -80,7 +89,7 @@ test_of (IsNull at a neg) = test.IsNull at (tree_of a) neg
 test_of (Like at a p neg) = test.Like at (tree_of a) (placed_of p) neg
 test_of (Between at a b c neg) = test.Between at (tree_of a) (tree_of b) (tree_of c) neg
 test_of (InList at a es neg) = test.InList at (tree_of a) (model.trees_of (trees_of es)) neg
-test_of (InQuery at a n neg) = test.InQuery at (tree_of a) neg
+test_of (InQuery at a n neg given) = test.InQuery at (tree_of a) neg (option_map given_of given)
 
 -- the numbers of a condition's subqueries, from left to right
 abbrev pub numbers_in : Cond → List ℕ
@@ -92,7 +101,7 @@ numbers_in (IsNull at a neg) = []
 numbers_in (Like at a p neg) = []
 numbers_in (Between at a b c neg) = []
 numbers_in (InList at a es neg) = []
-numbers_in (InQuery at a n neg) = n ∷ []
+numbers_in (InQuery at a n neg given) = n ∷ []
 
 abbrev pub numbers_of : Option Cond → List ℕ
 numbers_of None = []

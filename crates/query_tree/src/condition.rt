@@ -1,11 +1,13 @@
 // Conditions.
-ghost use Rattle.std.specs.Prelude.{◌≡◌, ◌++◌, IfOk};
+ghost use Rattle.std.specs.Prelude.{◌≡◌, ◌++◌, IfOk, OnOk, map};
 ghost use Rattle.grammar.specs.Trees.{Test as test};
 ghost use Rattle.grammar.specs.Trees.{test_place, test_at};
-ghost use Rattle.query_tree.specs.Views.{test_of, numbers_in};
+ghost use Rattle.grammar.specs.Filled.{asked_in, filled_test, test_bad, test_logs};
+ghost use Rattle.query_tree.specs.Views.{placed_given, test_of, numbers_in};
 
-use crate::{Expr, ExprList, Placed};
-use lp_values::Compare;
+use crate::given::{add_logs_in, bad_in, given_at, sum};
+use crate::{Expr, ExprList, Given, PlaceList, Placed, PlacedGiven};
+use lp_values::{Compare, TextList};
 use std::alloc::{AllocError, Global};
 
 /// A condition; `at` is the place of its first token, its own outer parentheses included.
@@ -54,12 +56,13 @@ pub enum Cond {
         items: ExprList,
         negated: bool,
     },
-    /// `subquery` is the number of the subquery, from 0 in the order of the text.
+    /// `subquery` is the number of the subquery, from 0 in the order of the text; `given` is what it gave, once it was run.
     InQuery {
         at: u32,
         value: Expr,
         subquery: usize,
         negated: bool,
+        given: Option<Given>,
     },
 }
 
@@ -112,6 +115,7 @@ impl Drop for Cond {
                     value: _,
                     subquery: _,
                     negated: _,
+                    given: _,
                 } => return,
             }
         }
@@ -201,12 +205,109 @@ impl Cond {
                 value,
                 subquery,
                 negated,
+                given,
             } => Cond::InQuery {
                 at,
                 value,
                 subquery,
                 negated,
+                given,
             },
+        }
+    }
+
+    /// Tells each IN over a subquery what was given for its place.
+    pub fn fill(&mut self, givens: &[PlacedGiven]) -> Result<(), AllocError>
+        ensures { OnOk result (test_of self.new ≡ filled_test (map placed_given givens.now) (test_of self.old)) }
+    {
+        match self {
+            Cond::Or { at: _, left, right } => {
+                left.fill(givens)?;
+                right.fill(givens)
+            }
+            Cond::And { at: _, left, right } => {
+                left.fill(givens)?;
+                right.fill(givens)
+            }
+            Cond::Not { at: _, inner } => inner.fill(givens),
+            Cond::InQuery {
+                at,
+                value: _,
+                subquery: _,
+                negated: _,
+                given,
+            } => {
+                *given = given_at(givens, *at)?;
+                Ok(())
+            }
+            Cond::Compare { .. } => Ok(()),
+            Cond::IsNull { .. } => Ok(()),
+            Cond::Like { .. } => Ok(()),
+            Cond::Between { .. } => Ok(()),
+            Cond::InList { .. } => Ok(()),
+        }
+    }
+
+    /// Adds the places of its INs over subqueries, from left to right.
+    pub fn add_asked(&self, places: &mut PlaceList) -> Result<(), AllocError>
+        ensures { OnOk result (places.new ≡ places.old ++ asked_in (test_of self.now)) }
+    {
+        match self {
+            Cond::Or { left, right, .. } => {
+                left.add_asked(places)?;
+                right.add_asked(places)
+            }
+            Cond::And { left, right, .. } => {
+                left.add_asked(places)?;
+                right.add_asked(places)
+            }
+            Cond::Not { inner, .. } => inner.add_asked(places),
+            Cond::InQuery { at, .. } => places.push(*at),
+            Cond::Compare { .. } => Ok(()),
+            Cond::IsNull { .. } => Ok(()),
+            Cond::Like { .. } => Ok(()),
+            Cond::Between { .. } => Ok(()),
+            Cond::InList { .. } => Ok(()),
+        }
+    }
+
+    /// Adds the names of the logs that its subqueries read.
+    pub fn add_logs(&self, alloc: Global, names: &mut TextList) -> Result<(), AllocError>
+        ensures { OnOk result (names.new ≡ names.old ++ test_logs (test_of self.now)) }
+    {
+        match self {
+            Cond::Or { left, right, .. } => {
+                left.add_logs(alloc, names)?;
+                right.add_logs(alloc, names)
+            }
+            Cond::And { left, right, .. } => {
+                left.add_logs(alloc, names)?;
+                right.add_logs(alloc, names)
+            }
+            Cond::Not { inner, .. } => inner.add_logs(alloc, names),
+            Cond::InQuery { given, .. } => add_logs_in(alloc, given, names),
+            Cond::Compare { .. } => Ok(()),
+            Cond::IsNull { .. } => Ok(()),
+            Cond::Like { .. } => Ok(()),
+            Cond::Between { .. } => Ok(()),
+            Cond::InList { .. } => Ok(()),
+        }
+    }
+
+    /// How many bad lines the logs of its subqueries have; want of memory where that is no number of 64 bits.
+    pub fn given_bad(&self) -> Result<u64, AllocError>
+        ensures { IfOk result (λ bad. bad ≡ test_bad (test_of self.now)) }
+    {
+        match self {
+            Cond::Or { left, right, .. } => sum(left.given_bad()?, right.given_bad()?),
+            Cond::And { left, right, .. } => sum(left.given_bad()?, right.given_bad()?),
+            Cond::Not { inner, .. } => inner.given_bad(),
+            Cond::InQuery { given, .. } => Ok(bad_in(given)),
+            Cond::Compare { .. } => Ok(0),
+            Cond::IsNull { .. } => Ok(0),
+            Cond::Like { .. } => Ok(0),
+            Cond::Between { .. } => Ok(0),
+            Cond::InList { .. } => Ok(0),
         }
     }
 

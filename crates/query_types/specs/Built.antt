@@ -1,4 +1,4 @@
--- Which queries can be run so far: those without aggregates, GROUPING, subqueries and groups.
+-- Which queries go over rows: those without aggregates, GROUPING, groups and HAVING.
 use Rattle.std.specs.Prelude.{ℕ, Bool, true, false, not, ◌&&◌, List, [], ◌∷◌, Option, Some, None}
 use Rattle.std.specs.List.{list_all}
 use Rattle.std.specs.Option.{is_none}
@@ -50,7 +50,7 @@ is_plain_test (test.IsNull at value negated) = is_plain value
 is_plain_test (test.Like at value pattern negated) = is_plain value
 is_plain_test (test.Between at value low high negated) = is_plain value && is_plain low && is_plain high
 is_plain_test (test.InList at value items negated) = is_plain value && are_plain items
-is_plain_test (test.InQuery at value negated) = false
+is_plain_test (test.InQuery at value negated given) = is_plain value
 
 abbrev pub is_plain_where : Option Test → Bool
 is_plain_where None = true
@@ -63,7 +63,7 @@ abbrev pub has_none : {A : Type 0} → List A → Bool
 has_none [] = true
 has_none (x ∷ xs) = false
 
--- the parts of a query that can be run
+-- the parts of a query that goes over rows
 abbrev pub are_built : Parts → Bool
 are_built parts = are_plain_items parts.items && are_plain_items parts.aliases
     && is_plain_where parts.condition && has_none parts.keys && is_none parts.having && are_plain (listed parts.order)

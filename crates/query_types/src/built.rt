@@ -1,4 +1,4 @@
-// Which queries can be run so far.
+// Which queries go over rows.
 ghost use Rattle.std.specs.Prelude.{◌≡◌, ◌&&◌, is_none, option_map};
 ghost use Rattle.std.specs.List.{list_all};
 ghost use Rattle.grammar.specs.Trees.{trees_of as listed};
@@ -91,7 +91,7 @@ fn is_plain(expr: &Expr) -> bool
     }
 }
 
-// Whether a condition has no subquery, and its expressions have neither an aggregate nor GROUPING.
+// Whether the expressions of a condition have neither an aggregate nor GROUPING.
 fn is_plain_test(test: &Cond) -> bool
     ensures { result ≡ is_plain_test (test_of test.now) }
 {
@@ -109,7 +109,7 @@ fn is_plain_test(test: &Cond) -> bool
             ..
         } => is_plain(value) && is_plain(low) && is_plain(high),
         Cond::InList { value, items, .. } => is_plain(value) && are_plain(items),
-        Cond::InQuery { .. } => false,
+        Cond::InQuery { value, .. } => is_plain(value),
     }
 }
 
@@ -142,7 +142,7 @@ fn has_no_groups(query: &Query) -> bool
     query.keys.len() == 0 && query.having.is_none() && are_plain(&query.order)
 }
 
-/// Whether a query can be run: it has no aggregate, GROUPING, subquery, groups, or HAVING.
+/// Whether a query goes over rows: it has no aggregate, GROUPING, groups, or HAVING.
 pub fn is_built(query: &Query) -> bool
     ensures { result ≡ is_built (query_of query.now) }
 {

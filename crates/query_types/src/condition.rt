@@ -1,7 +1,9 @@
 // A condition once its names are replaced.
 
 use crate::{Meaning, MeaningList};
+use in_set::InSet;
 use lp_values::{Compare, Text};
+use std::rc::Rc;
 
 /// A condition over the rows of a table.
 #[derive(Drop)]
@@ -33,6 +35,12 @@ pub enum Condition {
     Within {
         value: Meaning,
         items: MeaningList,
+        negated: bool,
+    },
+    /// The value is one of those that a subquery gave.
+    Contained {
+        value: Meaning,
+        values: Rc<InSet>,
         negated: bool,
     },
 }

@@ -1,19 +1,20 @@
 // What conditions mean where aliases are in force.
-ghost use Rattle.std.specs.Prelude.{◌≡◌, List, map, IfOk};
+ghost use Rattle.std.specs.Prelude.{◌≡◌, List, map, option_map, IfOk};
 ghost use Rattle.grammar.specs.Trees.{Test as test};
 ghost use Rattle.grammar.specs.Trees.{trees_of as listed};
-ghost use Rattle.query_tree.specs.Views.{tree_of, trees_of, test_of, placed_of, number_of};
+ghost use Rattle.query_tree.specs.Views.{given_of, tree_of, trees_of, test_of, placed_of, number_of};
 ghost use Rattle.query_types.specs.Meanings.{Answers};
 ghost use Rattle.query_types.specs.Boxed.{boxed_filter};
-ghost use Rattle.query_types.specs.Conditions.{either, both, opposite, filter_of, fitting, all_fitting, filtered};
+ghost use Rattle.query_types.specs.Conditions.{either, both, opposite, filter_of, fitting, all_fitting, contained_in, filtered};
 
 use crate::alias::Alias;
 use crate::expressions::meant;
-use crate::fitting::if_fits;
+use crate::fitting::{fits, if_fits};
 use crate::{Condition, Meaning, MeaningList, TableColumns, TypeFault};
 use lp_values::{Compare, Kind, Value};
-use query_tree::{Cond, Expr, ExprList, Placed};
+use query_tree::{Cond, Expr, ExprList, Given, Placed};
 use std::alloc::{AllocError, Global};
+use std::rc::Rc;
 
 // A right side, whose kind has to fit.
 fn fitting(
@@ -156,6 +157,48 @@ fn within(
     Ok(Box::new(alloc, condition)?)
 }
 
+// A value of which it is asked whether it is one of those that a subquery gave, where its kind fits.
+fn contained_in(
+    table: &TableColumns,
+    at: u32,
+    negated: bool,
+    given: &Option<Given>,
+    value: Meaning,
+) -> Result<Condition, TypeFault>
+    ensures { Answers filter_of result (contained_in table.now.columns at negated (option_map given_of given.now) value) }
+{
+    let Some(given) = given else {
+        return Err(TypeFault::UnknownFunction { at });
+    };
+    if !fits(value.kind(table), given.kind) {
+        return Err(TypeFault::KindMismatch { at: given.place });
+    }
+    Ok(Condition::Contained {
+        value,
+        values: Rc::clone(&given.values)?,
+        negated,
+    })
+}
+
+// A test among the values of a subquery.
+#[inline(never)]
+fn contained(
+    alloc: Global,
+    table: &TableColumns,
+    moment: &Value,
+    aliases: &[Alias],
+    at: u32,
+    value: &Expr,
+    negated: bool,
+    given: &Option<Given>,
+) -> Result<Box<Condition>, TypeFault>
+    ensures { Answers boxed_filter result (filtered table.now moment.now aliases.now (test.InQuery at (tree_of value.now) negated (option_map given_of given.now))) }
+{
+    let value = meant(alloc, table, moment, aliases, value)?;
+    let condition = contained_in(table, at, negated, given, value)?;
+    Ok(Box::new(alloc, condition)?)
+}
+
 // The first or the second.
 #[inline(never)]
 fn or(
@@ -243,7 +286,13 @@ fn boxed(
             pattern,
             negated,
         } => like(alloc, table, moment, aliases, value, pattern, *negated),
-        Cond::InQuery { at, .. } => Err(TypeFault::UnknownFunction { at: *at }),
+        Cond::InQuery {
+            at,
+            value,
+            subquery: _,
+            negated,
+            given,
+        } => contained(alloc, table, moment, aliases, *at, value, *negated, given),
     }
 }
 

@@ -47,6 +47,11 @@ pub fn mentions(index: usize, condition: &Condition) -> bool
             items,
             negated: _,
         } => value.has_column(index) || any_has_column(index, items),
+        Condition::Contained {
+            value,
+            values: _,
+            negated: _,
+        } => value.has_column(index),
     }
 }
 

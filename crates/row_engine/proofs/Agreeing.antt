@@ -1,13 +1,14 @@
 -- Two rows that agree in the columns that a plan asks give it the same.
 use Rattle.std.proofs.Common.{◌≡◌, ℕ, Bool, true, ◌==◌, List, [], ◌∷◌, get_or, Option, Some, None, refl, ap, ap₂, arith, rules}
 use Rattle.std.proofs.lemmas.Bool.{or_left, or_right}
+use Rattle.in_set.specs.Facts.{found}
 use Rattle.lp_values.specs.declared.value.Value.{Value}
 use Rattle.lp_values.specs.declared.value.Value.TheVariants.{Null}
 use Rattle.lp_values.specs.declared.comparison.Compare.TheVariants as how
 use Rattle.lp_values.specs.Comparing.{compared as comparison, truth_of}
 use Rattle.lp_values.specs.Truths.{both as and_both, either as or_either, opposite as not_it}
 use Rattle.query_types.specs.Terms.{Term, column, constant, made, Terms, no_terms, more_terms, has_column, have_column, any_has_column}
-use Rattle.query_types.specs.Conditions.{Filter, either, both, opposite, compared, null, like, between, within, mentions}
+use Rattle.query_types.specs.Conditions.{Filter, either, both, opposite, compared, null, like, between, within, contained, mentions}
 use Rattle.query_types.specs.Planned.{is_mentioned}
 use Rattle.row_engine.specs.Rows.{value_in, values_in, made_by, among, truth_in, keeps, selected_in, is_null, is_yes, likeness, turned}
 
@@ -56,6 +57,7 @@ truth_same values row (within value items negated) is =
     let one = value_same values row value (λ k h. is k (or_left _ _ h)) in
     let two = among_same values row (value_in row value) items (λ k h. is k (or_right _ _ h)) in
     rw (one, two) refl
+truth_same values row (contained value given negated) is = ap (λ (v : Value). turned negated (found given v)) (value_same values row value is)
 
 pub keeps_same : (values row : List Value) (condition : Option Filter) → Agree values row (λ k. is_mentioned k condition) → keeps condition values ≡ keeps condition row
 keeps_same values row None is = refl

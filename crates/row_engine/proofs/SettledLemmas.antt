@@ -2,6 +2,7 @@
 use Rattle.std.proofs.Common.{◌≡◌, ◌∙◌, ◌<◌, ◌+◌, ◌||◌, ◌&&◌, ℕ, Bool, true, false, cond, List, [], ◌∷◌, length, drop, get_or, map, Option, Some, None, option_map, refl, sym, ap, ap₂, Vec}
 use Rattle.std.specs.List.{list_all}
 use Rattle.std.specs.declared.alloc.Global.{Global}
+use Rattle.in_set.specs.Facts.{found}
 use Rattle.lp_values.specs.declared.comparison.Compare.TheVariants as how
 use Rattle.lp_values.specs.declared.kind.Kind.{Kind}
 use Rattle.lp_values.specs.declared.value.Value.{Value}
@@ -11,7 +12,7 @@ use Rattle.query_types.specs.declared.form.Form.{Form}
 use Rattle.query_types.specs.declared.form.Form.TheViews as shown
 use Rattle.query_types.specs.declared.form.Operation.{Operation}
 use Rattle.query_types.specs.Terms.{Maker, Term, column, constant, made, Terms, no_terms, more_terms, maker_of, term_of, terms_of}
-use Rattle.query_types.specs.Conditions.{Filter, either, both, opposite, compared, null, like, between, within}
+use Rattle.query_types.specs.Conditions.{Filter, either, both, opposite, compared, null, like, between, within, contained}
 use Rattle.query_types.proofs.Forms.{dropped, made_term}
 use Rattle.row_engine.specs.Rows.{among, is_null, is_yes, keeps, likeness, made_by, selected_in, truth_in, turned, value_in, values_in}
 use Rattle.row_engine.specs.Settled.{all_settled, any_varies, are_settled, is_settled, is_settled_test, is_settled_where, settled, settled_test, varies}
@@ -109,6 +110,7 @@ truth_settled row (within value items negated) =
     let one = value_settled row value in
     let two = among_settled row (value_in row value) items in
     rw (one, two) refl
+truth_settled row (contained value values negated) = ap (λ (v : Value). turned negated (found values v)) (value_settled row value)
 
 pub keeps_settled : (row : List Value) (condition : Option Filter) → keeps (option_map settled_test condition) row ≡ keeps condition row
 keeps_settled row None = refl
@@ -123,6 +125,7 @@ test_done (null value negated) = done value
 test_done (like value pattern negated) = done value
 test_done (between value low high negated) = and_true _ _ (and_true _ _ (done value) (done low)) (done high)
 test_done (within value items negated) = and_true _ _ (done value) (items_done items)
+test_done (contained value values negated) = done value
 
 pub where_done : (condition : Option Filter) → is_settled_where (option_map settled_test condition) ≡ true
 where_done None = refl

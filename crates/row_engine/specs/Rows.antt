@@ -1,6 +1,7 @@
 -- What a plan gives in a row: values, and the truth of conditions.
 use Rattle.std.specs.Prelude.{ℕ, Bool, true, false, List, [], ◌∷◌, map, get_or, if◌then◌else◌, Option, Some, None}
 use Rattle.std.specs.Str.{chars}
+use Rattle.in_set.specs.Facts.{found}
 use Rattle.lp_values.specs.declared.comparison.Compare.TheVariants as how
 use Rattle.lp_values.specs.declared.truth.Truth.{Truth}
 use Rattle.lp_values.specs.declared.truth.Truth.TheVariants.{Yes, No, Unknown}
@@ -13,7 +14,7 @@ use Rattle.lp_functions.specs.Moments.{read_as}
 use Rattle.lp_functions.specs.Texts.{written_as}
 use Rattle.query_types.specs.declared.form.Form.{Form}
 use Rattle.query_types.specs.Terms.{Maker, called, branched, written, read, stated, unlisted, Term, column, constant, made, Terms, no_terms, more_terms, term_of}
-use Rattle.query_types.specs.Conditions.{Filter, either, both, opposite, compared, null, like, between, within}
+use Rattle.query_types.specs.Conditions.{Filter, either, both, opposite, compared, null, like, between, within, contained}
 use Rattle.row_engine.specs.Likeness.{is_like}
 
 abbrev pub is_yes : Truth → Bool
@@ -91,6 +92,7 @@ truth_in row (like value pattern negated) = turned negated (likeness (value_in r
 truth_in row (between value low high negated) =
     turned negated (and_both (comparison how.MoreEqual (value_in row value) (value_in row low)) (comparison how.LessEqual (value_in row value) (value_in row high)))
 truth_in row (within value items negated) = turned negated (among row (value_in row value) items)
+truth_in row (contained value values negated) = turned negated (found values (value_in row value))
 
 -- WHERE keeps the rows for which its condition is Yes; without WHERE each row is kept
 abbrev pub keeps : Option Filter → List Value → Bool

@@ -2,7 +2,7 @@
 use Rattle.std.specs.Prelude.{Bool, true, false, ◌&&◌, ◌||◌, [], map, Option, Some, None, if◌then◌else◌}
 use Rattle.std.specs.List.{list_all}
 use Rattle.query_types.specs.Terms.{Term, column, constant, made, Terms, no_terms, more_terms}
-use Rattle.query_types.specs.Conditions.{Filter, either, both, opposite, compared, null, like, between, within}
+use Rattle.query_types.specs.Conditions.{Filter, either, both, opposite, compared, null, like, between, within, contained}
 use Rattle.row_engine.specs.Rows.{made_by, values_in}
 
 -- whether a term has a column, so that rows may differ in it
@@ -36,6 +36,7 @@ is_settled_test (null value negated) = is_settled value
 is_settled_test (like value pattern negated) = is_settled value
 is_settled_test (between value low high negated) = is_settled value && is_settled low && is_settled high
 is_settled_test (within value items negated) = is_settled value && list_all is_settled items
+is_settled_test (contained value values negated) = is_settled value
 
 abbrev pub is_settled_where : Option Filter → Bool
 is_settled_where None = true
@@ -62,3 +63,4 @@ settled_test (null value negated) = null (settled value) negated
 settled_test (like value pattern negated) = like (settled value) pattern negated
 settled_test (between value low high negated) = between (settled value) (settled low) (settled high) negated
 settled_test (within value items negated) = within (settled value) (map settled items) negated
+settled_test (contained value values negated) = contained (settled value) values negated

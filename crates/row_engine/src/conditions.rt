@@ -10,6 +10,7 @@ ghost use Rattle.row_engine.specs.Likeness.{is_like};
 ghost use Rattle.row_engine.specs.Rows.{among, is_null, keeps, likeness, truth_in, turned, value_in};
 
 use crate::values::{standing, value};
+use in_set::InSet;
 use lp_values::{Compare, Text, Truth, Value, ValueList, and, compare, not, or};
 use query_types::{Condition, Meaning, MeaningList, Plan};
 use std::alloc::{AllocError, Global};
@@ -207,6 +208,26 @@ fn within_truth(
     }
 }
 
+// The truth of IN over a subquery.
+#[inline(never)]
+fn contained_truth(
+    alloc: Global,
+    row: &ValueList,
+    of: &Meaning,
+    values: &InSet,
+    negated: bool,
+) -> Result<Truth, AllocError>
+    ensures { IfOk result (λ truth. truth ≡ truth_in row.now (filter.contained of.now values.now negated)) }
+{
+    match standing(row, of) {
+        Some(of) => Ok(turned(negated, values.holds(of))),
+        None => {
+            let of = value(alloc, row, of)?;
+            Ok(turned(negated, values.holds(of.get())))
+        }
+    }
+}
+
 // The truth of a condition.
 fn truth(alloc: Global, row: &ValueList, condition: &Condition) -> Result<Truth, AllocError>
     ensures { IfOk result (λ truth. truth ≡ truth_in row.now (filter_of condition.now)) }
@@ -239,6 +260,11 @@ fn truth(alloc: Global, row: &ValueList, condition: &Condition) -> Result<Truth,
             items,
             negated,
         } => within_truth(alloc, row, of, items, *negated),
+        Condition::Contained {
+            value: of,
+            values,
+            negated,
+        } => contained_truth(alloc, row, of, values, *negated),
     }
 }
 

@@ -11,9 +11,11 @@ ghost use Rattle.row_engine.specs.Rows.{keeps, selected_in, value_in};
 ghost use Rattle.row_engine.specs.Settled.{is_settled, is_settled_where, settled, settled_test, varies};
 
 use crate::values::form_value;
+use in_set::InSet;
 use lp_values::{Compare, Kind, ListOf, Text, Value, ValueList, copy_texts};
 use query_types::{Condition, Form, Meaning, MeaningList, Operation, Plan};
 use std::alloc::{AllocError, Global};
+use std::rc::Rc;
 
 // Whether a form has a column, so that rows may differ in it.
 fn varies(form: &Form) -> bool
@@ -170,6 +172,25 @@ fn within(
 }
 
 #[inline(never)]
+fn contained(
+    alloc: Global,
+    value: &Meaning,
+    values: &Rc<InSet>,
+    negated: bool,
+) -> Result<Box<Condition>, AllocError>
+    ensures { IfOk result (λ now. boxed_filter now ≡ settled_test (filter.contained value.now values.now.value negated)) }
+{
+    let value = settled_meaning(alloc, value)?;
+    let values = Rc::clone(values)?;
+    let condition = Condition::Contained {
+        value,
+        values,
+        negated,
+    };
+    Ok(Box::new(alloc, condition)?)
+}
+
+#[inline(never)]
 fn or(
     alloc: Global,
     left: Box<Condition>,
@@ -235,6 +256,11 @@ fn boxed(alloc: Global, condition: &Condition) -> Result<Box<Condition>, AllocEr
             items,
             negated,
         } => within(alloc, value, items, *negated),
+        Condition::Contained {
+            value,
+            values,
+            negated,
+        } => contained(alloc, value, values, *negated),
     }
 }
 

@@ -8,6 +8,7 @@ ghost use Rattle.text_output.specs.Output.{kind_of};
 ghost use Rattle.row_output.specs.Asked.{left_of};
 ghost use Rattle.row_output.specs.Kept.{HasRows, IsNew, asked_of};
 ghost use Rattle.row_output.specs.Rows.{Holds, IsRefused, Stops};
+ghost use Rattle.row_output.specs.Sinks.{IsOpened};
 ghost use Rattle.query_run.specs.Faults.{OnBad, OnRefusedOutput};
 ghost use Rattle.row_steps.specs.Grouped.{HasWidth, grouped_output};
 ghost use Rattle.row_steps.specs.Rows.{OnGroups, Rows};
@@ -35,6 +36,7 @@ fn open_page<P: Picker + Drop, G: Stage>(
     requires new { IsNew output.old }
     requires wide { HasWidth (P.picks picker) (asks.now.keys + length asks.now.aggregates) }
     ensures has { OnOk result (HasRows (kind_of G.state G.ended) output.new stage.old [] stage.new) }
+    ensures opened { OnOk result (IsOpened output.new.sink) }
     ensures asked { asked_of output.new ≡ asked_of output.old }
     ensures none { output.new.put ≡ 0 }
     ensures groups { IfOk result (λ page. AreOf asks.now.keys asks.now.aggregates asks.now.rollup page.taker.groups []) }

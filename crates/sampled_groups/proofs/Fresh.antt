@@ -4,6 +4,7 @@ use Rattle.grammar.specs.Trees.{Query}
 use Rattle.lp_time.specs.declared.piece.Piece.{Piece}
 use Rattle.any_format.specs.Wanted.{wanted_text}
 use Rattle.any_format.specs.declared.wanted.Wanted.{Wanted}
+use Rattle.text_output.specs.Output.{StageKind}
 use Rattle.row_output.specs.Sinks.{files_for}
 use Rattle.row_output.specs.declared.into.Into.{Into}
 use Rattle.column_kinds.specs.Kept.{found_in}
@@ -31,21 +32,21 @@ taken_none count pattern moment q wanted into (P.Refused fault) none = absurd no
 taken_none count pattern moment q wanted into P.Lost none = absurd none
 
 -- the rules of a run, its sample's and its own
-pub record Begins {S : Type 0} (asked : GroupRules) (sampled : Sampled (GroupMaker S) GroupTaker) (now : S) : Type 0 where
+pub record Begins {S : Type 0} (kind : StageKind S) (asked : GroupRules) (sampled : Sampled (GroupMaker S) GroupTaker) (now : S) : Type 0 where
   pub rules : SampleRules (GroupMaker S)
   pub fits : Fits rules
   pub same : run_rules rules ≡ asked
-  pub holds : Holds group_kind rules now nothing sampled now
+  pub holds : Holds (group_kind kind) rules now nothing sampled now
 
 abbrev asked_rules : ℕ → List Piece → ℤ → Query → Wanted → Into → GroupRules
 asked_rules limit pattern moment q wanted into = group_rules_of limit pattern moment q (asked_by (files_for into) (wanted_text wanted moment) q)
 
-fresh_in : {S : Type 0} (limit : ℕ) (pattern : List Piece) (moment : ℤ) (query : Query) (wanted : Wanted) (into : Into) (sampled : Sampled (GroupMaker S) GroupTaker) (phase : Phase (GroupMaker S) GroupTaker) (now : S)
-    → sampled.limit ≡ limit → sampled.pattern.now ≡ pattern → sampled.phase ≡ phase → IsFreshIn pattern moment query wanted into phase → Begins (asked_rules limit pattern moment query wanted into) sampled now
-fresh_in {S = S} limit pattern moment q wanted into sampled (P.Gathering gathering) now limit_is pattern_is phase_is none =
+fresh_in : {S : Type 0} (kind : StageKind S) (limit : ℕ) (pattern : List Piece) (moment : ℤ) (query : Query) (wanted : Wanted) (into : Into) (sampled : Sampled (GroupMaker S) GroupTaker) (phase : Phase (GroupMaker S) GroupTaker) (now : S)
+    → sampled.limit ≡ limit → sampled.pattern.now ≡ pattern → sampled.phase ≡ phase → IsFreshIn pattern moment query wanted into phase → Begins kind (asked_rules limit pattern moment query wanted into) sampled now
+fresh_in {S = S} kind limit pattern moment q wanted into sampled (P.Gathering gathering) now limit_is pattern_is phase_is none =
     let asked = none.asked in
     let rules : SampleRules (GroupMaker S) = record { limit = limit; pattern = pattern; maker = gathering.maker } in
-    let Of : Phase (GroupMaker S) GroupTaker → Type 0 = λ p. PhaseHolds group_kind rules now nothing p now in
+    let Of : Phase (GroupMaker S) GroupTaker → Type 0 = λ p. PhaseHolds (group_kind kind) rules now nothing p now in
     record {
       rules = rules;
       fits = asked.pattern_is;
@@ -55,12 +56,12 @@ fresh_in {S = S} limit pattern moment q wanted into sampled (P.Gathering gatheri
         phase = subst Of (sym phase_is) (record { maker = refl; first = none.first; rows = ap (map found_in) none.rows; nothing = refl });
       };
     }
-fresh_in limit pattern moment q wanted into sampled (P.Taking taker) now limit_is pattern_is phase_is none = absurd none
-fresh_in limit pattern moment q wanted into sampled (P.Refused fault) now limit_is pattern_is phase_is none = absurd none
-fresh_in limit pattern moment q wanted into sampled P.Lost now limit_is pattern_is phase_is none = absurd none
+fresh_in kind limit pattern moment q wanted into sampled (P.Taking taker) now limit_is pattern_is phase_is none = absurd none
+fresh_in kind limit pattern moment q wanted into sampled (P.Refused fault) now limit_is pattern_is phase_is none = absurd none
+fresh_in kind limit pattern moment q wanted into sampled P.Lost now limit_is pattern_is phase_is none = absurd none
 
 -- a run before its first record
-pub fresh_begins : {S : Type 0} (limit : ℕ) (pattern : List Piece) (moment : ℤ) (query : Query) (wanted : Wanted) (into : Into) (sampled : Sampled (GroupMaker S) GroupTaker) (now : S)
-    → IsFresh limit pattern moment query wanted into sampled → Begins (asked_rules limit pattern moment query wanted into) sampled now
-fresh_begins limit pattern moment q wanted into sampled now is =
-    fresh_in limit pattern moment q wanted into sampled sampled.phase now is.limit_is is.pattern_is refl is.phase
+pub fresh_begins : {S : Type 0} (kind : StageKind S) (limit : ℕ) (pattern : List Piece) (moment : ℤ) (query : Query) (wanted : Wanted) (into : Into) (sampled : Sampled (GroupMaker S) GroupTaker) (now : S)
+    → IsFresh limit pattern moment query wanted into sampled → Begins kind (asked_rules limit pattern moment query wanted into) sampled now
+fresh_begins kind limit pattern moment q wanted into sampled now is =
+    fresh_in kind limit pattern moment q wanted into sampled sampled.phase now is.limit_is is.pattern_is refl is.phase

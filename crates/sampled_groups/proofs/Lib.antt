@@ -1,3 +1,4 @@
+mod Opens
 mod Puts
 mod Fresh
 mod Ran

@@ -1,5 +1,5 @@
 -- The rows of a taker of groups behind a sample.
-use Rattle.std.proofs.Common.{◌≡◌, ℕ, List, [], ◌∷◌, ◌++◌, length, map, option_map, ap, ap₂, ◌∙◌, refl, sym, subst, inl, inr}
+use Rattle.std.proofs.Common.{◌≡◌, ℕ, Bool, true, false, List, [], ◌∷◌, ◌++◌, length, map, Option, Some, None, IfSome, option_map, ap, ap₂, ◌∙◌, refl, sym, subst, inl, inr}
 use Rattle.lp_time.specs.declared.piece.Piece.{Piece}
 use Rattle.lp_values.specs.declared.value.Value.{Value}
 use Rattle.log_reading.specs.Found.{Found, rows_met}
@@ -30,16 +30,17 @@ use Rattle.column_kinds.specs.declared.judging.Judged.{Judged}
 use Rattle.column_kinds.specs.declared.maker.Stop.{Stop}
 use Rattle.column_kinds.specs.declared.maker.Stop.TheVariants as Why
 use Rattle.column_kinds.specs.Past.{Past}
-use Rattle.column_kinds.specs.Sampling.{Begun, rows_of, told_by}
+use Rattle.column_kinds.specs.Sampling.{Begun, StopsAs, rows_of, told_by}
 use Rattle.column_kinds.specs.Sampling.{Rules as SampleRules, IsFront as SampleFront, IsRefused as SampleRefused, IsStop as SampleStop}
 use Rattle.sampled_table.specs.Picks.{sampled_picks}
-use Rattle.sampled_run.specs.Ran.{ended_by}
+use Rattle.sampled_run.specs.Ran.{ended_by, refused_in}
 use Rattle.sampled_groups.specs.declared.group_maker.GroupMaker.{GroupMaker}
 use Rattle.sampled_groups.specs.declared.group_taker.GroupTaker.{GroupTaker}
 use Rattle.sampled_groups.specs.Kinds.{Fits, group_kind, run_rules}
-use Rattle.sampled_groups.specs.Made.{asked_in}
+use Rattle.sampled_groups.specs.Made.{IsMade, asked_in}
 use Rattle.sampled_groups.specs.Ran.{IsFront, IsRefused, IsStoppedBy, IsUnplaced, IsWithin, IsWritten, fault_of}
 use Rattle.sampled_groups.specs.Rules.{rows_with}
+use Rattle.sampled_groups.specs.Taking.{HasNone}
 
 -- what the rows of records that are met are
 rows_again : (founds : List Found) → rows_met (rows_of founds) ≡ founds
@@ -58,16 +59,23 @@ rows_same shape p pattern t told r rows g groups w width f founds pattern_is tol
     ∙ (ap₂ (λ (x y : Plan). rows_by pattern told x y shape w f) rows_is groups_is
     ∙ ap₂ (λ (x : ℕ) (y : List Found). rows_by pattern told rows groups shape x y) width_is founds_is)
 
+false_or_true : (b : Bool) → b ≡ false → b ≡ true → ⊥
+false_or_true b down up = cc
+
 module _ {S : Type 0} (kind : StageKind S) where
+  -- a taker that is made has put no row, and opened no output
+  made_has : (maker : GroupMaker S) (told : Judged) (made : GroupTaker) (begin : S) → IsMade maker told made → HasNone kind made begin begin
+  made_has maker told made begin is = record {
+    has = new_has kind made.output begin is.ready.new;
+    opened = λ up. absurd (false_or_true made.opened is.ready.unopened up);
+  }
+
   -- while records were taken no row was put
-  begun_has : (rules : SampleRules (GroupMaker S)) (begin : S) (past : Past) (taker : GroupTaker) (u : S) → Begun group_kind rules begin past taker u → HasRows kind taker.output begin [] u
-  begun_has rules begin past taker u begun =
-      let made = begun.made in
-      let Of : RowOutput → Type 0 = λ o. HasRows kind o begin [] u in
-      subst Of (sym begun.taken.output) (subst (λ (w : S). HasRows kind made.output begin [] w) (sym begun.taken.gathers.out) (new_has kind made.output begin begun.is_made.ready.new))
+  begun_has : (rules : SampleRules (GroupMaker S)) (begin : S) (past : Past) (taker : GroupTaker) (u : S) → Begun (group_kind kind) rules begin past taker u → HasRows kind taker.output begin [] u
+  begun_has rules begin past taker u begun = (begun.taken.none begin (made_has rules.maker (told_by rules past) begun.made begin begun.is_made)).has
 
   -- a fact of the rows that are made of the groups which were gathered, of those that the rules give
-  along_groups : (rules : SampleRules (GroupMaker S)) (begin : S) (past : Past) (taker : GroupTaker) (u : S) (P : Asked → Rows → Type 0) → Fits rules → (begun : Begun group_kind rules begin past taker u)
+  along_groups : (rules : SampleRules (GroupMaker S)) (begin : S) (past : Past) (taker : GroupTaker) (u : S) (P : Asked → Rows → Type 0) → Fits rules → (begun : Begun (group_kind kind) rules begin past taker u)
       → OnGroups taker.rows.plan.plan taker.rows.groups (P (asked_of taker.output))
       → P (asked_in rules.maker (planned_in begun.is_made.plan.groups)) (rows_with rules.pattern (told_by rules past) (grouped_in begun.is_made.plan) past.founds)
   along_groups rules begin past taker u P fits begun on =
@@ -78,7 +86,7 @@ module _ {S : Type 0} (kind : StageKind S) where
       let shape = plan.shape in
       let founds = rows_met (rows_of past.founds) in
       let here = on shape.keys shape.aggregates shape.rollup _ (took.gathers.grown shape.keys shape.aggregates shape.rollup [] is.none) in
-      let asked = ap asked_of took.output ∙ is.asked_is in
+      let asked = took.asked ∙ is.asked_is in
       let same = rows_same shape made.rows.picker.pattern.now rules.pattern made.rows.picker.told (told_by rules past) made.rows.picker.ready.plan plan.rows taker.rows.plan.plan plan.groups made.rows.groups.width shape.keys founds past.founds
       (is.pattern_is ∙ fits) is.told_is is.rows (ap (λ (ready : ReadyPlan). ready.plan) took.gathers.plan ∙ is.groups) is.none.wide (rows_again past.founds) in
       subst (P (asked_in rules.maker (planned_in plan.groups))) same (subst (λ (a : Asked). P a (rows_by made.rows.picker.pattern.now made.rows.picker.told made.rows.picker.ready.plan taker.rows.plan.plan shape made.rows.groups.width founds)) asked here)
@@ -88,7 +96,7 @@ module _ {S : Type 0} (kind : StageKind S) where
   pub written_is : (rules : SampleRules (GroupMaker S)) (begin : S) (past : Past) (taker : GroupTaker) (u v : S) (many : ℕ) (outputs : List Output) → Fits rules
       → ((start : S) → HasRows kind taker.output start [] u → OnGroups taker.rows.plan.plan taker.rows.groups (λ out. Holds kind (asked_of taker.output) start out outputs v))
       → ((start : S) → HasRows kind taker.output start [] u → OnGroups taker.rows.plan.plan taker.rows.groups (λ out. many ≡ length (left_of (asked_of taker.output) out)))
-      → Begun group_kind rules begin past taker u → IsWritten kind (run_rules rules) begin past many outputs v
+      → Begun (group_kind kind) rules begin past taker u → IsWritten kind (run_rules rules) begin past many outputs v
   written_is rules begin past taker u v many outputs fits hold count begun =
       let has = begun_has rules begin past taker u begun in
       let P : Asked → Rows → Type 0 = λ asked out. Holds kind asked begin out outputs v × (many ≡ length (left_of asked out)) in
@@ -97,16 +105,54 @@ module _ {S : Type 0} (kind : StageKind S) where
 
   -- ---- not all of them
 
-  pub front_is : (rules : SampleRules (GroupMaker S)) (begin : S) (past : Past) (v : S) → SampleFront group_kind rules begin past v → IsFront kind (run_rules rules) begin past v
-  front_is rules begin past v (inl nothing) = inl nothing
-  front_is rules begin past v (inr within) = inl within.stops.stopped
+  -- a fact of what the rules ask and give, whatever rows came
+  stops_is : (rules : SampleRules (GroupMaker S)) (begin : S) (past : Past) (last : GroupTaker) (v : S) → StopsAs (group_kind kind) rules begin past last v → IsWithin kind (run_rules rules) begin past v
+  stops_is rules begin past last v stops =
+      let made = stops.made in
+      let is = stops.is_made in
+      let plan = grouped_in is.plan in
+      let rows = rows_with rules.pattern (told_by rules past) plan past.founds in
+      record {
+        plan = plan;
+        planned = is.planned;
+        stops = subst (λ (asked : Asked). Stops kind asked begin rows v) is.ready.asked_is (stops.stopped.stop begin rows (made_has rules.maker (told_by rules past) made begin is));
+      }
 
-  pub refused_is : (rules : SampleRules (GroupMaker S)) (begin : S) (past : Past) (fault : TypeFault) (v : S) → SampleRefused group_kind rules begin past fault v → IsRefused (run_rules rules) begin past fault v
+  -- an output was refused
+  unplaced_is : (rules : SampleRules (GroupMaker S)) (begin : S) (past : Past) (last : GroupTaker) (why : Refused) (v : S) → last.refused ≡ Some why → StopsAs (group_kind kind) rules begin past last v → IsUnplaced kind (run_rules rules) begin past why v
+  unplaced_is rules begin past last why v refused stops =
+      let made = stops.made in
+      let is = stops.is_made in
+      let plan = grouped_in is.plan in
+      let rows = rows_with rules.pattern (told_by rules past) plan past.founds in
+      let has = made_has rules.maker (told_by rules past) made begin is in
+      let told : IsRefusedOutput (asked_of made.output) rows why = subst (λ (o : Option Refused). IfSome o (IsRefusedOutput (asked_of made.output) rows)) refused (stops.stopped.refused is.ready.unrefused begin rows has) in
+      record {
+        plan = plan;
+        planned = is.planned;
+        stops = subst (λ (asked : Asked). Stops kind asked begin rows v) is.ready.asked_is (stops.stopped.stop begin rows has);
+        refused = subst (λ (asked : Asked). IsRefusedOutput asked rows why) is.ready.asked_is told;
+      }
+
+  -- the taker stopped: for what it refused, or for want of memory
+  pub taker_stopped : (rules : SampleRules (GroupMaker S)) (begin : S) (past : Past) (last : GroupTaker) (refused : Option Refused) (v : S) → last.refused ≡ refused → StopsAs (group_kind kind) rules begin past last v
+      → IsStoppedBy kind (run_rules rules) begin past (refused_in refused) v
+  taker_stopped rules begin past last None v is stops = inr (stops_is rules begin past last v stops)
+  taker_stopped rules begin past last (Some why) v is stops = unplaced_is rules begin past last why v is stops
+
+  pub taking_within : (rules : SampleRules (GroupMaker S)) (begin : S) (past : Past) (last : GroupTaker) (v : S) → StopsAs (group_kind kind) rules begin past last v → IsFront kind (run_rules rules) begin past v
+  taking_within rules begin past last v stops = inr (stops_is rules begin past last v stops)
+
+  pub front_is : (rules : SampleRules (GroupMaker S)) (begin : S) (past : Past) (v : S) → SampleFront (group_kind kind) rules begin past v → IsFront kind (run_rules rules) begin past v
+  front_is rules begin past v (inl nothing) = inl nothing
+  front_is rules begin past v (inr within) = inr (stops_is rules begin past within.last v within.stops)
+
+  pub refused_is : (rules : SampleRules (GroupMaker S)) (begin : S) (past : Past) (fault : TypeFault) (v : S) → SampleRefused (group_kind kind) rules begin past fault v → IsRefused (run_rules rules) begin past fault v
   refused_is rules begin past fault v refused = record { fault = refused.refused; nothing = refused.nothing }
 
-  pub stop_is : (rules : SampleRules (GroupMaker S)) (begin : S) (past : Past) (stop : Stop GroupTaker) (v : S) → SampleStop group_kind rules begin past stop v → IsStoppedBy kind (run_rules rules) begin past (fault_of stop) v
+  pub stop_is : (rules : SampleRules (GroupMaker S)) (begin : S) (past : Past) (stop : Stop GroupTaker) (v : S) → SampleStop (group_kind kind) rules begin past stop v → IsStoppedBy kind (run_rules rules) begin past (fault_of stop) v
   stop_is rules begin past (Why.Refused fault) v stopped = refused_is rules begin past fault v stopped
-  stop_is rules begin past (Why.Stopped taker) v stopped = inl stopped.stopped
+  stop_is rules begin past (Why.Stopped taker) v stopped = taker_stopped rules begin past taker taker.refused v refl stopped
   stop_is rules begin past Why.Failed v stopped = front_is rules begin past v stopped
   stop_is rules begin past Why.Memory v stopped = front_is rules begin past v stopped
 
@@ -114,7 +160,7 @@ module _ {S : Type 0} (kind : StageKind S) where
 
   end_within : (rules : SampleRules (GroupMaker S)) (begin : S) (past : Past) (taker : GroupTaker) (u v : S) → Fits rules
       → ((start : S) → HasRows kind taker.output start [] u → OnGroups taker.rows.plan.plan taker.rows.groups (λ out. Stops kind (asked_of taker.output) start out v))
-      → Begun group_kind rules begin past taker u → IsWithin kind (run_rules rules) begin past v
+      → Begun (group_kind kind) rules begin past taker u → IsWithin kind (run_rules rules) begin past v
   end_within rules begin past taker u v fits stop begun =
       let P : Asked → Rows → Type 0 = λ asked out. Stops kind asked begin out v in
       record { plan = grouped_in begun.is_made.plan; planned = begun.is_made.planned; stops = along_groups rules begin past taker u P fits begun (stop begin (begun_has rules begin past taker u begun)) }
@@ -122,7 +168,7 @@ module _ {S : Type 0} (kind : StageKind S) where
   pub end_stopped : (rules : SampleRules (GroupMaker S)) (begin : S) (past : Past) (taker : GroupTaker) (u v : S) (fault : OutputFault) → Fits rules
       → ((start : S) → HasRows kind taker.output start [] u → OnGroups taker.rows.plan.plan taker.rows.groups (λ out. Stops kind (asked_of taker.output) start out v))
       → OnRefused (λ why. (start : S) → HasRows kind taker.output start [] u → OnGroups taker.rows.plan.plan taker.rows.groups (λ out. IsRefusedOutput (asked_of taker.output) out why)) fault
-      → Begun group_kind rules begin past taker u → IsStoppedBy kind (run_rules rules) begin past (ended_by fault) v
+      → Begun (group_kind kind) rules begin past taker u → IsStoppedBy kind (run_rules rules) begin past (ended_by fault) v
   end_stopped rules begin past taker u v (O.Refused why) fits stop refused begun =
       let has = begun_has rules begin past taker u begun in
       let P : Asked → Rows → Type 0 = λ asked out. Stops kind asked begin out v × IsRefusedOutput asked out why in

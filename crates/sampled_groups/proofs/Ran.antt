@@ -11,6 +11,7 @@ use Rattle.log_reading.specs.Spans.{AreKept, BadLine, OnBadLine, span_found, spa
 use Rattle.text_output.specs.Output.{StageKind}
 use Rattle.row_output.specs.declared.fault.OutputFault.{OutputFault}
 use Rattle.row_output.specs.declared.fault.OutputFault.TheVariants as O
+use Rattle.row_output.specs.declared.fault.Refused.{Refused}
 use Rattle.query_run.specs.declared.executing.Written.{Written}
 use Rattle.column_kinds.proofs.SetsOnce.{SetsOnce}
 use Rattle.column_kinds.proofs.Behind.{behind_all}
@@ -18,7 +19,7 @@ use Rattle.column_kinds.specs.Laws.{later_same}
 use Rattle.column_kinds.specs.declared.maker.Stop.{Stop}
 use Rattle.column_kinds.specs.declared.maker.Stop.TheVariants as Why
 use Rattle.column_kinds.specs.Past.{Past}
-use Rattle.column_kinds.specs.Sampling.{Holds}
+use Rattle.column_kinds.specs.Sampling.{Holds, StopsAs}
 use Rattle.column_kinds.specs.Sampling.{Rules as SampleRules, PhaseStopped as SamplePhase}
 use Rattle.column_kinds.specs.Spans.{past_behind, past_behind_span, past_of}
 use Rattle.column_kinds.specs.SpansTold.{SamplesSpans, HaltsIn, spans_told}
@@ -27,14 +28,14 @@ use Rattle.column_kinds.specs.declared.phase.Phase.TheVariants as P
 use Rattle.column_kinds.specs.declared.phase.Sampled.{Sampled}
 use Rattle.sampled_run.specs.declared.fault.SampleFault.{SampleFault}
 use Rattle.sampled_run.specs.declared.fault.SampleFault.TheVariants as F
-use Rattle.sampled_run.specs.Ran.{IsOfEnd, OnBadOne, ended_by, read_fault}
+use Rattle.sampled_run.specs.Ran.{IsOfEnd, OnBadOne, ended_by, read_fault, refused_in}
 use Rattle.sampled_groups.specs.declared.group_maker.GroupMaker.{GroupMaker}
 use Rattle.sampled_groups.specs.declared.group_taker.GroupTaker.{GroupTaker}
 use Rattle.sampled_groups.specs.Kinds.{Fits, group_kind, run_rules}
 use Rattle.sampled_groups.specs.Ran.{IsFront, IsSampled, IsStoppedBy, IsWritten, fault_in, fault_of}
 use Rattle.sampled_groups.specs.Rules.{GroupRules}
 use Rattle.sampled_groups.proofs.Fresh.{Begins, nothing}
-use Rattle.sampled_groups.proofs.Puts.{front_is, refused_is}
+use Rattle.sampled_groups.proofs.Puts.{front_is, refused_is, taker_stopped, taking_within}
 
 -- the records behind spans are those of the spans
 behind_founds : (format : Format) (waits : Bool) (folder : Folder) (past : Past) (spans : List Span) → (past_behind format waits folder past spans).founds ≡ past.founds ++ spans_found format waits folder spans
@@ -48,9 +49,9 @@ SampledTaker S = Sampled (GroupMaker S) GroupTaker
 -- ---- all rows
 
 pub ran : {S : Type 0} (kind : StageKind S) (asked : GroupRules) (format : Format) (waits : Bool) (told : Option Folder) (spans : List Span) (first last : Page (SampledTaker S)) (u mid after : S) (run : Written)
-    → Begins asked first.taker u → first.rows ≡ 0 → first.bad ≡ 0 → run.counts.processed ≡ last.rows → run.counts.bad ≡ last.bad
-    → Told told (λ folder. AreKept format waits spans folder → SamplesSpans group_kind format waits folder spans first last u mid)
-    → ((rules : SampleRules (GroupMaker S)) (begin : S) (past : Past) → Fits rules → Holds group_kind rules begin past last.taker mid → IsWritten kind (run_rules rules) begin past run.counts.output run.outputs after)
+    → Begins kind asked first.taker u → first.rows ≡ 0 → first.bad ≡ 0 → run.counts.processed ≡ last.rows → run.counts.bad ≡ last.bad
+    → Told told (λ folder. AreKept format waits spans folder → SamplesSpans (group_kind kind) format waits folder spans first last u mid)
+    → ((rules : SampleRules (GroupMaker S)) (begin : S) (past : Past) → Fits rules → Holds (group_kind kind) rules begin past last.taker mid → IsWritten kind (run_rules rules) begin past run.counts.output run.outputs after)
     → Told told (λ folder. AreKept format waits spans folder → IsSampled kind asked u (past_behind format waits folder nothing spans) format waits folder spans run after)
 ran kind asked format waits None spans first last u mid after run begins rows bad processed bads taken ends = tt
 ran kind asked format waits (Some folder) spans first last u mid after run begins rows bad processed bads taken ends = λ kept.
@@ -75,16 +76,24 @@ read_front kind rules start past R.Output now front = front
 read_front kind rules start past R.Stopped now front = front
 read_front kind rules start past (R.Bad log row) now front = front
 
+read_taking : {S : Type 0} (kind : StageKind S) (rules : SampleRules (GroupMaker S)) (begin : S) (past : Past) (taker : GroupTaker) (fault : RunFault) (now : S) → StopsAs (group_kind kind) rules begin past taker now
+    → IsStoppedBy kind (run_rules rules) begin past (read_fault fault taker.refused) now
+read_taking kind rules begin past taker R.Memory now stops = taking_within kind rules begin past taker now stops
+read_taking kind rules begin past taker R.Logs now stops = taking_within kind rules begin past taker now stops
+read_taking kind rules begin past taker R.Output now stops = taking_within kind rules begin past taker now stops
+read_taking kind rules begin past taker R.Stopped now stops = taker_stopped kind rules begin past taker taker.refused now refl stops
+read_taking kind rules begin past taker (R.Bad log row) now stops = taking_within kind rules begin past taker now stops
+
 phase_stopped : {S : Type 0} (kind : StageKind S) (rules : SampleRules (GroupMaker S)) (begin : S) (past : Past) (phase : Phase (GroupMaker S) GroupTaker) (fault : RunFault) (now : S)
-    → SamplePhase group_kind rules begin past phase now → IsStoppedBy kind (run_rules rules) begin past (fault_in phase fault) now
+    → SamplePhase (group_kind kind) rules begin past phase now → IsStoppedBy kind (run_rules rules) begin past (fault_in phase fault) now
 phase_stopped kind rules begin past (P.Gathering gathering) fault now stopped = read_front kind (run_rules rules) begin past fault now (front_is kind rules begin past now stopped)
-phase_stopped kind rules begin past (P.Taking taker) fault now stopped = read_front kind (run_rules rules) begin past fault now (inl stopped.stopped)
+phase_stopped kind rules begin past (P.Taking taker) fault now stopped = read_taking kind rules begin past taker fault now stopped
 phase_stopped kind rules begin past (P.Refused plan) fault now stopped = refused_is kind rules begin past plan now stopped
 phase_stopped kind rules begin past P.Lost fault now stopped = read_front kind (run_rules rules) begin past fault now (front_is kind rules begin past now stopped)
 
 pub stopped_reading : {S : Type 0} (kind : StageKind S) (asked : GroupRules) (format : Format) (waits : Bool) (told : Option Folder) (spans : List Span) (first last : Page (SampledTaker S)) (u now : S) (fault : RunFault)
-    → Begins asked first.taker u
-    → Told told (λ folder. AreKept format waits spans folder → HaltsIn group_kind (spans_told format waits folder spans) first.taker last.taker u now)
+    → Begins kind asked first.taker u
+    → Told told (λ folder. AreKept format waits spans folder → HaltsIn (group_kind kind) (spans_told format waits folder spans) first.taker last.taker u now)
     → Told told (λ folder. AreKept format waits spans folder → IsStoppedBy kind asked u (past_behind format waits folder nothing spans) (fault_in last.taker.phase fault) now)
 stopped_reading kind asked format waits None spans first last u now fault begins halted = tt
 stopped_reading kind asked format waits (Some folder) spans first last u now fault begins halted = λ kept.
@@ -93,9 +102,9 @@ stopped_reading kind asked format waits (Some folder) spans first last u now fau
     subst By begins.same (phase_stopped kind begins.rules u past last.taker.phase fault now ((halted kept).within begins.rules u nothing begins.holds past (later_same past)))
 
 pub stopped_ending : {S : Type 0} (kind : StageKind S) (asked : GroupRules) (format : Format) (waits : Bool) (told : Option Folder) (spans : List Span) (first last : Page (SampledTaker S)) (u mid after : S) (fault : SampleFault)
-    → Begins asked first.taker u
-    → Told told (λ folder. AreKept format waits spans folder → SamplesSpans group_kind format waits folder spans first last u mid)
-    → ((rules : SampleRules (GroupMaker S)) (begin : S) (past : Past) → Fits rules → Holds group_kind rules begin past last.taker mid → IsStoppedBy kind (run_rules rules) begin past fault after)
+    → Begins kind asked first.taker u
+    → Told told (λ folder. AreKept format waits spans folder → SamplesSpans (group_kind kind) format waits folder spans first last u mid)
+    → ((rules : SampleRules (GroupMaker S)) (begin : S) (past : Past) → Fits rules → Holds (group_kind kind) rules begin past last.taker mid → IsStoppedBy kind (run_rules rules) begin past fault after)
     → Told told (λ folder. AreKept format waits spans folder → IsStoppedBy kind asked u (past_behind format waits folder nothing spans) fault after)
 stopped_ending kind asked format waits None spans first last u mid after fault begins taken ends = tt
 stopped_ending kind asked format waits (Some folder) spans first last u mid after fault begins taken ends = λ kept.
@@ -104,8 +113,8 @@ stopped_ending kind asked format waits (Some folder) spans first last u mid afte
     subst By begins.same (ends begins.rules u past begins.fits ((taken kept).along begins.rules u nothing begins.holds))
 
 -- the fault at the phase that a page has
-pub fault_from : {M T : Type 0} (a b : Phase M T) (fault : RunFault) (result : SampleFault) → result ≡ fault_in a fault → a ≡ b → result ≡ fault_in b fault
-fault_from {M = M} {T = T} a b fault result is same = is ∙ ap (λ (phase : Phase M T). fault_in phase fault) same
+pub fault_from : {M : Type 0} (a b : Phase M GroupTaker) (fault : RunFault) (result : SampleFault) → result ≡ fault_in a fault → a ≡ b → result ≡ fault_in b fault
+fault_from {M = M} a b fault result is same = is ∙ ap (λ (phase : Phase M GroupTaker). fault_in phase fault) same
 
 -- nothing was read
 pub stopped_at_once : {S : Type 0} (kind : StageKind S) (rules : GroupRules) (format : Format) (waits : Bool) (told : Option Folder) (spans : List Span) (start : S)
@@ -115,54 +124,70 @@ stopped_at_once kind rules format waits (Some folder) spans start = λ kept. inl
 
 -- ---- faults
 
-bad_read : (fault : RunFault) (Q : BadLine → Type 0) → OnBadLine fault Q → OnBadOne (read_fault fault None) Q
-bad_read R.Memory Q q = tt
-bad_read R.Logs Q q = tt
-bad_read R.Output Q q = tt
-bad_read R.Stopped Q q = tt
-bad_read (R.Bad log row) Q q = q
+bad_refused : (refused : Option Refused) (Q : BadLine → Type 0) → OnBadOne (refused_in refused) Q
+bad_refused None Q = tt
+bad_refused (Some why) Q = tt
 
-pub bad_in : {M T : Type 0} (phase : Phase M T) (fault : RunFault) (Q : BadLine → Type 0) → OnBadLine fault Q → OnBadOne (fault_in phase fault) Q
-bad_in (P.Gathering gathering) fault Q q = bad_read fault Q q
-bad_in (P.Taking taker) fault Q q = bad_read fault Q q
+bad_read : (fault : RunFault) (refused : Option Refused) (Q : BadLine → Type 0) → OnBadLine fault Q → OnBadOne (read_fault fault refused) Q
+bad_read R.Memory refused Q q = tt
+bad_read R.Logs refused Q q = tt
+bad_read R.Output refused Q q = tt
+bad_read R.Stopped refused Q q = bad_refused refused Q
+bad_read (R.Bad log row) refused Q q = q
+
+pub bad_in : {M : Type 0} (phase : Phase M GroupTaker) (fault : RunFault) (Q : BadLine → Type 0) → OnBadLine fault Q → OnBadOne (fault_in phase fault) Q
+bad_in (P.Gathering gathering) fault Q q = bad_read fault None Q q
+bad_in (P.Taking taker) fault Q q = bad_read fault taker.refused Q q
 bad_in (P.Refused plan) fault Q q = tt
-bad_in P.Lost fault Q q = bad_read fault Q q
+bad_in P.Lost fault Q q = bad_read fault None Q q
 
 -- the fault of an answer
 pub fault_same : {T E : Type 0} (a b : E) → IsErrOf {T = T} {E = E} (Err a) b → a ≡ b
 fault_same a b is = cc
 
-read_logs : (fault : RunFault) → read_fault fault None ≡ F.Logs → fault ≡ R.Logs
-read_logs R.Memory e = absurd cc
-read_logs R.Logs e = refl
-read_logs R.Output e = absurd cc
-read_logs R.Stopped e = absurd cc
-read_logs (R.Bad log row) e = absurd cc
+refused_logs : (refused : Option Refused) → refused_in refused ≡ F.Logs → ⊥
+refused_logs None e = cc
+refused_logs (Some why) e = cc
 
-pub logs_in : {M T : Type 0} (phase : Phase M T) (fault : RunFault) → fault_in phase fault ≡ F.Logs → fault ≡ R.Logs
-logs_in (P.Gathering gathering) fault e = read_logs fault e
-logs_in (P.Taking taker) fault e = read_logs fault e
+read_logs : (fault : RunFault) (refused : Option Refused) → read_fault fault refused ≡ F.Logs → fault ≡ R.Logs
+read_logs R.Memory refused e = absurd cc
+read_logs R.Logs refused e = refl
+read_logs R.Output refused e = absurd cc
+read_logs R.Stopped refused e = absurd (refused_logs refused e)
+read_logs (R.Bad log row) refused e = absurd cc
+
+pub logs_in : {M : Type 0} (phase : Phase M GroupTaker) (fault : RunFault) → fault_in phase fault ≡ F.Logs → fault ≡ R.Logs
+logs_in (P.Gathering gathering) fault e = read_logs fault None e
+logs_in (P.Taking taker) fault e = read_logs fault taker.refused e
 logs_in (P.Refused plan) fault e = absurd cc
-logs_in P.Lost fault e = read_logs fault e
+logs_in P.Lost fault e = read_logs fault None e
 
-read_output : (fault : RunFault) → read_fault fault None ≡ F.Output → fault ≡ R.Output
-read_output R.Memory e = absurd cc
-read_output R.Logs e = absurd cc
-read_output R.Output e = refl
-read_output R.Stopped e = absurd cc
-read_output (R.Bad log row) e = absurd cc
+refused_output : (refused : Option Refused) → refused_in refused ≡ F.Output → ⊥
+refused_output None e = cc
+refused_output (Some why) e = cc
 
-pub output_in : {M T : Type 0} (phase : Phase M T) (fault : RunFault) → fault_in phase fault ≡ F.Output → fault ≡ R.Output
-output_in (P.Gathering gathering) fault e = read_output fault e
-output_in (P.Taking taker) fault e = read_output fault e
+read_output : (fault : RunFault) (refused : Option Refused) → read_fault fault refused ≡ F.Output → fault ≡ R.Output
+read_output R.Memory refused e = absurd cc
+read_output R.Logs refused e = absurd cc
+read_output R.Output refused e = refl
+read_output R.Stopped refused e = absurd (refused_output refused e)
+read_output (R.Bad log row) refused e = absurd cc
+
+pub output_in : {M : Type 0} (phase : Phase M GroupTaker) (fault : RunFault) → fault_in phase fault ≡ F.Output → fault ≡ R.Output
+output_in (P.Gathering gathering) fault e = read_output fault None e
+output_in (P.Taking taker) fault e = read_output fault taker.refused e
 output_in (P.Refused plan) fault e = absurd cc
-output_in P.Lost fault e = read_output fault e
+output_in P.Lost fault e = read_output fault None e
 
 -- ---- faults at the end
 
-pub stop_end : {T : Type 0} (stop : Stop T) → IsOfEnd (fault_of stop)
+refused_end : (refused : Option Refused) → IsOfEnd (refused_in refused)
+refused_end None = tt
+refused_end (Some why) = tt
+
+pub stop_end : (stop : Stop GroupTaker) → IsOfEnd (fault_of stop)
 stop_end (Why.Refused fault) = tt
-stop_end (Why.Stopped taker) = tt
+stop_end (Why.Stopped taker) = refused_end taker.refused
 stop_end Why.Failed = tt
 stop_end Why.Memory = tt
 

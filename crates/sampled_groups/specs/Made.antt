@@ -1,5 +1,5 @@
 -- The taker of a grouped query's records, over the columns that the logs tell.
-use Rattle.std.specs.Prelude.{◌≡◌, List, [], Result, Ok, Err}
+use Rattle.std.specs.Prelude.{◌≡◌, List, [], false, None, Result, Ok, Err}
 use Rattle.any_format.specs.Wanted.{wanted_text}
 use Rattle.lp_time.specs.declared.piece.Piece.{Piece}
 use Rattle.query_tree.specs.Views.{query_of}
@@ -25,7 +25,7 @@ plan_over maker told = group_plan_of (table_of told) maker.moment.seconds (query
 abbrev pub asked_in : {S : Type 0} → GroupMaker S → Planned → Asked
 asked_in maker = asked_by (files_for maker.into) (wanted_text maker.wanted maker.moment.seconds) (query_of maker.query.now)
 
--- this taker goes by a plan over these columns, and what is asked of its rows is this: it has no group, and no row is put
+-- this taker goes by a plan over these columns, and what is asked of its rows is this: it has no group, no row is put, and no output opened
 pub record IsReady (pattern : List Piece) (told : Judged) (plan : GroupPlan) (asked : Asked) (taker : GroupTaker) : Type 0 where
   pub rows : taker.rows.picker.ready.plan ≡ plan.rows
   pub groups : taker.rows.plan.plan ≡ plan.groups
@@ -34,6 +34,8 @@ pub record IsReady (pattern : List Piece) (told : Judged) (plan : GroupPlan) (as
   pub pattern_is : taker.rows.picker.pattern.now ≡ pattern
   pub asked_is : asked_of taker.output ≡ asked
   pub new : IsNew taker.output
+  pub unopened : taker.opened ≡ false
+  pub unrefused : taker.refused ≡ None
 
 -- this taker is made for these columns: it goes by the plan over them
 pub record IsMade {S : Type 0} (maker : GroupMaker S) (told : Judged) (taker : GroupTaker) : Type 0 where

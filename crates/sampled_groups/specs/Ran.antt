@@ -21,7 +21,8 @@ use Rattle.column_kinds.specs.declared.phase.Phase.TheVariants as P
 use Rattle.column_kinds.specs.Past.{Past}
 use Rattle.sampled_run.specs.declared.fault.SampleFault.{SampleFault}
 use Rattle.sampled_run.specs.declared.fault.SampleFault.TheVariants as F
-use Rattle.sampled_run.specs.Ran.{read_fault}
+use Rattle.sampled_run.specs.Ran.{read_fault, refused_in}
+use Rattle.sampled_groups.specs.declared.group_taker.GroupTaker.{GroupTaker}
 use Rattle.sampled_groups.specs.Rules.{GroupRules, plan_at, rows_at}
 
 -- the query has no plan by groups, by this fault, and nothing is written
@@ -69,15 +70,15 @@ IsStoppedBy kind rules start past F.Output now = IsFront kind rules start past n
 IsStoppedBy kind rules start past F.Memory now = IsFront kind rules start past now
 
 -- why a run stops, where the reading of its logs did
-abbrev pub fault_in : {M T : Type 0} → Phase M T → RunFault → SampleFault
+abbrev pub fault_in : {M : Type 0} → Phase M GroupTaker → RunFault → SampleFault
 fault_in (P.Refused plan) fault = F.Plan plan
 fault_in (P.Gathering gathering) fault = read_fault fault None
-fault_in (P.Taking taker) fault = read_fault fault None
+fault_in (P.Taking taker) fault = read_fault fault taker.refused
 fault_in P.Lost fault = read_fault fault None
 
 -- why a run stops at its end
-abbrev pub fault_of : {T : Type 0} → Stop T → SampleFault
+abbrev pub fault_of : Stop GroupTaker → SampleFault
 fault_of (S.Refused fault) = F.Plan fault
-fault_of (S.Stopped taker) = F.Memory
+fault_of (S.Stopped taker) = refused_in taker.refused
 fault_of S.Failed = F.Output
 fault_of S.Memory = F.Memory

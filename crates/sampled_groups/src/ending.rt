@@ -11,7 +11,7 @@ ghost use Rattle.row_steps.specs.Rows.{OnGroups};
 ghost use Rattle.column_kinds.specs.Past.{Past};
 ghost use Rattle.column_kinds.specs.Sampling.{Holds};
 ghost use Rattle.column_kinds.specs.Sampling.{Rules as SampleRules};
-ghost use Rattle.sampled_run.specs.Ran.{IsOfEnd, ended_by};
+ghost use Rattle.sampled_run.specs.Ran.{IsOfEnd, ended_by, refused_in};
 ghost use Rattle.sampled_groups.specs.declared.group_maker.GroupMaker.{GroupMaker};
 ghost use Rattle.sampled_groups.specs.Kinds.{group_kind, run_rules, Fits};
 ghost use Rattle.sampled_groups.specs.Ran.{IsStoppedBy, IsWritten, fault_of};
@@ -20,21 +20,38 @@ use crate::{GroupMaker, GroupTaker};
 use column_kinds::{Sampled, Stop};
 use lp_outside::Stage;
 use query_run::Picker;
-use row_output::{Finished, OutputFault, RowOutput};
+use row_output::{Finished, OutputFault, Refused, RowOutput};
 use row_steps::{GroupRows, finish_groups};
 use sampled_run::SampleFault;
 use std::alloc::Global;
+use std::mem::replace;
 
-// Why a run stops at its end, where no taker took all records. A taker of groups stops for want of memory alone.
-fn fault_of<T: Drop>(stop: Stop<T>) -> SampleFault
-    ensures { result ≡ fault_of stop }
+/// An output was refused for this, or memory was.
+pub(crate) fn refused_in(refused: Option<Refused>) -> SampleFault
+    ensures { result ≡ refused_in refused }
+{
+    match refused {
+        Some(why) => SampleFault::Refused(why),
+        None => SampleFault::Memory,
+    }
+}
+
+/// Why a taker's output was refused, if that is so.
+pub(crate) fn why_refused<'a>(mut taker: GroupTaker<'a>) -> Option<Refused>
+    ensures { result ≡ taker.entry.refused }
+{
+    let refused = replace(&mut taker.refused, None);
+    drop(taker);
+    refused
+}
+
+// Why a run stops at its end, where no taker took all records.
+fn fault_of<'a>(stop: Stop<GroupTaker<'a>>) -> SampleFault
+    ensures { result ≡ fault_of stop.entry }
 {
     match stop {
         Stop::Refused(fault) => SampleFault::Plan(fault),
-        Stop::Stopped(taker) => {
-            drop(taker);
-            SampleFault::Memory
-        }
+        Stop::Stopped(taker) => refused_in(why_refused(taker)),
         Stop::Failed => SampleFault::Output,
         Stop::Memory => SampleFault::Memory,
     }
@@ -51,7 +68,7 @@ fn ended_by(fault: OutputFault) -> SampleFault
     }
 }
 
-// Opens the output of a name without stars, puts the rows of all groups, and ends the outputs.
+// Opens the output of a name without stars where that wasn't done yet, puts the rows of all groups, and ends the outputs.
 fn put_groups<P: Picker + Drop, G: Stage>(
     alloc: Global,
     rows: &GroupRows<P>,
@@ -84,9 +101,9 @@ pub(crate) fn finish_run<'a, G: Stage>(
     stage: &mut G,
 ) -> Result<Finished, SampleFault>
     ensures written { IfOk result (λ finished. (rules : SampleRules (GroupMaker G)) (begin : G) (past : Past) → Fits rules
-        → Holds group_kind rules begin past sampled.entry stage.old → IsWritten (kind_of G.state G.ended) (run_rules rules) begin past finished.rows finished.outputs stage.new) }
+        → Holds (group_kind (kind_of G.state G.ended)) rules begin past sampled.entry stage.old → IsWritten (kind_of G.state G.ended) (run_rules rules) begin past finished.rows finished.outputs stage.new) }
     ensures stopped { IfErr result (λ fault. (rules : SampleRules (GroupMaker G)) (begin : G) (past : Past) → Fits rules
-        → Holds group_kind rules begin past sampled.entry stage.old → IsStoppedBy (kind_of G.state G.ended) (run_rules rules) begin past fault stage.new) }
+        → Holds (group_kind (kind_of G.state G.ended)) rules begin past sampled.entry stage.old → IsStoppedBy (kind_of G.state G.ended) (run_rules rules) begin past fault stage.new) }
     ensures ended { IfErr result IsOfEnd }
     ensures goes { G.goes stage.old stage.new }
     ensures later { G.faults stage.old ≤ G.faults stage.new }
@@ -94,10 +111,16 @@ pub(crate) fn finish_run<'a, G: Stage>(
 {
     match sampled.finish(alloc, stage) {
         Ok(taker) => {
-            let GroupTaker { rows, mut output } = taker;
+            let GroupTaker {
+                rows,
+                mut output,
+                refused,
+                ..
+            } = taker;
             let finished = put_groups(alloc, &rows, &mut output, stage);
             drop(rows);
             drop(output);
+            drop(refused);
             match finished {
                 Ok(finished) => Ok(finished),
                 Err(fault) => Err(ended_by(fault)),

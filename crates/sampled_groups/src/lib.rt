@@ -2,7 +2,8 @@
 //!
 //! To the crate above: [`run_sampled_groups`] puts exactly the rows that the query makes of the groups of the spans' records, over the
 //! table that these tell, or answers the query's typing fault, and then nothing is written; `Stops` of row_output says what any
-//! other refusal leaves. [`GroupTaker`] gathers the groups and writes nothing: their rows are put once the last record is taken.
+//! other refusal leaves. [`GroupTaker`] opens the output of a name without stars before it gathers the first record, so that a
+//! name that can't be an output is told before a line behind the sample; the groups' rows are put once the last record is taken.
 #![tactic(auto)]
 
 mod ending;
@@ -10,6 +11,7 @@ mod formats;
 mod group_maker;
 mod group_taker;
 mod making;
+mod opening;
 mod running;
 mod taking;
 

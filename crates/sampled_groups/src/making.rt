@@ -121,7 +121,12 @@ fn taker_over<'a>(
         return Err(Unmade::Memory);
     };
     match GroupRows::new(alloc, picker, &shape, ready) {
-        Ok(rows) => Ok(GroupTaker { rows, output }),
+        Ok(rows) => Ok(GroupTaker {
+            rows,
+            output,
+            opened: false,
+            refused: None,
+        }),
         Err(_) => {
             drop(output);
             Err(Unmade::Memory)

@@ -16,7 +16,7 @@ ghost use Rattle.sampled_groups.specs.Kinds.{group_kind};
 ghost use Rattle.sampled_run.specs.Ran.{OnBadOne, read_fault};
 ghost use Rattle.sampled_groups.specs.Ran.{IsSampled, IsStoppedBy, fault_in};
 
-use crate::ending::finish_run;
+use crate::ending::{finish_run, refused_in, why_refused};
 use crate::{GroupMaker, GroupTaker};
 use any_format::Wanted;
 use column_kinds::{Gathering, KeptRows, Phase, Sampled};
@@ -26,41 +26,38 @@ use lp_outside::Stage;
 use lp_time::Pattern;
 use query_run::{Counts, Written, new_chunk};
 use query_tree::Query;
-use row_output::Into;
+use row_output::{Into, Refused};
 use sampled_run::{Moment, SampleFault};
 use std::alloc::Global;
 use std::marker::PhantomData;
 
 type GroupPage<'a, G> = Page<Sampled<'a, GroupMaker<'a, G>, GroupTaker<'a>>>;
 
-// Why a run stops, where the reading of its logs did. A taker of groups stops for want of memory alone.
-fn read_fault(fault: RunFault) -> SampleFault
-    ensures { result ≡ read_fault fault None }
+// Why a run stops, where the reading of its logs did, and its taker for this.
+fn read_fault(fault: RunFault, refused: Option<Refused>) -> SampleFault
+    ensures { result ≡ read_fault fault refused }
 {
     match fault {
         RunFault::Logs => SampleFault::Logs,
         RunFault::Output => SampleFault::Output,
         RunFault::Memory => SampleFault::Memory,
-        RunFault::Stopped => SampleFault::Memory,
+        RunFault::Stopped => refused_in(refused),
         RunFault::Bad { log, row } => SampleFault::Bad { log, row },
     }
 }
 
 // Why a run stops, where the reading of its logs did, at this phase of its sample.
-fn fault_in<M: Drop, T: Drop>(phase: Phase<M, T>, fault: RunFault) -> SampleFault
-    ensures { result ≡ fault_in phase fault }
+fn fault_in<'a, M: Drop>(phase: Phase<M, GroupTaker<'a>>, fault: RunFault) -> SampleFault
+    ensures { result ≡ fault_in phase.entry fault }
 {
     match phase {
         Phase::Refused(fault) => SampleFault::Plan(fault),
-        Phase::Taking(taker) => {
-            drop(taker);
-            read_fault(fault)
-        }
+        Phase::Taking(taker) => read_fault(fault, why_refused(taker)),
         Phase::Gathering(gathering) => {
             drop(gathering);
-            read_fault(fault)
+            read_fault(fault, None)
         }
-        Phase::Lost => read_fault(fault),
+        Phase::Lost => read_fault(fault, None),
     }
 }
 
@@ -141,7 +138,7 @@ fn read_page<'a, R: LineReader, L: LogSource, G: Stage>(
     requires readable { AreReadable L.folder L.ready logs.old spans.now }
     ensures grows { OnlyGrow (L.folder logs.old) (L.folder logs.new) }
     ensures goes_logs { L.goes logs.old logs.new }
-    ensures read { IfOk result (HasRead group_kind (R.format reader.now) waits (L.folder logs.new) spans.now limit pattern.now moment.seconds (query_of query.now) wanted into stage.old stage.new) }
+    ensures read { IfOk result (HasRead (group_kind (kind_of G.state G.ended)) (R.format reader.now) waits (L.folder logs.new) spans.now limit pattern.now moment.seconds (query_of query.now) wanted into stage.old stage.new) }
     ensures stopped { IfErr result (λ fault. Told (L.folder logs.new) (λ folder. AreKept (R.format reader.now) waits spans.now folder
         → IsStoppedBy (kind_of G.state G.ended) (group_rules_of limit pattern.now moment.seconds (query_of query.now) (asked_by (files_for into) (wanted_text wanted moment.seconds) (query_of query.now))) stage.old (past_behind (R.format reader.now) waits folder (record { first = None; founds = [] }) spans.now) fault stage.new)) }
     ensures within { IfOk result (λ page. IsWithin most_bad page.bad) }

@@ -1,8 +1,8 @@
 // How a grouped query takes records.
-ghost use Rattle.std.specs.Prelude.{◌≡◌};
-ghost use Rattle.std.proofs.Common.{◌∙◌};
+ghost use Rattle.std.specs.Prelude.{IsSome};
 ghost use Rattle.log_reading.specs.Found.{rows_met};
-ghost use Rattle.sampled_groups.specs.Taking.{TakesGroups, none_taken, more_taken};
+ghost use Rattle.text_output.specs.Output.{kind_of};
+ghost use Rattle.sampled_groups.specs.Taking.{StopsGroups, TakesGroups, more_taken, none_taken, stops_behind, stops_there};
 
 use crate::GroupTaker;
 use line_input::{Columns, Fields};
@@ -11,12 +11,12 @@ use lp_outside::{Name, Stage};
 use std::alloc::Global;
 
 impl<'a, G: Stage> Taker<G> for GroupTaker<'a> {
-    ghost takes = { λ a u xs b v. TakesGroups a u (rows_met xs) b v };
+    ghost takes = { λ a u xs b v. TakesGroups (kind_of G.state G.ended) a u (rows_met xs) b v };
 
-    // nothing is written, whether or not memory is refused
-    ghost stops = { λ a u xs b v. v ≡ u };
+    // no row is put, so that it stops alike within all that it meets
+    ghost stops = { λ a u xs b v. StopsGroups (kind_of G.state G.ended) a u b v };
 
-    ghost stopped = { λ s. ⊥ };
+    ghost stopped = { λ s. IsSome s.refused };
 
     ghost count = { λ s. s.rows.taken };
 
@@ -38,6 +38,7 @@ impl<'a, G: Stage> Taker<G> for GroupTaker<'a> {
         fields: &Fields,
         stage: &mut G,
     ) -> Result<(), TakeFault> {
+        self.open(stage)?;
         self.rows
             .take(alloc, identity, number, columns, line, fields, stage)
     }
@@ -52,13 +53,13 @@ impl<'a, G: Stage> Taker<G> for GroupTaker<'a> {
         self.rows.end_log(alloc, identity, columns, stage)
     }
 
-    ghost takes_none = { λ s w. none_taken s w };
+    ghost takes_none = { λ s w. none_taken (kind_of G.state G.ended) s w };
 
-    ghost takes_more = { λ a b c u v w xs ys f s. more_taken a b c u v w xs ys f s };
+    ghost takes_more = { λ a b c u v w. more_taken (kind_of G.state G.ended) a b c u v w };
 
-    ghost stops_here = { λ a b u v xs ys f. f.gathers.out };
+    ghost stops_here = { λ a b u v xs ys f. stops_there (kind_of G.state G.ended) a b u v (rows_met xs) f };
 
-    ghost stops_later = { λ a b c u v w xs ys f s. s ∙ f.gathers.out };
+    ghost stops_later = { λ a b c u v w xs ys f s. stops_behind (kind_of G.state G.ended) a b c u v w (rows_met xs) f s };
 
     ghost stops_more = { λ a c u w xs ys s. s };
 }

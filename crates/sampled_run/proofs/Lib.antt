@@ -1,3 +1,3 @@
-mod Puts
-mod Fresh
+pub mod Puts
+pub mod Fresh
 mod Ran

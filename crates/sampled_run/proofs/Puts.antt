@@ -42,7 +42,7 @@ rows_again : (founds : List Found) → rows_met (rows_of founds) ≡ founds
 rows_again [] = refl
 rows_again (found ∷ founds) = ap (λ t. found ∷ t) (rows_again founds)
 
-rows_same : (picker : SampledPicker) (pattern : List Piece) (told : Judged) (founds : List Found) → picker.pattern.now ≡ pattern → picker.told ≡ told
+pub rows_same : (picker : SampledPicker) (pattern : List Piece) (told : Judged) (founds : List Found) → picker.pattern.now ≡ pattern → picker.told ≡ told
     → picked (picks_of picker) (rows_met (rows_of founds)) ≡ rows_with pattern told (planned_in picker.ready.plan) founds
 rows_same picker pattern told founds pattern_is told_is =
     ap (picked (picks_of picker)) (rows_again founds) ∙ ap₂ (λ p t. rows_with p t (planned_in picker.ready.plan) founds) pattern_is told_is

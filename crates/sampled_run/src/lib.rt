@@ -17,5 +17,6 @@ mod running;
 pub use fault::SampleFault;
 pub use finishing::output_of_rows;
 pub use formats::run_sampled;
+pub use making::unplanned;
 pub use moment::Moment;
 pub use row_maker::RowMaker;

@@ -24,8 +24,8 @@ use row_output::Into;
 use sampled_table::SampledPicker;
 use std::alloc::Global;
 
-// Why a plan isn't made.
-fn unplanned(fault: TypeFault) -> Unmade
+/// Why a plan isn't made.
+pub fn unplanned(fault: TypeFault) -> Unmade
     ensures { result ≡ unplanned fault }
 {
     match fault {

@@ -2,28 +2,33 @@ use Rattle.std.proofs.Common.{ℕ, Option, subst}
 use Rattle.any_format.specs.Wanted.{wanted_text}
 use Rattle.log_reading.specs.Page.{IsWithin}
 use Rattle.text_output.specs.Output.{kind_of}
+use Rattle.grammar.specs.Filled.{given_bad}
 use Rattle.query_tree.specs.Views.{query_of}
 use Rattle.row_output.specs.Sinks.{files_for}
 use Rattle.delimited_input.specs.Lines.{delimited_lines}
 use Rattle.execution.specs.Plans.{asked_for}
 use Rattle.execution.proofs.Taking.{taken}
+use Rattle.execution.proofs.Budgeting.{all_within, are_all}
 use Rattle.execution.proofs.SampledRuns.{executed, stopped, unplaced, unplaced_stopped, unplanned, untouched, refused_stopped, parse_error}
 use Rattle.execution.proofs.sampled.execute_sampled.Goals as goal
 
 pub returns-in-Ok-clause-ran : goal.returns-in-Ok-clause-ran
 returns-in-Ok-clause-ran g c =
     executed (kind_of g.G.Stage.state g.G.Stage.ended) (g.L.LogSource.folder c.sample_query.new.logs) c.args.stage.now c.sample_query.new.stage (asked_for (files_for c.args.into) (wanted_text c.args.wanted c.args.moment.seconds) (query_of c.args.query.now)) c.args.spec.now c.args.moment.seconds (query_of c.args.query.now) c.args.options c.args.limit c.args.waits
-    c.as_slice.result.now c.args.spans.now c.in-Ok.run' c.as_slice.ensures c.in-Ok.ensures.ran
+    c.as_slice.result.now c.args.spans.now c.in-Ok.run' c.with_before.result c.as_slice.ensures
+    (are_all (query_of c.args.query.now) c.args.spec.now.errors c.args.budget c.in-Ok.run'.counts c.with_before.result c.requires.budget c.with_before.ensures.processed c.with_before.ensures.output c.with_before.ensures.bad)
+    c.in-Ok.ensures.ran
 
 pub returns-in-Ok-clause-within : goal.returns-in-Ok-clause-within
-returns-in-Ok-clause-within g c = subst (λ (most : Option ℕ). IsWithin most c.in-Ok.run'.counts.bad) c.most_bad.ensures c.in-Ok.ensures.within
+returns-in-Ok-clause-within g c =
+    all_within c.args.spec.now.errors (given_bad (query_of c.args.query.now)) c.args.budget c.in-Ok.run'.counts.bad c.with_before.result.bad c.requires.budget c.in-Ok.ensures.within c.with_before.ensures.bad
 
 pub returns-in-Ok-clause-took : goal.returns-in-Ok-clause-took
 returns-in-Ok-clause-took g c =
     taken (g.L.LogSource.folder c.sample_query.new.logs) (delimited_lines c.args.options) c.args.waits c.as_slice.result.now c.args.spans.now c.new-took.result c.sample_query.new.took c.as_slice.ensures c.new-took.ensures c.in-Ok.ensures.took
 
-pub returns-in-Err-Bad-clause-stopped : goal.returns-in-Err-Bad-clause-stopped
-returns-in-Err-Bad-clause-stopped g c =
+pub returns-in-Some-clause-stopped : goal.returns-in-Some-clause-stopped
+returns-in-Some-clause-stopped g c =
     stopped (kind_of g.G.Stage.state g.G.Stage.ended) (g.L.LogSource.folder c.sample_query.new.logs) c.args.stage.now c.sample_query.new.stage (asked_for (files_for c.args.into) (wanted_text c.args.wanted c.args.moment.seconds) (query_of c.args.query.now)) c.args.spec.now c.args.moment.seconds (query_of c.args.query.now) c.args.options c.args.limit c.args.waits
     c.as_slice.result.now c.args.spans.now c.as_slice.ensures (rw c.in-Err-Bad.field-0-is at c.in-Err-Bad.ensures.stopped)
 
@@ -67,7 +72,7 @@ returns-in-Err-Plan-clause-before g c =
     untouched (kind_of g.G.Stage.state g.G.Stage.ended) (g.L.LogSource.folder c.sample_query.new.logs) c.args.stage.now c.sample_query.new.stage (asked_for (files_for c.args.into) (wanted_text c.args.wanted c.args.moment.seconds) (query_of c.args.query.now)) c.args.spec.now c.args.moment.seconds (query_of c.args.query.now) c.args.options c.args.limit c.args.waits
     c.as_slice.result.now c.args.spans.now _ c.as_slice.ensures (rw c.in-Err-Plan.field-0-is at c.in-Err-Plan.ensures.stopped)
 
-pub returns-in-Err-Bad-clause-parse : goal.returns-in-Err-Bad-clause-parse
-returns-in-Err-Bad-clause-parse g c =
+pub returns-in-Some-clause-parse : goal.returns-in-Some-clause-parse
+returns-in-Some-clause-parse g c =
     rw c.in-Err-Bad.field-0-is (parse_error (g.L.LogSource.folder c.sample_query.new.logs) c.args.spec.now c.args.moment.seconds (query_of c.args.query.now)
-    c.args.options c.args.limit c.args.waits c.as_slice.result.now c.args.spans.now c.most_bad.result _ c.as_slice.ensures c.most_bad.ensures (rw c.in-Err-Bad.field-0-is at c.in-Err-Bad.ensures.too_many))
+    c.args.options c.args.limit c.args.waits c.as_slice.result.now c.args.spans.now c.in-Some.field-0 c.args.budget _ c.as_slice.ensures c.in-Some.is c.requires.budget (rw c.in-Err-Bad.field-0-is at c.in-Err-Bad.ensures.too_many))

@@ -1,4 +1,5 @@
 use Rattle.std.proofs.Common.{ℕ, ℤ, List, Option, inr, subst}
+use Rattle.grammar.specs.Filled.{given_bad}
 use Rattle.grammar.specs.Trees as model
 use Rattle.lp_model.proofs.Growing.{OnlyGrow-refl}
 use Rattle.any_format.specs.Wanted.{wanted_text}
@@ -16,6 +17,7 @@ use Rattle.input_tables.specs.Tables.{lines_of}
 use Rattle.execution.specs.Fitting.{planned_query}
 use Rattle.execution.specs.Plans.{PlannedQuery, asked_for}
 use Rattle.execution.proofs.Taking.{taken}
+use Rattle.execution.proofs.Budgeting.{all_within, are_all}
 use Rattle.execution.proofs.TabledRuns.{executed, front, parse_error}
 use Rattle.execution.proofs.tabled.execute_tabled.Goals as goal
 
@@ -33,11 +35,13 @@ returns-in-Ok-carry_out-clause-ran g c =
     let run = c.in-Ok-carry_out.ensures in
     let Has : Asked → List (List Value) → Type 0 = λ asked rows. Holds (kind_of g.G.Stage.state g.G.Stage.ended) asked c.args.stage.now rows c.in-Ok-carry_out.run'.outputs c.carry_out.new.stage in
     executed (g.L.LogSource.folder c.carry_out.new.logs) Has (asked_with c.args.into c.args.wanted c.args.moment.seconds (query_of c.args.query.now)) c.args.spec.now c.args.moment.seconds (query_of c.args.query.now)
-    c.args.format c.args.waits (planned_query c.in-Ok.plan) c.as_slice.result.now c.args.spans.now c.in-Ok-carry_out.run'.counts (asked_of c.in-Ok-output_over.output) c.as_slice.ensures c.in-Ok.ensures.plan c.in-Ok-output_over.ensures.asked
+    c.args.format c.args.waits (planned_query c.in-Ok.plan) c.as_slice.result.now c.args.spans.now c.in-Ok-carry_out.run'.counts c.with_before.result (asked_of c.in-Ok-output_over.output) c.as_slice.ensures c.in-Ok.ensures.plan c.in-Ok-output_over.ensures.asked
+    (are_all (query_of c.args.query.now) c.args.spec.now.errors c.args.budget c.in-Ok-carry_out.run'.counts c.with_before.result c.requires.budget c.with_before.ensures.processed c.with_before.ensures.output c.with_before.ensures.bad)
     run.holds run.processed run.output run.bad
 
 pub returns-in-Ok-carry_out-clause-within : goal.returns-in-Ok-carry_out-clause-within
-returns-in-Ok-carry_out-clause-within g c = subst (λ (most : Option ℕ). IsWithin most c.in-Ok-carry_out.run'.counts.bad) c.most_bad.ensures c.in-Ok-carry_out.ensures.within
+returns-in-Ok-carry_out-clause-within g c =
+    all_within c.args.spec.now.errors (given_bad (query_of c.args.query.now)) c.args.budget c.in-Ok-carry_out.run'.counts.bad c.with_before.result.bad c.requires.budget c.in-Ok-carry_out.ensures.within c.with_before.ensures.bad
 
 pub returns-in-Ok-carry_out-clause-took : goal.returns-in-Ok-carry_out-clause-took
 returns-in-Ok-carry_out-clause-took g c =
@@ -73,7 +77,12 @@ returns-in-Err-Refused-clause-refused g c =
     rw c.in-Err-Refused.field-0-is (front (g.L.LogSource.folder c.carry_out.new.logs) (λ asked rows. IsRefused asked rows c.in-Err-Refused.why) (asked_with c.args.into c.args.wanted c.args.moment.seconds (query_of c.args.query.now)) c.args.spec.now c.args.moment.seconds (query_of c.args.query.now)
     c.args.format c.args.waits (planned_query c.in-Ok.plan) c.as_slice.result.now c.args.spans.now (asked_of c.in-Ok-output_over.output) c.as_slice.ensures c.in-Ok.ensures.plan c.in-Ok-output_over.ensures.asked (rw c.in-Err-Refused.field-0-is at c.in-Err-Refused.ensures.refused))
 
-pub returns-clause-parse : goal.returns-clause-parse
-returns-clause-parse g c =
+pub returns-in-Some-clause-stopped : goal.returns-in-Some-clause-stopped
+returns-in-Some-clause-stopped g c = inr
+    (front (g.L.LogSource.folder c.carry_out.new.logs) (λ asked rows. Stops (kind_of g.G.Stage.state g.G.Stage.ended) asked c.args.stage.now rows c.carry_out.new.stage) (asked_with c.args.into c.args.wanted c.args.moment.seconds (query_of c.args.query.now)) c.args.spec.now c.args.moment.seconds (query_of c.args.query.now)
+    c.args.format c.args.waits (planned_query c.in-Ok.plan) c.as_slice.result.now c.args.spans.now (asked_of c.in-Ok-output_over.output) c.as_slice.ensures c.in-Ok.ensures.plan c.in-Ok-output_over.ensures.asked c.in-Err-Bad.ensures.stops)
+
+pub returns-in-Some-clause-parse : goal.returns-in-Some-clause-parse
+returns-in-Some-clause-parse g c =
     rw c.in-Err-Bad.field-0-is (parse_error (g.L.LogSource.folder c.carry_out.new.logs) c.args.spec.now c.args.moment.seconds (query_of c.args.query.now)
-    c.args.format c.args.waits (planned_query c.in-Ok.plan) c.as_slice.result.now c.args.spans.now c.most_bad.result _ c.as_slice.ensures c.in-Ok.ensures.plan c.most_bad.ensures (rw c.in-Err-Bad.field-0-is at c.in-Err-Bad.ensures.too_many))
+    c.args.format c.args.waits (planned_query c.in-Ok.plan) c.as_slice.result.now c.args.spans.now c.in-Some.field-0 c.args.budget _ c.as_slice.ensures c.in-Ok.ensures.plan c.in-Some.is c.requires.budget (rw c.in-Err-Bad.field-0-is at c.in-Err-Bad.ensures.too_many))

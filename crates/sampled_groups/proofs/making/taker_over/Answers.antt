@@ -30,4 +30,6 @@ returns-in-Ok-new-clause-ready c =
       pattern_is = ap (λ (p : SampledPicker). p.pattern.now) made.picker ∙ c.in-Ok.ensures.pattern;
       asked_is = refl;
       new = c.requires.new;
+      unopened = refl;
+      unrefused = refl;
     }

@@ -62,8 +62,8 @@ returns-clause-stopped g c =
     let v = c.take_spans.new.out in
     let Of : SampleFault → Type 0 = λ fault. Told told (λ folder. AreKept format c.args.waits c.args.spans.now folder → IsStoppedBy (kind_of g.G.Stage.state g.G.Stage.ended) rules u (past_behind format c.args.waits folder (record { first = None; founds = [] }) c.args.spans.now) fault v) in
     subst Of (sym (fault_from _ _ c.in-Err.fault _ c.fault_in.ensures c.phase_of-phase.ensures))
-    (stopped_reading (kind_of g.G.Stage.state g.G.Stage.ended) rules format c.args.waits told c.args.spans.now c.fresh_page-page.result c.take_spans.new.page c.args.stage.now v c.in-Err.fault (fresh_begins c.args.limit c.args.pattern.now c.args.moment.seconds (query_of c.args.query.now) c.args.wanted c.args.into c.fresh_page-page.result.taker c.args.stage.now c.fresh_page-page.ensures.fresh)
-    (halts_spans group_kind format c.args.waits told c.args.spans.now c.fresh_page-page.result.taker c.take_spans.new.page.taker c.args.stage.now v c.in-Err.ensures.stops))
+    (stopped_reading (kind_of g.G.Stage.state g.G.Stage.ended) rules format c.args.waits told c.args.spans.now c.fresh_page-page.result c.take_spans.new.page c.args.stage.now v c.in-Err.fault (fresh_begins (kind_of g.G.Stage.state g.G.Stage.ended) c.args.limit c.args.pattern.now c.args.moment.seconds (query_of c.args.query.now) c.args.wanted c.args.into c.fresh_page-page.result.taker c.args.stage.now c.fresh_page-page.ensures.fresh)
+    (halts_spans (group_kind (kind_of g.G.Stage.state g.G.Stage.ended)) format c.args.waits told c.args.spans.now c.fresh_page-page.result.taker c.take_spans.new.page.taker c.args.stage.now v c.in-Err.ensures.stops))
 
 pub returns-clause-too_many : goal.returns-clause-too_many
 returns-clause-too_many g c =
@@ -90,5 +90,5 @@ returns-in-Ok-take_spans-clause-read g c = record {
   is_fresh = c.fresh_page-page.ensures.fresh;
   rows = c.fresh_page-page.ensures.rows;
   bad = c.fresh_page-page.ensures.bad;
-  reads = samples_spans group_kind (g.R.LineReader.format c.args.reader.now) c.args.waits (g.L.LogSource.folder c.take_spans.new.logs) c.args.spans.now c.fresh_page-page.result c.take_spans.new.page c.args.stage.now c.take_spans.new.out c.in-Ok-take_spans.ensures.takes;
+  reads = samples_spans (group_kind (kind_of g.G.Stage.state g.G.Stage.ended)) (g.R.LineReader.format c.args.reader.now) c.args.waits (g.L.LogSource.folder c.take_spans.new.logs) c.args.spans.now c.fresh_page-page.result c.take_spans.new.page c.args.stage.now c.take_spans.new.out c.in-Ok-take_spans.ensures.takes;
 }

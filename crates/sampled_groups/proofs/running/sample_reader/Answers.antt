@@ -17,7 +17,7 @@ returns-in-Ok-clause-ran g c =
     let rules = group_rules_of c.args.limit c.args.pattern.now c.args.moment.seconds (query_of c.args.query.now) (asked_by (files_for c.args.into) (wanted_text c.args.wanted c.args.moment.seconds) (query_of c.args.query.now)) in
     let read = c.in_ok-page.ensures.read in
     ran (kind_of g.G.Stage.state g.G.Stage.ended) rules (g.R.LineReader.format c.args.reader.now) c.args.waits (g.L.LogSource.folder c.read_page.new.logs) c.args.spans.now read.first c.in_ok-page.page c.args.stage.now c.read_page.new.stage c.finish_run.new.stage _
-    (fresh_begins c.args.limit c.args.pattern.now c.args.moment.seconds (query_of c.args.query.now) c.args.wanted c.args.into read.first.taker c.args.stage.now read.is_fresh)
+    (fresh_begins (kind_of g.G.Stage.state g.G.Stage.ended) c.args.limit c.args.pattern.now c.args.moment.seconds (query_of c.args.query.now) c.args.wanted c.args.into read.first.taker c.args.stage.now read.is_fresh)
     read.rows read.bad refl refl read.reads c.in-Ok.ensures.written
 
 pub returns-in-Ok-clause-goes : goal.returns-in-Ok-clause-goes
@@ -28,7 +28,7 @@ returns-clause-stopped g c =
     let rules = group_rules_of c.args.limit c.args.pattern.now c.args.moment.seconds (query_of c.args.query.now) (asked_by (files_for c.args.into) (wanted_text c.args.wanted c.args.moment.seconds) (query_of c.args.query.now)) in
     let read = c.in_ok-page.ensures.read in
     stopped_ending (kind_of g.G.Stage.state g.G.Stage.ended) rules (g.R.LineReader.format c.args.reader.now) c.args.waits (g.L.LogSource.folder c.read_page.new.logs) c.args.spans.now read.first c.in_ok-page.page c.args.stage.now c.read_page.new.stage c.finish_run.new.stage c.in-Err.fault
-    (fresh_begins c.args.limit c.args.pattern.now c.args.moment.seconds (query_of c.args.query.now) c.args.wanted c.args.into read.first.taker c.args.stage.now read.is_fresh) read.reads c.in-Err.ensures.stopped
+    (fresh_begins (kind_of g.G.Stage.state g.G.Stage.ended) c.args.limit c.args.pattern.now c.args.moment.seconds (query_of c.args.query.now) c.args.wanted c.args.into read.first.taker c.args.stage.now read.is_fresh) read.reads c.in-Err.ensures.stopped
 
 pub returns-clause-too_many : goal.returns-clause-too_many
 returns-clause-too_many g c =

@@ -1,0 +1,3 @@
+pub mod Taken
+pub mod Spanning
+pub mod Sampled

@@ -1,0 +1,5 @@
+pub mod Lists
+pub mod Collected
+pub mod Faults
+pub mod Rules
+pub mod Made
