@@ -2,8 +2,7 @@
 ghost use Rattle.std.specs.Prelude.{◌≡◌, ◌≤◌, ◌∷◌, [], true, length, IfOk, IfErr, IsErrOf, IsSome, None};
 ghost use Rattle.lp_model.specs.Outside.{OnlyGrow, Rose, Told};
 ghost use Rattle.command_words.specs.declared.formats.OutputFormat.TheVariants as O;
-ghost use Rattle.execution.specs.Built.{is_run_built};
-ghost use Rattle.execution.specs.Texts.{output_of, sections_in};
+ghost use Rattle.execution.specs.Texts.{has_text, output_of, sections_in};
 ghost use Rattle.query_tree.specs.Views.{query_of};
 ghost use Rattle.requests.specs.Given.{ReadsOnce};
 ghost use Rattle.requests.specs.Templates.{IsNoTemplate};
@@ -67,7 +66,7 @@ pub fn find_template<L: Logs>(
     spec: &Spec,
     query: &Query,
 ) -> Result<RunTemplate, NoTemplate>
-    requires built { is_run_built spec.now (query_of query.now) ≡ true }
+    requires text { has_text spec.now (output_of spec.now (query_of query.now)) ≡ true }
     ensures grows { OnlyGrow (L.folder logs.old) (L.folder logs.new) }
     ensures later { L.faults logs.old ≤ L.faults logs.new }
     ensures found { IfOk result (λ found. FindsTemplate (L.folder logs.old) (L.folder logs.new) spec.now (query_of query.now) found.bytes (sections_in (λ t. t.value) found.shared)) }

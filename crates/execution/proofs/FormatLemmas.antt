@@ -1,8 +1,5 @@
 -- How the logs of a run are read.
-use Rattle.std.proofs.Common.{◌≡◌, ℕ, Bool, true, false, ◌&&◌, [], None, refl, subst, sym, inl, inr, arith}
-use Rattle.std.specs.Prelude.{is_none}
-use Rattle.grammar.specs.Trees.{Query}
-use Rattle.execution.specs.Built.{all_built, is_run_built}
+use Rattle.std.proofs.Common.{◌≡◌, ℕ, [], None, refl, subst, sym, inl, inr, arith}
 use Rattle.command_words.specs.declared.formats.InputFormat.{InputFormat}
 use Rattle.command_words.specs.declared.formats.InputFormat.TheVariants as I
 use Rattle.command_words.specs.declared.spec.Spec.{Spec}
@@ -50,11 +47,3 @@ separated spec I.Tsv options limit range same = λ refused.
     separates spec.separator range (subst (λ (o : DelimitedOptions). IsRefused o.separator) (sym (sampled_by (tsv_options spec) options _ limit same)) refused)
 separated spec I.TextLine options limit range same = absurd (cc)
 separated spec I.TextWord options limit range same = absurd (cc)
-
-last_true : (a b : Bool) → (a && b) ≡ true → b ≡ true
-last_true true b is = is
-last_true false b is = let same : false ≡ true = is in absurd cc
-
--- where all is built, the run is
-pub built_run : (spec : Spec) (q : Query) → all_built spec q ≡ true → is_run_built spec q ≡ true
-built_run spec q built = last_true (is_none spec.checkpoint) (is_run_built spec q) built

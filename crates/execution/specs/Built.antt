@@ -1,4 +1,4 @@
--- What is built so far: every input format, every output format, and queries without subqueries.
+-- What is built so far: every input format, every output format, every query, but with a checkpoint none with subqueries.
 use Rattle.std.specs.Prelude.{Bool, true, false, not, ◌&&◌, ◌||◌, List, [], ◌∷◌, Option, Some, None, is_none}
 use Rattle.grammar.specs.Trees.{Placed, Test, Query}
 use Rattle.grammar.specs.Trees.{Test as test}
@@ -33,10 +33,10 @@ maybe_asks (Some condition) = asks_query condition
 abbrev pub has_subqueries : Query → Bool
 has_subqueries (query.query parts subqueries) = maybe_asks parts.condition || maybe_asks parts.having
 
--- whether the output's format and the query are built
+-- whether the output's format and the query are built, with a checkpoint
 abbrev pub is_run_built : Spec → Query → Bool
 is_run_built spec q = has_text spec (output_of spec q) && not (has_subqueries q)
 
--- whether all that the options and the query ask for is built
+-- the same without a checkpoint
 abbrev pub all_built : Spec → Query → Bool
-all_built spec q = is_none spec.checkpoint && is_run_built spec q
+all_built spec q = is_none spec.checkpoint && has_text spec (output_of spec q)

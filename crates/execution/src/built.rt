@@ -51,16 +51,16 @@ fn has_subqueries(query: &Query) -> bool
     maybe_asks(&query.condition) || maybe_asks(&query.having)
 }
 
-/// Whether the output's format and the query are built.
+/// Whether the output's format and the query are built, with a checkpoint.
 pub fn is_run_built(spec: &Spec, query: &Query) -> bool
     ensures { result ≡ is_run_built spec.now (query_of query.now) }
 {
     has_text(spec, output_of(spec, query)) && !has_subqueries(query)
 }
 
-/// Whether all that the options and the query ask for is built.
+/// The same without a checkpoint.
 pub fn all_built(spec: &Spec, query: &Query) -> bool
     ensures { result ≡ all_built spec.now (query_of query.now) }
 {
-    spec.checkpoint.is_none() && is_run_built(spec, query)
+    spec.checkpoint.is_none() && has_text(spec, output_of(spec, query))
 }

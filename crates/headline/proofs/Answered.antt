@@ -13,9 +13,12 @@ use Rattle.disk_model.specs.Disk.{DiskState}
 use Rattle.execution.specs.Built.{reads_stdin}
 use Rattle.query_text.specs.Stdin.{names_in}
 use Rattle.tpl_output.specs.Sections.{Sections}
-use Rattle.logparser_cli.specs.Answers.{Asked, AnswersOf, AnswersPlainly}
+use Rattle.logparser_cli.specs.Answers.{Asked, AnswersOf, AnswersOver, AnswersPlainly}
 use Rattle.logparser_cli.specs.Kept.{stage_beside, AnswersKept, Answers, IsEarly}
 use Rattle.logparser_cli.specs.Outputs.{World}
+use Rattle.logparser_cli.specs.Subqueries.{ungiven}
+use Rattle.subqueries.specs.declared.fault.SubqueryFault.{SubqueryFault}
+use Rattle.subqueries.specs.declared.fault.SubqueryFault.TheVariants as F
 use Rattle.lp_model.specs.Outside.{Folder}
 use Rattle.reports.specs.declared.status.Status.{Status}
 use Rattle.reports.specs.declared.status.Status.TheVariants as S
@@ -37,13 +40,42 @@ over_no_usage true old new template spec moment q fault (inl s) = s.1
 over_no_usage true old new template spec moment q fault (inr (inl s)) = let same = s.0 in cc
 over_no_usage true old new template spec moment q fault (inr (inr s)) = let same = s.0 in cc
 
+-- nor does the refusal of a subquery
+no_given_clock : (fault : SubqueryFault) (at : ℤ) → S.Clock at ≡ ungiven fault → ⊥
+no_given_clock (F.BadName fault) at same = cc
+no_given_clock (F.NoSuchLog name) at same = cc
+no_given_clock F.TooManyLogs at same = cc
+no_given_clock (F.Plan fault) at same = cc
+no_given_clock (F.Bad log row) at same = cc
+no_given_clock F.Logs at same = cc
+no_given_clock F.Memory at same = cc
+
+no_given_usage : (fault : SubqueryFault) (word : UsageFault) → S.Usage word ≡ ungiven fault → ⊥
+no_given_usage (F.BadName fault) word same = cc
+no_given_usage (F.NoSuchLog name) word same = cc
+no_given_usage F.TooManyLogs word same = cc
+no_given_usage (F.Plan fault) word same = cc
+no_given_usage (F.Bad log row) word same = cc
+no_given_usage F.Logs word same = cc
+no_given_usage F.Memory word same = cc
+
+given_no_clock : (old new : World) (template : Sections) (spec : Spec) (moment : ℤ) (q : model.Query) (at : ℤ) → AnswersOver old new template spec moment q (S.Clock at) → ⊥
+given_no_clock old new template spec moment q at (inl u) = u.unlisted
+given_no_clock old new template spec moment q at (inr (inl u)) = no_given_clock u.refused.fault at u.refused.status_is
+given_no_clock old new template spec moment q at (inr (inr r)) = over_no_clock (reads_stdin (names_in q)) old new template spec moment r.whole at r.answers
+
+given_no_usage : (old new : World) (template : Sections) (spec : Spec) (moment : ℤ) (q : model.Query) (fault : UsageFault) → AnswersOver old new template spec moment q (S.Usage fault) → ⊥
+given_no_usage old new template spec moment q fault (inl u) = u.unlisted
+given_no_usage old new template spec moment q fault (inr (inl u)) = no_given_usage u.refused.fault fault u.refused.status_is
+given_no_usage old new template spec moment q fault (inr (inr r)) = over_no_usage (reads_stdin (names_in q)) old new template spec moment r.whole fault r.answers
+
 -- a query's answer tells of no clock
 no_clock : (moment : ℤ) (old new : World) (words : List (List ℕ)) (at : ℤ) → Asked moment old new words (S.Clock at) → ⊥
-no_clock moment old new words at a = ⊎_elim (λ unbuilt. let same = unbuilt.1 in cc) (λ built. ⊎_elim (λ unread. unread.refused.refused) (λ read. over_no_clock (reads_stdin (names_in a.q)) old new read.template a.spec moment a.q at read.answers) built.1) a.answers
+no_clock moment old new words at a = ⊎_elim (λ unbuilt. let same = unbuilt.1 in cc) (λ built. ⊎_elim (λ unread. unread.refused.refused) (λ read. given_no_clock old new read.template a.spec moment a.q at read.answers) built.1) a.answers
 
 -- and of no word
 no_usage : (moment : ℤ) (old new : World) (words : List (List ℕ)) (fault : UsageFault) → Asked moment old new words (S.Usage fault) → ⊥
-no_usage moment old new words fault a = ⊎_elim (λ unbuilt. let same = unbuilt.1 in cc) (λ built. ⊎_elim (λ unread. unread.refused.refused) (λ read. over_no_usage (reads_stdin (names_in a.q)) old new read.template a.spec moment a.q fault read.answers) built.1) a.answers
+no_usage moment old new words fault a = ⊎_elim (λ unbuilt. let same = unbuilt.1 in cc) (λ built. ⊎_elim (λ unread. unread.refused.refused) (λ read. given_no_usage old new read.template a.spec moment a.q fault read.answers) built.1) a.answers
 
 -- so what is answered early to words that are fine tells of the moment or of memory
 unbegun : (moment : ℤ) (old new : World) (words : List (List ℕ)) (status : Status) → AreFine words → IsEarly status → AnswersPlainly moment words old new status → IsUnbegun moment status

@@ -48,6 +48,8 @@ use Rattle.standard_input.specs.Streams.{stream_files}
 use Rattle.logparser_cli.specs.Templates.{IsTemplate, IsUntemplated, IsWithoutTemplate}
 use Rattle.requests.proofs.Templates.{template_grown, template_since, fault_since}
 use Rattle.tpl_output.specs.Sections.{Sections}
+use Rattle.logparser_cli.specs.Subqueries.{IsFilled, IsRefusedAs}
+use Rattle.logparser_cli.proofs.Prepared.{filled_earlier, filled_later, refused_earlier}
 use Rattle.logparser_cli.proofs.Wholes.{logs_earlier, logs_later, on_whole, whole_told}
 
 pub on_refused : (status : Status) (P : Type 0) → P → OnRefused status P
@@ -279,6 +281,37 @@ over_earlier : (stdin : Bool) (mid new : World) (before : Option Folder) (faults
 over_earlier false mid new before faults template spec moment q status grow later s = run_earlier mid new before faults template spec moment q status grow later s
 over_earlier true mid new before faults template spec moment q status grow later s = s
 
+-- nor of what its subqueries gave
+given_earlier : (mid new : World) (before : Option Folder) (faults : ℕ) (template : Sections) (spec : Spec) (moment : ℤ) (q : model.Query) (status : Status) → OnlyGrow before mid.folder → faults ≤ mid.logs_faults
+    → AnswersOver mid new template spec moment q status → AnswersOver (with_logs mid before faults) new template spec moment q status
+given_earlier mid new before faults template spec moment q status grow later (inl u) =
+    inl (record { unlisted = u.unlisted; unwritten = u.unwritten; rose = λ failed. rose_since faults mid.logs_faults new.logs_faults later (u.rose failed) })
+given_earlier mid new before faults template spec moment q status grow later (inr (inl u)) = inr (inl (record {
+  refused = refused_earlier spec moment before mid.folder new.folder q status grow u.refused;
+  unwritten = u.unwritten;
+  rose = λ failed. rose_since faults mid.logs_faults new.logs_faults later (u.rose failed);
+}))
+given_earlier mid new before faults template spec moment q status grow later (inr (inr r)) = inr (inr (record {
+  whole = r.whole;
+  is_filled = filled_earlier spec moment before mid.folder new.folder q r.whole grow r.is_filled;
+  answers = over_earlier (reads_stdin (names_in q)) mid new before faults template spec moment r.whole status grow later r.answers;
+}))
+
+-- the subqueries gave what they have, and then the query was run
+pub run_filled : (mid new : World) (before : Option Folder) (faults : ℕ) (template : Sections) (spec : Spec) (moment : ℤ) (q whole : model.Query) (status : Status) → OnlyGrow before mid.folder → faults ≤ mid.logs_faults → OnlyGrow mid.folder new.folder
+    → IsFilled spec moment before mid.folder q whole → AnswersOf (reads_stdin (names_in q)) mid new template spec moment whole status → AnswersOver (with_logs mid before faults) new template spec moment q status
+run_filled mid new before faults template spec moment q whole status grow later grew f answers = inr (inr (record {
+  whole = whole;
+  is_filled = filled_later spec moment before mid.folder new.folder q whole grew f;
+  answers = over_earlier (reads_stdin (names_in q)) mid new before faults template spec moment whole status grow later answers;
+}))
+
+-- its logs aren't listed, or a subquery is refused
+pub unprepared : (old new : World) (template : Sections) (spec : Spec) (moment : ℤ) (q : model.Query) (status : Status) → IsUnlisted new.folder q status ⊎ IsRefusedAs spec moment old.folder new.folder q status → IsUnwritten old.held new.held
+    → (status ≡ LogsFault → Rose old.logs_faults new.logs_faults) → AnswersOver old new template spec moment q status
+unprepared old new template spec moment q status (inl unlisted) same rose = inl (record { unlisted = unlisted; unwritten = same; rose = rose })
+unprepared old new template spec moment q status (inr refused) same rose = inr (inl (record { refused = refused; unwritten = same; rose = rose }))
+
 untemplated_since : (before mid now : Option Folder) (name : List ℕ) (status : Status) → OnlyGrow before mid → IsUntemplated mid now name status → IsUntemplated before now name status
 untemplated_since before mid now name Done grow s = s
 untemplated_since before mid now name Memory grow s = s
@@ -319,20 +352,20 @@ built_earlier mid new before faults spec moment q status grow later (inl none) =
 built_earlier mid new before faults spec moment q status grow later (inr read) = inr (record {
   template = read.template;
   is_template = λ asked. let is = read.is_template asked in record { name = is.name; named = is.named; holds = template_since before mid.folder new.folder is.name read.template grow is.holds };
-  answers = over_earlier (reads_stdin (names_in q)) mid new before faults read.template spec moment q status grow later read.answers;
+  answers = given_earlier mid new before faults read.template spec moment q status grow later read.answers;
 })
 
 -- the template isn't read
 pub unread_answers : (old new : World) (spec : Spec) (moment : ℤ) (q : model.Query) (status : Status) → IsWithoutTemplate old.folder new.folder spec q status → IsUnwritten old.held new.held → (status ≡ LogsFault → Rose old.logs_faults new.logs_faults) → AnswersBuilt old new spec moment q status
 unread_answers old new spec moment q status refused same rose = inl (record { refused = refused; unwritten = same; rose = rose })
 
--- a template was read, and the query run over logs
+-- a template was read, and the query answered
 pub read_answers : (mid new : World) (before : Option Folder) (faults : ℕ) (spec : Spec) (moment : ℤ) (q : model.Query) (template : Sections) (status : Status) → OnlyGrow before mid.folder → faults ≤ mid.logs_faults → OnlyGrow mid.folder new.folder
     → IsTemplate before mid.folder spec q template → AnswersOver mid new template spec moment q status → AnswersBuilt (with_logs mid before faults) new spec moment q status
 read_answers mid new before faults spec moment q template status grow later grew found answers = inr (record {
   template = template;
   is_template = λ asked. let is = found asked in record { name = is.name; named = is.named; holds = template_grown before mid.folder new.folder is.name template grew is.holds };
-  answers = over_earlier (reads_stdin (names_in q)) mid new before faults template spec moment q status grow later answers;
+  answers = given_earlier mid new before faults template spec moment q status grow later answers;
 })
 
 query_earlier : (mid new : World) (before : Option Folder) (faults : ℕ) (spec : Spec) (moment : ℤ) (q : model.Query) (status : Status) → OnlyGrow before mid.folder → faults ≤ mid.logs_faults
@@ -397,10 +430,16 @@ over_told : (stdin : Bool) (old new : World) (err : Option (List ℕ)) (faults :
 over_told false old new err faults template spec moment q status refused s = run_told old new err faults template spec moment q status refused s
 over_told true old new err faults template spec moment q status refused s = input_told old new err faults template spec moment q status refused s
 
+given_told : (old new : World) (err : Option (List ℕ)) (faults : ℕ) (template : Sections) (spec : Spec) (moment : ℤ) (q : model.Query) (status : Status) → (status ≡ Done → ⊥) → AnswersOver old new template spec moment q status → AnswersOver old (with_err new err faults) template spec moment q status
+given_told old new err faults template spec moment q status refused (inl u) = inl (record { unlisted = u.unlisted; unwritten = u.unwritten; rose = u.rose })
+given_told old new err faults template spec moment q status refused (inr (inl u)) = inr (inl (record { refused = u.refused; unwritten = u.unwritten; rose = u.rose }))
+given_told old new err faults template spec moment q status refused (inr (inr r)) =
+    inr (inr (record { whole = r.whole; is_filled = r.is_filled; answers = over_told (reads_stdin (names_in q)) old new err faults template spec moment r.whole status refused r.answers }))
+
 built_told : (old new : World) (err : Option (List ℕ)) (faults : ℕ) (spec : Spec) (moment : ℤ) (q : model.Query) (status : Status) → (status ≡ Done → ⊥) → AnswersBuilt old new spec moment q status → AnswersBuilt old (with_err new err faults) spec moment q status
 built_told old new err faults spec moment q status refused (inl none) = inl (record { refused = none.refused; unwritten = none.unwritten; rose = none.rose })
 built_told old new err faults spec moment q status refused (inr read) =
-    inr (record { template = read.template; is_template = read.is_template; answers = over_told (reads_stdin (names_in q)) old new err faults read.template spec moment q status refused read.answers })
+    inr (record { template = read.template; is_template = read.is_template; answers = given_told old new err faults read.template spec moment q status refused read.answers })
 
 query_told : (old new : World) (err : Option (List ℕ)) (faults : ℕ) (spec : Spec) (moment : ℤ) (q : model.Query) (status : Status) → (status ≡ Done → ⊥) → AnswersQuery old new spec moment q status → AnswersQuery old (with_err new err faults) spec moment q status
 query_told old new err faults spec moment q status refused (inl none) = inl none

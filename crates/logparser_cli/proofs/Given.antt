@@ -20,6 +20,8 @@ use Rattle.requests.proofs.Growing.{asks_grown}
 use Rattle.checkpointed_command.specs.Given.{template_files}
 use Rattle.logparser_cli.specs.Given.{ReadsLogs, ReadsQuery, ReadsWords}
 use Rattle.logparser_cli.specs.Logs.{AreSpans}
+use Rattle.subqueries.specs.Giving.{subqueries_of}
+use Rattle.logparser_cli.proofs.Prepared.{none_read as none_of}
 use Rattle.logparser_cli.proofs.Wholes.{are_listed, logs_later}
 
 behind : (P : NameLength → Type 0) (log : NameLength) (logs : List NameLength) → All P (log ∷ logs) → All P logs
@@ -57,15 +59,10 @@ logs_once old mid now q spans before later files found grow most =
 
 -- there is no template, and no log is read
 pub template_alone : (now : Option Folder) (spec : Spec) (q : model.Query) (before later : ℕ) → ReadsOnce now (template_files spec q) before later → ReadsQuery now spec q before later
-template_alone now spec q before later once = record { logs = []; are_read = inl refl; once = reads_more now (template_files spec q) [] before later once }
+template_alone now spec q before later once = record { logs = []; are_read = none_of now (subqueries_of q ++ q ∷ []); once = reads_more now (template_files spec q) [] before later once }
 
 pub none_read : (now : Option Folder) (spec : Spec) (q : model.Query) (before later : ℕ) → later ≤ before → ReadsQuery now spec q before later
 none_read now spec q before later same = template_alone now spec q before later (reads_none now (template_files spec q) before later same)
-
--- the template is read, and then the logs
-pub template_then_logs : (mid now : Option Folder) (spec : Spec) (q : model.Query) (before between later : ℕ) → OnlyGrow mid now → ReadsOnce mid (template_files spec q) before between → ReadsLogs now q between later → ReadsQuery now spec q before later
-template_then_logs mid now spec q before between later grow template reads =
-    record { logs = reads.logs; are_read = reads.are_read; once = reads_on mid now (template_files spec q) reads.logs before between later grow template reads.once }
 
 -- the query's file is read, and then what the query asks for
 pub query_then_rest : (old mid now : Option Folder) (words : List (List ℕ)) (spec : Spec) (q : model.Query) (before between later : ℕ) → OnlyGrow mid now → Asks old mid words spec q → ReadsOnce mid (query_files (query_in words)) before between → ReadsQuery now spec q between later

@@ -1,5 +1,6 @@
 pub mod Given
 pub mod Wholes
+pub mod Prepared
 pub mod Answering
 mod Mapping
 mod Filed

@@ -18,6 +18,7 @@ use Rattle.requests.specs.declared.fault.RequestFault.TheVariants as R
 use Rattle.row_output.specs.declared.fault.Refused.TheVariants as W
 use Rattle.tpl_output.specs.Sections.{Sections}
 use Rattle.logparser_cli.specs.Logs.{IsUnlisted}
+use Rattle.logparser_cli.specs.Subqueries.{IsFilled, IsUngiven, IsUnlistedRun}
 use Rattle.logparser_cli.specs.Templates.{IsTemplate, IsWithoutTemplate}
 use Rattle.logparser_cli.specs.Outputs.{World, IsUnwritten, input_world}
 use Rattle.logparser_cli.specs.Whole.{IsWhole, IsHalted, IsParseError, IsUnplaced, IsUnplanned}
@@ -84,9 +85,15 @@ abbrev pub AnswersOf : Bool → World → World → Sections → Spec → ℤ �
 AnswersOf false old new template spec moment q status = AnswersRun old new template spec moment q status
 AnswersOf true old new template spec moment q status = AnswersInput old new template spec moment q status
 
--- what an answer says of a run over what the query reads
+-- the subqueries gave what they have, and the query with it was run over what it reads
+pub record IsRunFilled (old new : World) (template : Sections) (spec : Spec) (moment : ℤ) (q : model.Query) (status : Status) : Type 0 where
+  pub whole : model.Query
+  pub is_filled : IsFilled spec moment old.folder new.folder q whole
+  pub answers : AnswersOf (reads_stdin (names_in q)) old new template spec moment whole status
+
+-- what an answer says of a run over what the query and its subqueries read
 abbrev pub AnswersOver : World → World → Sections → Spec → ℤ → model.Query → Status → Type 0
-AnswersOver old new template spec moment q status = AnswersOf (reads_stdin (names_in q)) old new template spec moment q status
+AnswersOver old new template spec moment q status = IsUnlistedRun old new q status ⊎ IsUngiven old new spec moment q status ⊎ IsRunFilled old new template spec moment q status
 
 -- the template isn't read, and nothing was written
 pub record IsUnread (old new : World) (spec : Spec) (q : model.Query) (status : Status) : Type 0 where

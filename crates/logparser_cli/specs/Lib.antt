@@ -1,4 +1,5 @@
 pub mod Logs
+pub mod Subqueries
 pub mod Templates
 pub mod Files
 pub mod Outputs

@@ -1,5 +1,6 @@
 -- The logs that a query reads.
 use Rattle.std.specs.Prelude.{◌≡◌, ◌≤◌, ℕ, Bool, true, false, List, length, map, Option, All, ⊤}
+pub use Rattle.subqueries.specs.Listing.{AreListed, from_names}
 use Rattle.grammar.specs.Trees as model
 use Rattle.lp_model.specs.Outside.{Folder}
 use Rattle.checkpoint.specs.Wholes.{whole_spans}
@@ -15,16 +16,6 @@ use Rattle.query_text.specs.Stdin.{names_in}
 use Rattle.standard_input.specs.Streams.{input_logs}
 use Rattle.reports.specs.declared.status.Status.{Status}
 use Rattle.reports.specs.declared.status.Status.TheVariants.{Done, Memory, Clock, Usage, Query, NotBuilt, NoSuchLog, BadName, NameClash, TooManyOutputs, TooManyLogs, Template, InputTooLong, LogsFault, SourceFault, DiskFault, SinkFault, ParseErrors, LostLog, Shrunk, InputChanged, IntoNeeded, LedgerFault}
-
--- the names behind FROM
-abbrev pub from_names : model.Query → List (List ℕ)
-from_names q = map (λ name. name.text) (names_in q)
-
--- these are the logs of the FROM names, each with its length at some moment between two
-pub record AreListed (before now : Option Folder) (q : model.Query) (logs : List NameLength) : Type 0 where
-  pub listed : Lists now (from_names q) (listed_names logs)
-  pub lengths : All (IsLength before now) logs
-  pub few : length logs ≤ 100000
 
 -- these are what a query reads: the logs of its FROM names, or standard input alone
 abbrev pub AreLogsOf : Bool → Option Folder → Option Folder → model.Query → List NameLength → Type 0

@@ -1,5 +1,6 @@
 -- What a run writes.
 use Rattle.std.specs.Prelude.{◌≡◌, ◌⊎◌, ℕ, ℤ, Bool, true, false, List, [], Option, Ok, Err}
+pub use Rattle.subqueries.specs.Listing.{OnWhole}
 use Rattle.grammar.specs.Filled.{given_bad}
 use Rattle.grammar.specs.Trees as model
 use Rattle.lp_model.specs.Outside.{Folder, Told, Gains, GainsSome, Rose}
@@ -29,11 +30,6 @@ use Rattle.logparser_cli.specs.Logs.{AreLogs}
 use Rattle.logparser_cli.specs.Outputs.{Held, World, IsUnwritten, HasWritten, HasFront}
 
 -- Without a checkpoint a last line without LF is a line too: no line waits, which `false` says below.
-
--- a fact on the table of a run over whole logs; one that the logs tell is known where these tell their bytes
-abbrev pub OnWhole : LogFormat → List Piece → Option Folder → List NameLength → (TableColumns → Type 0) → Type 0
-OnWhole (F.Tabled format) pattern told logs P = P (table_of format)
-OnWhole (F.Sampled options limit) pattern told logs P = Told told (λ folder. P (told_table options false limit pattern folder (whole_spans logs)))
 
 -- an output gains a text, or the front of it where its faults rose
 abbrev pub Tells : Option (List ℕ) → Option (List ℕ) → List ℕ → Type 0 → Type 0

@@ -5,6 +5,7 @@
 #![tactic(auto)]
 
 mod listing;
+mod preparing;
 mod running;
 mod template;
 mod writing;

@@ -14,7 +14,7 @@ ghost use Rattle.file_stage.specs.FileTexts.{AlwaysTells};
 ghost use Rattle.checkpointed_command.specs.Given.{ReadsKept};
 ghost use Rattle.reports.specs.Messages.{message};
 ghost use Rattle.reports.specs.Status.{OnRefused};
-ghost use Rattle.logparser_cli.specs.Answers.{AnswersBuilt, AnswersInput, AnswersPlainly, AnswersQuery, AnswersRun};
+ghost use Rattle.logparser_cli.specs.Answers.{AnswersBuilt, AnswersInput, AnswersOf, AnswersPlainly, AnswersQuery, AnswersRun};
 ghost use Rattle.logparser_cli.specs.Kept.{Answers, AnswersLedger, ReadsLedger};
 ghost use Rattle.logparser_cli.specs.Given.{ReadsLogs, ReadsQuery, ReadsWords};
 ghost use Rattle.logparser_cli.specs.Input.{AsksNoInput, IsReadOn, stopped_input};
@@ -23,6 +23,7 @@ ghost use Rattle.logparser_cli.specs.Whole.{Tells, told_statistics};
 
 use crate::Status;
 use crate::listing::find_spans;
+use crate::preparing::prepare;
 use crate::template::find_template;
 use crate::writing::write_rows;
 use checkpointed_command::{run_with_checkpoint, stopped, unasked};
@@ -169,11 +170,12 @@ fn run_input<D: Disk, I: Source, S: Sink, E: Sink>(
     }
 }
 
-// Runs a query that is built, before a refusal is told.
-fn run_built<L: Logs, D: Disk, I: Source, S: Sink, E: Sink>(
+// Runs a query over what it reads, before a refusal is told.
+fn run_over<L: Logs, D: Disk, I: Source, S: Sink, E: Sink>(
     alloc: Global,
     spec: &Spec,
     query: &Query,
+    template: Option<Rc<Template>>,
     moment: i64,
     logs: &mut L,
     disk: &mut D,
@@ -183,6 +185,7 @@ fn run_built<L: Logs, D: Disk, I: Source, S: Sink, E: Sink>(
 ) -> Status
     requires moment { IsMoment moment }
     requires range { IsInRange spec.now }
+    requires template { output_of spec.now (query_of query.now) ≡ O.Tpl → IsSome template }
     requires built { all_built spec.now (query_of query.now) ≡ true }
     ensures grows { OnlyGrow (L.folder logs.old) (L.folder logs.new) }
     ensures later { L.faults logs.old ≤ L.faults logs.new }
@@ -190,19 +193,15 @@ fn run_built<L: Logs, D: Disk, I: Source, S: Sink, E: Sink>(
     ensures later_disk { D.faults disk.old ≤ D.faults disk.new }
     ensures later_out { S.faults out.old ≤ S.faults out.new }
     ensures later_err { E.faults err.old ≤ E.faults err.new }
-    ensures answers { AnswersBuilt
+    ensures answers { AnswersOf (reads_stdin (names_in (query_of query.now)))
         (world (L.folder logs.old) (L.faults logs.old) (held (AlwaysTells D.state) (D.state disk.old).seen (S.written out.old)) (D.faults disk.old) (S.faults out.old) (E.written err.old) (E.faults err.old) (input_at I.left I.given I.faults input.old))
         (world (L.folder logs.new) (L.faults logs.new) (held (AlwaysTells D.state) (D.state disk.new).seen (S.written out.new)) (D.faults disk.new) (S.faults out.new) (E.written err.new) (E.faults err.new) (input_at I.left I.given I.faults input.new))
-        spec.now moment (query_of query.now) result }
-    ensures given { ReadsQuery (L.folder logs.new) spec.now (query_of query.now) (L.given logs.old) (L.given logs.new) }
+        (sections_in (λ t. t.value) template) spec.now moment (query_of query.now) result }
+    ensures given { ReadsLogs (L.folder logs.new) (query_of query.now) (L.given logs.old) (L.given logs.new) }
     ensures input { reads_stdin (names_in (query_of query.now)) ≡ false → input.new ≡ input.old }
     ensures read { IsReadOn (input_at I.left I.given I.faults input.old) (input_at I.left I.given I.faults input.new) }
     ensures silent { OnRefused result (err.new ≡ err.old) }
 {
-    let template = match find_template(alloc, logs, spec, query) {
-        Ok(template) => template,
-        Err(status) => return status,
-    };
     if reads_stdin(&query.names) {
         run_input(alloc, spec, query, template, moment, disk, input, out, err)
     } else {
@@ -212,11 +211,56 @@ fn run_built<L: Logs, D: Disk, I: Source, S: Sink, E: Sink>(
     }
 }
 
+// Runs a query that is built, before a refusal is told.
+fn run_built<L: Logs, D: Disk, I: Source, S: Sink, E: Sink>(
+    alloc: Global,
+    spec: &Spec,
+    query: &mut Query,
+    moment: i64,
+    logs: &mut L,
+    disk: &mut D,
+    input: &mut I,
+    out: &mut S,
+    err: &mut E,
+) -> Status
+    requires moment { IsMoment moment }
+    requires range { IsInRange spec.now }
+    requires built { all_built spec.now (query_of query.old) ≡ true }
+    ensures grows { OnlyGrow (L.folder logs.old) (L.folder logs.new) }
+    ensures later { L.faults logs.old ≤ L.faults logs.new }
+    ensures honest { (D.state disk.old).honest → (D.state disk.new).honest }
+    ensures later_disk { D.faults disk.old ≤ D.faults disk.new }
+    ensures later_out { S.faults out.old ≤ S.faults out.new }
+    ensures later_err { E.faults err.old ≤ E.faults err.new }
+    ensures answers { AnswersBuilt
+        (world (L.folder logs.old) (L.faults logs.old) (held (AlwaysTells D.state) (D.state disk.old).seen (S.written out.old)) (D.faults disk.old) (S.faults out.old) (E.written err.old) (E.faults err.old) (input_at I.left I.given I.faults input.old))
+        (world (L.folder logs.new) (L.faults logs.new) (held (AlwaysTells D.state) (D.state disk.new).seen (S.written out.new)) (D.faults disk.new) (S.faults out.new) (E.written err.new) (E.faults err.new) (input_at I.left I.given I.faults input.new))
+        spec.now moment (query_of query.old) result }
+    ensures given { ReadsQuery (L.folder logs.new) spec.now (query_of query.old) (L.given logs.old) (L.given logs.new) }
+    ensures input { reads_stdin (names_in (query_of query.old)) ≡ false → input.new ≡ input.old }
+    ensures read { IsReadOn (input_at I.left I.given I.faults input.old) (input_at I.left I.given I.faults input.new) }
+    ensures silent { OnRefused result (err.new ≡ err.old) }
+{
+    let template = match find_template(alloc, logs, spec, query) {
+        Ok(template) => template,
+        Err(status) => return status,
+    };
+    match prepare(alloc, spec, query, moment, logs) {
+        Ok(()) => run_over(
+            alloc, spec, query, template, moment, logs, disk, input, out, err,
+        ),
+        Err(status) => {
+            drop(template);
+            status
+        }
+    }
+}
+
 // Runs a query, before a refusal is told.
 fn run_query<L: Logs, D: Disk, I: Source, S: Sink, E: Sink>(
     alloc: Global,
     spec: &Spec,
-    query: &Query,
+    query: &mut Query,
     moment: i64,
     logs: &mut L,
     disk: &mut D,
@@ -235,9 +279,9 @@ fn run_query<L: Logs, D: Disk, I: Source, S: Sink, E: Sink>(
     ensures answers { AnswersQuery
         (world (L.folder logs.old) (L.faults logs.old) (held (AlwaysTells D.state) (D.state disk.old).seen (S.written out.old)) (D.faults disk.old) (S.faults out.old) (E.written err.old) (E.faults err.old) (input_at I.left I.given I.faults input.old))
         (world (L.folder logs.new) (L.faults logs.new) (held (AlwaysTells D.state) (D.state disk.new).seen (S.written out.new)) (D.faults disk.new) (S.faults out.new) (E.written err.new) (E.faults err.new) (input_at I.left I.given I.faults input.new))
-        spec.now moment (query_of query.now) result }
-    ensures given { ReadsQuery (L.folder logs.new) spec.now (query_of query.now) (L.given logs.old) (L.given logs.new) }
-    ensures input { reads_stdin (names_in (query_of query.now)) ≡ false → input.new ≡ input.old }
+        spec.now moment (query_of query.old) result }
+    ensures given { ReadsQuery (L.folder logs.new) spec.now (query_of query.old) (L.given logs.old) (L.given logs.new) }
+    ensures input { reads_stdin (names_in (query_of query.old)) ≡ false → input.new ≡ input.old }
     ensures read { IsReadOn (input_at I.left I.given I.faults input.old) (input_at I.left I.given I.faults input.new) }
     ensures silent { OnRefused result (err.new ≡ err.old) }
 {
@@ -277,8 +321,8 @@ fn run_plainly<L: Logs, D: Disk, I: Source, S: Sink, E: Sink>(
     ensures silent { OnRefused result (err.new ≡ err.old) }
 {
     match read_query_word(alloc, logs, spec.query.as_str()) {
-        Ok(WrittenQuery { query, text: _ }) => {
-            let status = run_query(alloc, spec, &query, moment, logs, disk, input, out, err);
+        Ok(WrittenQuery { mut query, text: _ }) => {
+            let status = run_query(alloc, spec, &mut query, moment, logs, disk, input, out, err);
             drop(query);
             status
         }
@@ -366,11 +410,12 @@ fn run_words<L: Logs, D: Disk, I: Source, S: Sink, E: Sink>(
 ///
 /// At `Done` the rows of the query over the records of the logs that FROM names, each up to its length at some moment of the
 /// call, are written: as text in the output's format on `out`, or, where INTO names files, in these, each as the file mode
-/// wants it, and no other file changed. `err` has gained the statistics; at every refusal it has gained its message. Of either
+/// wants it, and no other file changed. The subqueries of the query were run before, each over its own logs. `err` has gained the statistics; at every refusal it has gained its message. Of either
 /// `err` holds the front where it failed. A refusal behind the first row leaves the front of the text on `out`, or any part of
 /// theirs in the files of INTO. An output by a template is by the sections of the file that `-tpl` names, which is read before
 /// the logs are listed. Where STDIN is the one name behind FROM, `input` stands in the place of the logs, and is read from its front
-/// on; else it is left as it is. Of the query's file, the template and each log no more bytes are read than it has at the end.
+/// on; else it is left as it is. Of the query's file, the template and each log, for each query that reads it, no more bytes are
+/// read than it has at the end.
 pub fn run<L: Logs, D: Disk, I: Source, S: Sink, E: Sink>(
     alloc: Global,
     words: &TextList,

@@ -1,0 +1,195 @@
+-- What stands of the subqueries of a query, once it is run with what they gave.
+use Rattle.std.proofs.Common.{◌≡◌, ◌∙◌, ◌⊎◌, ◌++◌, ◌∷◌, [], ℕ, ℤ, ◌≤◌, Bool, true, List, map, Option, refl, inl, inr, ap, sym, subst, append_assoc, append-nil}
+use Rattle.grammar.specs.Filled.{PlacedGiven, filled}
+use Rattle.grammar.specs.Trees as model
+use Rattle.grammar.specs.Trees.{Query as query}
+use Rattle.lp_model.specs.Outside.{Folder, OnlyGrow}
+use Rattle.lp_model.proofs.Growing.{OnlyGrow-trans}
+use Rattle.command_words.specs.declared.spec.Spec.{Spec}
+use Rattle.execution.specs.Built.{all_built}
+use Rattle.execution.specs.Formats.{log_format}
+use Rattle.execution.specs.Texts.{output_of}
+use Rattle.execution.specs.declared.formats.LogFormat.{LogFormat}
+use Rattle.log_listing.specs.Listed.{Lists}
+use Rattle.log_listing.proofs.Grown.{lists_grown}
+use Rattle.query_text.specs.Stdin.{names_in}
+use Rattle.requests.specs.Given.{ReadsOnce}
+use Rattle.requests.proofs.Given.{reads_on}
+use Rattle.subqueries.specs.declared.fault.SubqueryFault.{SubqueryFault}
+use Rattle.subqueries.specs.declared.fault.SubqueryFault.TheVariants as F
+use Rattle.subqueries.specs.Giving.{AllGive, Gives, subqueries_of}
+use Rattle.subqueries.specs.Reading.{AllRead, ReadsAll, ReadsBoth}
+use Rattle.subqueries.specs.Reading.{AreRead as AreOwn}
+use Rattle.subqueries.specs.Refusing.{IsExceeded, IsRefusedWith, IsUngivenIn, IsUnplanned, StopsBehind, StopsBy}
+use Rattle.subqueries.proofs.Wholes.{listed_earlier}
+use Rattle.checkpointed_command.specs.Given.{template_files}
+use Rattle.logparser_cli.specs.Given.{ReadsLogs, ReadsQuery}
+use Rattle.logparser_cli.specs.Logs.{from_names}
+use Rattle.reports.specs.declared.status.Status.{Status}
+use Rattle.reports.specs.declared.status.Status.TheVariants.{LogsFault}
+use Rattle.logparser_cli.specs.Subqueries.{IsFilled, IsRefusedAs, ungiven}
+
+-- what a query has besides its conditions stays
+
+names_filled : (givens : List PlacedGiven) (q : model.Query) → names_in (filled givens q) ≡ names_in q
+names_filled givens (query.query parts subqueries) = refl
+
+built_filled : (spec : Spec) (givens : List PlacedGiven) (q : model.Query) → all_built spec (filled givens q) ≡ all_built spec q
+built_filled spec givens (query.query parts subqueries) = refl
+
+output_filled : (spec : Spec) (givens : List PlacedGiven) (q : model.Query) → output_of spec (filled givens q) ≡ output_of spec q
+output_filled spec givens (query.query parts subqueries) = refl
+
+module _ {spec : Spec} {moment : ℤ} {before now : Option Folder} {q whole : model.Query} (f : IsFilled spec moment before now q whole) where
+  pub names_whole : names_in whole ≡ names_in q
+  names_whole = ap names_in f.whole_is ∙ names_filled f.givens q
+
+  pub built_whole : all_built spec whole ≡ all_built spec q
+  built_whole = ap (all_built spec) f.whole_is ∙ built_filled spec f.givens q
+
+  pub output_whole : output_of spec whole ≡ output_of spec q
+  output_whole = ap (output_of spec) f.whole_is ∙ output_filled spec f.givens q
+
+-- what subqueries gave stands while logs grow
+
+module _ (format : LogFormat) (spec : Spec) (moment : ℤ) where
+  gives_later : (before mid now : Option Folder) (q : model.Query) (given : model.Given) → OnlyGrow mid now → Gives format spec moment before mid q given → Gives format spec moment before now q given
+  gives_later before mid now q given grow g = record {
+    seen = g.seen;
+    later = OnlyGrow-trans g.seen mid now g.later grow;
+    logs = g.logs;
+    are_listed = g.are_listed;
+    names = g.names;
+    place = g.place;
+    over = g.over;
+  }
+
+  gives_earlier : (before mid now : Option Folder) (q : model.Query) (given : model.Given) → OnlyGrow before mid → Gives format spec moment mid now q given → Gives format spec moment before now q given
+  gives_earlier before mid now q given grow g = record {
+    seen = g.seen;
+    later = g.later;
+    logs = g.logs;
+    are_listed = listed_earlier before mid g.seen q g.logs grow g.are_listed;
+    names = g.names;
+    place = g.place;
+    over = g.over;
+  }
+
+  pub all_later : (before mid now : Option Folder) (qs : List model.Query) (places : List ℕ) (givens : List PlacedGiven) → OnlyGrow mid now → AllGive format spec moment before mid qs places givens → AllGive format spec moment before now qs places givens
+  all_later before mid now [] [] [] grow give = tt
+  all_later before mid now [] [] (given ∷ givens) grow give = give
+  all_later before mid now [] (place ∷ places) givens grow give = give
+  all_later before mid now (q ∷ qs) [] givens grow give = give
+  all_later before mid now (q ∷ qs) (place ∷ places) [] grow give = give
+  all_later before mid now (q ∷ qs) (place ∷ places) (given ∷ givens) grow give =
+      (give.0, gives_later before mid now q given.given grow give.1, all_later before mid now qs places givens grow give.2)
+
+  pub all_earlier : (before mid now : Option Folder) (qs : List model.Query) (places : List ℕ) (givens : List PlacedGiven) → OnlyGrow before mid → AllGive format spec moment mid now qs places givens → AllGive format spec moment before now qs places givens
+  all_earlier before mid now [] [] [] grow give = tt
+  all_earlier before mid now [] [] (given ∷ givens) grow give = give
+  all_earlier before mid now [] (place ∷ places) givens grow give = give
+  all_earlier before mid now (q ∷ qs) [] givens grow give = give
+  all_earlier before mid now (q ∷ qs) (place ∷ places) [] grow give = give
+  all_earlier before mid now (q ∷ qs) (place ∷ places) (given ∷ givens) grow give =
+      (give.0, gives_earlier before mid now q given.given grow give.1, all_earlier before mid now qs places givens grow give.2)
+
+  why_earlier : (before mid now : Option Folder) (q : model.Query) (most : Option ℕ) (bad : ℕ) (fault : SubqueryFault) → OnlyGrow before mid → IsRefusedWith format spec moment mid now q most bad fault → IsRefusedWith format spec moment before now q most bad fault
+  why_earlier before mid now q most bad (F.BadName fault) grow why = why
+  why_earlier before mid now q most bad (F.NoSuchLog name) grow why = why
+  why_earlier before mid now q most bad F.TooManyLogs grow why = why
+  why_earlier before mid now q most bad (F.Plan fault) grow why = record { logs = why.logs; are_listed = listed_earlier before mid now q why.logs grow why.are_listed; unplanned = why.unplanned }
+  why_earlier before mid now q most bad (F.Bad log row) grow why = record { logs = why.logs; are_listed = listed_earlier before mid now q why.logs grow why.are_listed; exceeds = why.exceeds }
+  why_earlier before mid now q most bad F.Logs grow why = tt
+  why_earlier before mid now q most bad F.Memory grow why = tt
+
+  ungiven_earlier : (before mid now : Option Folder) (qs : List model.Query) (bad : ℕ) (fault : SubqueryFault) → OnlyGrow before mid → IsUngivenIn format spec moment mid now qs bad fault → IsUngivenIn format spec moment before now qs bad fault
+  ungiven_earlier before mid now qs bad fault grow u = record {
+    front = u.front;
+    refused = u.refused;
+    rest = u.rest;
+    parts = u.parts;
+    places = u.places;
+    givens = u.givens;
+    give = all_earlier before mid now u.front u.places u.givens grow u.give;
+    why = why_earlier before mid now u.refused spec.errors _ fault grow u.why;
+  }
+
+  behind_earlier : (before mid now : Option Folder) (qs : List model.Query) (bad : ℕ) (fault : SubqueryFault) → OnlyGrow before mid → StopsBehind format spec moment mid now qs bad fault → StopsBehind format spec moment before now qs bad fault
+  behind_earlier before mid now qs bad (F.BadName fault) grow u = ungiven_earlier before mid now qs bad (F.BadName fault) grow u
+  behind_earlier before mid now qs bad (F.NoSuchLog name) grow u = ungiven_earlier before mid now qs bad (F.NoSuchLog name) grow u
+  behind_earlier before mid now qs bad F.TooManyLogs grow u = ungiven_earlier before mid now qs bad F.TooManyLogs grow u
+  behind_earlier before mid now qs bad (F.Plan fault) grow u = ungiven_earlier before mid now qs bad (F.Plan fault) grow u
+  behind_earlier before mid now qs bad (F.Bad log row) grow u = ungiven_earlier before mid now qs bad (F.Bad log row) grow u
+  behind_earlier before mid now qs bad F.Logs grow u = tt
+  behind_earlier before mid now qs bad F.Memory grow u = tt
+
+pub stops_earlier : (spec : Spec) (moment : ℤ) (before mid now : Option Folder) (q : model.Query) (fault : SubqueryFault) → OnlyGrow before mid → StopsBy spec moment mid now q fault → StopsBy spec moment before now q fault
+stops_earlier spec moment before mid now q fault grow stops = behind_earlier (log_format spec q) spec moment before mid now (subqueries_of q) 0 fault grow stops
+
+pub filled_earlier : (spec : Spec) (moment : ℤ) (before mid now : Option Folder) (q whole : model.Query) → OnlyGrow before mid → IsFilled spec moment mid now q whole → IsFilled spec moment before now q whole
+filled_earlier spec moment before mid now q whole grow f = record { givens = f.givens; give = all_earlier (log_format spec q) spec moment before mid now (subqueries_of q) _ f.givens grow f.give; whole_is = f.whole_is }
+
+pub filled_later : (spec : Spec) (moment : ℤ) (before mid now : Option Folder) (q whole : model.Query) → OnlyGrow mid now → IsFilled spec moment before mid q whole → IsFilled spec moment before now q whole
+filled_later spec moment before mid now q whole grow f = record { givens = f.givens; give = all_later (log_format spec q) spec moment before mid now (subqueries_of q) _ f.givens grow f.give; whole_is = f.whole_is }
+
+-- how much is read
+
+own_grown : (mid now : Option Folder) (q : model.Query) (logs : List (List ℕ)) → OnlyGrow mid now → AreOwn mid q logs → AreOwn now q logs
+own_grown mid now q logs grow (inl none) = inl none
+own_grown mid now q logs grow (inr lists) = inr (lists_grown mid now (from_names q) logs grow lists)
+
+all_grown : (mid now : Option Folder) (qs : List model.Query) (logs : List (List ℕ)) → OnlyGrow mid now → AllRead mid qs logs → AllRead now qs logs
+all_grown mid now [] logs grow all = all
+all_grown mid now (q ∷ qs) logs grow all = record {
+  own = all.own;
+  others = all.others;
+  are_read = own_grown mid now q all.own grow all.are_read;
+  rest = all_grown mid now qs all.others grow all.rest;
+  logs_are = all.logs_are;
+}
+
+pub none_read : (now : Option Folder) (qs : List model.Query) → AllRead now qs []
+none_read now [] = refl
+none_read now (q ∷ qs) = record { own = []; others = []; are_read = inl refl; rest = none_read now qs; logs_are = refl }
+
+-- those of one query behind those of others
+all_behind : (now : Option Folder) (qs : List model.Query) (q : model.Query) (logs own : List (List ℕ)) → AllRead now qs logs → AreOwn now q own → AllRead now (qs ++ q ∷ []) (logs ++ own)
+all_behind now [] q logs own all is = record { own = own; others = []; are_read = is; rest = refl; logs_are = ap (λ (l : List (List ℕ)). l ++ own) all ∙ sym (append-nil own) }
+all_behind now (first ∷ qs) q logs own all is = record {
+  own = all.own;
+  others = all.others ++ own;
+  are_read = all.are_read;
+  rest = all_behind now qs q all.others own all.rest is;
+  logs_are = ap (λ (l : List (List ℕ)). l ++ own) all.logs_are ∙ append_assoc all.own all.others own;
+}
+
+-- the template is read, then the logs of subqueries, and then the query's own
+pub prepared_reads : (one two now : Option Folder) (spec : Spec) (q : model.Query) (start first second later : ℕ) → OnlyGrow one two → OnlyGrow two now → ReadsOnce one (template_files spec q) start first → ReadsAll two (subqueries_of q) first second
+    → ReadsLogs now q second later → ReadsQuery now spec q start later
+prepared_reads one two now spec q start first second later grow next template subs own = record {
+  logs = subs.logs ++ own.logs;
+  are_read = all_behind now (subqueries_of q) q subs.logs own.logs (all_grown two now (subqueries_of q) subs.logs next subs.are_read) own.are_read;
+  once = reads_on one now (template_files spec q) (subs.logs ++ own.logs) start first later (OnlyGrow-trans one two now grow next) template (reads_on two now subs.logs own.logs first second later next subs.once own.once);
+}
+
+-- the logs of the query with what its subqueries gave are its own
+pub logs_whole : {spec : Spec} {moment : ℤ} {before mid : Option Folder} {q whole : model.Query} (now : Option Folder) (start later : ℕ) → IsFilled spec moment before mid q whole → ReadsLogs now whole start later → ReadsLogs now q start later
+logs_whole {q = q} {whole = whole} now start later f reads = record {
+  logs = reads.logs;
+  are_read = subst (λ (names : List (List ℕ)). (reads.logs ≡ []) ⊎ Lists now names reads.logs) (ap (map (λ (name : model.Placed). name.text)) (names_whole f)) reads.are_read;
+  once = reads.once;
+}
+
+-- why it isn't run
+
+pub refused_earlier : (spec : Spec) (moment : ℤ) (before mid now : Option Folder) (q : model.Query) (status : Status) → OnlyGrow before mid → IsRefusedAs spec moment mid now q status → IsRefusedAs spec moment before now q status
+refused_earlier spec moment before mid now q status grow r = record { fault = r.fault; status_is = r.status_is; stops = stops_earlier spec moment before mid now q r.fault grow r.stops }
+
+pub given_failed : (fault : SubqueryFault) → ungiven fault ≡ LogsFault → fault ≡ F.Logs
+given_failed (F.BadName fault) e = absurd (cc)
+given_failed (F.NoSuchLog name) e = absurd (cc)
+given_failed F.TooManyLogs e = absurd (cc)
+given_failed (F.Plan fault) e = absurd (cc)
+given_failed (F.Bad log row) e = absurd (cc)
+given_failed F.Logs e = refl
+given_failed F.Memory e = absurd (cc)

@@ -1,0 +1,51 @@
+use Rattle.std.proofs.Common.{◌≡◌, ◌⊎◌, [], ℕ, arith, inl, inr, subst, FitsSigned, w64}
+use Rattle.std.proofs.lemmas.Int.{to_z-of_z}
+use Rattle.column_kinds.proofs.Answered.{if_err, on_ok}
+use Rattle.subqueries.specs.Giving.{subqueries_of}
+use Rattle.subqueries.specs.Reading.{ReadsAll}
+use Rattle.requests.proofs.Given.{reads_none}
+use Rattle.query_tree.specs.Views.{query_of}
+use Rattle.reports.specs.declared.status.Status.{Status}
+use Rattle.logparser_cli.specs.Logs.{IsUnlisted}
+use Rattle.logparser_cli.specs.Subqueries.{IsFilled, IsRefusedAs}
+use Rattle.logparser_cli.proofs.Prepared.{filled_earlier, none_read, refused_earlier}
+use Rattle.logparser_cli.proofs.preparing.prepare.Goals as goal
+
+pub returns-then-reads_stdin-clause-refused : goal.returns-then-reads_stdin-clause-refused
+returns-then-reads_stdin-clause-refused g c =
+    let range : FitsSigned w64 c.args.moment = c.ranges.moment in
+    let before = g.L.Logs.folder c.args.logs.now in
+    let now = g.L.Logs.folder c.give.new.logs in
+    let q = query_of c.args.query.now in
+    let Refused : Status → Type 0 = λ status. IsRefusedAs c.args.spec.now c.args.moment before now q status in
+    if_err Refused (λ status. IsUnlisted now q status ⊎ Refused status) c.give.result (λ status refused. inr refused) (simp to_z-of_z at c.give.ensures.refused)
+
+pub returns-in-Ok-clause-fills : goal.returns-in-Ok-clause-fills
+returns-in-Ok-clause-fills g c =
+    let range : FitsSigned w64 c.args.moment = c.ranges.moment in
+    let mid = g.L.Logs.folder c.check_logs.new.logs in
+    let now = g.L.Logs.folder c.give-in-Ok.new.logs in
+    let before = g.L.Logs.folder c.args.logs.now in
+    let q = query_of c.args.query.now in
+    let whole = query_of c.give-in-Ok.new.query in
+    on_ok (IsFilled c.args.spec.now c.args.moment mid now q whole) (IsFilled c.args.spec.now c.args.moment before now q whole) c.give-in-Ok.result
+    (filled_earlier c.args.spec.now c.args.moment before mid now q whole c.check_logs.ensures.grows) (simp to_z-of_z at c.give-in-Ok.ensures.fills)
+
+pub returns-in-Ok-clause-refused : goal.returns-in-Ok-clause-refused
+returns-in-Ok-clause-refused g c =
+    let range : FitsSigned w64 c.args.moment = c.ranges.moment in
+    let mid = g.L.Logs.folder c.check_logs.new.logs in
+    let now = g.L.Logs.folder c.give-in-Ok.new.logs in
+    let before = g.L.Logs.folder c.args.logs.now in
+    let q = query_of c.args.query.now in
+    if_err (λ status. IsRefusedAs c.args.spec.now c.args.moment mid now q status) (λ status. IsUnlisted now q status ⊎ IsRefusedAs c.args.spec.now c.args.moment before now q status) c.give-in-Ok.result
+    (λ status refused. inr (refused_earlier c.args.spec.now c.args.moment before mid now q status c.check_logs.ensures.grows refused)) (simp to_z-of_z at c.give-in-Ok.ensures.refused)
+
+pub returns-in-Ok-clause-read : goal.returns-in-Ok-clause-read
+returns-in-Ok-clause-read g c = subst (λ (start : ℕ). ReadsAll (g.L.Logs.folder c.give-in-Ok.new.logs) (subqueries_of (query_of c.args.query.now)) start (g.L.Logs.given c.give-in-Ok.new.logs)) c.check_logs.ensures.given c.give-in-Ok.ensures.read
+
+pub returns-in-Err-clause-refused : goal.returns-in-Err-clause-refused
+returns-in-Err-clause-refused g c = inl c.in-Err.ensures.refused
+
+pub returns-in-Err-clause-read : goal.returns-in-Err-clause-read
+returns-in-Err-clause-read g c = record { logs = []; are_read = none_read (g.L.Logs.folder c.check_logs.new.logs) (subqueries_of (query_of c.args.query.now)); once = reads_none (g.L.Logs.folder c.check_logs.new.logs) [] _ _ (omega arith) }

@@ -1,0 +1,152 @@
+// All subqueries of a query, one after the other.
+ghost use Rattle.std.specs.Prelude.{◌≡◌, ◌≤◌, List, [], ◌∷◌, map, IfOk, IfErr, IfSome, IsErrOf, OnOk};
+ghost use Rattle.grammar.specs.Trees as model;
+ghost use Rattle.lp_model.specs.Outside.{OnlyGrow, Rose};
+ghost use Rattle.command_words.specs.Table.{IsInRange};
+ghost use Rattle.query_tree.specs.Views.{placed_given, query_of};
+ghost use Rattle.subqueries.specs.Giving.{AddsGiven, AddsOne, AreGiven, subqueries_of};
+ghost use Rattle.subqueries.specs.Refusing.{IsLeft, StopsBehind, StopsBy};
+ghost use Rattle.subqueries.specs.Reading.{ReadsAll, ReadsOne};
+ghost use Rattle.subqueries.specs.Valuing.{HasSeparator};
+
+use crate::SubqueryFault;
+use crate::giving::give_one;
+use command_words::Spec;
+use execution::{LogFormat, log_format};
+use lp_outside::Logs;
+use query_tree::{GivenList, PlacedGiven, Query};
+use std::alloc::Global;
+
+// How many bad lines there may be behind so many, if not any number; none where there are too many already.
+fn most_left(errors: Option<u32>, bad: u64) -> Option<Option<u64>>
+    ensures { IfSome result (IsLeft errors bad) }
+{
+    match errors {
+        None => Some(None),
+        Some(most) => match u64::from(most).checked_sub(bad) {
+            Some(left) => Some(Some(left)),
+            None => None,
+        },
+    }
+}
+
+// Adds what a query gives for a place, behind so many bad lines, and answers how many there are then.
+fn give_next<L: Logs>(
+    alloc: Global,
+    spec: &Spec,
+    format: LogFormat,
+    query: &Query,
+    place: u32,
+    moment: i64,
+    logs: &mut L,
+    bad: u64,
+    givens: &mut GivenList,
+) -> Result<u64, SubqueryFault>
+    requires separator { HasSeparator format }
+    ensures grows { OnlyGrow (L.folder logs.old) (L.folder logs.new) }
+    ensures later { L.faults logs.old ≤ L.faults logs.new }
+    ensures gives { IfOk result (AddsOne format spec.now moment (L.folder logs.old) (L.folder logs.new) (query_of query.now) place (map placed_given givens.old) (map placed_given givens.new) bad) }
+    ensures stops { IfErr result (λ fault. (behind : List model.Query) → StopsBehind format spec.now moment (L.folder logs.old) (L.folder logs.new) (query_of query.now ∷ behind) bad fault) }
+    ensures failed { IsErrOf result SubqueryFault.Logs → Rose (L.faults logs.old) (L.faults logs.new) }
+    ensures read { ReadsOne (L.folder logs.new) (query_of query.now) (L.given logs.old) (L.given logs.new) }
+{
+    let Some(most) = most_left(spec.errors, bad) else {
+        return Err(SubqueryFault::Memory);
+    };
+    let given = match give_one(alloc, spec, format, query, moment, logs, most) {
+        Ok(given) => given,
+        Err(fault) => return Err(fault),
+    };
+    let Some(bad) = bad.checked_add(given.bad) else {
+        drop(given);
+        return Err(SubqueryFault::Memory);
+    };
+    match givens.push(PlacedGiven { at: place, given }) {
+        Ok(()) => Ok(bad),
+        Err(_) => Err(SubqueryFault::Memory),
+    }
+}
+
+// None is left: then no place is left either.
+fn none_left(places: &[u32]) -> Result<(), SubqueryFault>
+    ensures none { OnOk result (places.now ≡ []) }
+    ensures fault { IfErr result (λ fault. fault ≡ SubqueryFault.Memory) }
+{
+    match places {
+        [] => Ok(()),
+        _ => Err(SubqueryFault::Memory),
+    }
+}
+
+// Adds what queries give, each for its place, behind so many bad lines.
+fn give_all<L: Logs>(
+    alloc: Global,
+    spec: &Spec,
+    format: LogFormat,
+    queries: &[Query],
+    places: &[u32],
+    moment: i64,
+    logs: &mut L,
+    bad: u64,
+    givens: &mut GivenList,
+) -> Result<(), SubqueryFault>
+    requires separator { HasSeparator format }
+    ensures grows { OnlyGrow (L.folder logs.old) (L.folder logs.new) }
+    ensures later { L.faults logs.old ≤ L.faults logs.new }
+    ensures gives { OnOk result (AddsGiven format spec.now moment (L.folder logs.old) (L.folder logs.new) (map query_of queries.now) places.now (map placed_given givens.old) (map placed_given givens.new)) }
+    ensures stops { IfErr result (StopsBehind format spec.now moment (L.folder logs.old) (L.folder logs.new) (map query_of queries.now) bad) }
+    ensures failed { IsErrOf result SubqueryFault.Logs → Rose (L.faults logs.old) (L.faults logs.new) }
+    ensures read { ReadsAll (L.folder logs.new) (map query_of queries.now) (L.given logs.old) (L.given logs.new) }
+{
+    let [query, queries @ ..] = queries else {
+        return none_left(places);
+    };
+    let [place, places @ ..] = places else {
+        return Err(SubqueryFault::Memory);
+    };
+    match give_next(
+        alloc, spec, format, query, *place, moment, logs, bad, givens,
+    ) {
+        Ok(bad) => give_all(
+            alloc, spec, format, queries, places, moment, logs, bad, givens,
+        ),
+        Err(fault) => Err(fault),
+    }
+}
+
+/// Runs the subqueries of a query in the order of the text, each over its own logs, whole, in the format in which the query's are
+/// read: what each gives, for the IN that asks it. Their bad lines count together.
+pub fn run_subqueries<L: Logs>(
+    alloc: Global,
+    spec: &Spec,
+    query: &Query,
+    moment: i64,
+    logs: &mut L,
+) -> Result<GivenList, SubqueryFault>
+    requires range { IsInRange spec.now }
+    ensures grows { OnlyGrow (L.folder logs.old) (L.folder logs.new) }
+    ensures later { L.faults logs.old ≤ L.faults logs.new }
+    ensures gives { IfOk result (λ givens. AreGiven spec.now moment (L.folder logs.old) (L.folder logs.new) (query_of query.now) (map placed_given givens)) }
+    ensures stops { IfErr result (StopsBy spec.now moment (L.folder logs.old) (L.folder logs.new) (query_of query.now)) }
+    ensures failed { IsErrOf result SubqueryFault.Logs → Rose (L.faults logs.old) (L.faults logs.new) }
+    ensures read { ReadsAll (L.folder logs.new) (subqueries_of (query_of query.now)) (L.given logs.old) (L.given logs.new) }
+{
+    let Ok(places) = query.asked_places(alloc) else {
+        return Err(SubqueryFault::Memory);
+    };
+    let mut givens = GivenList::new(alloc);
+    match give_all(
+        alloc,
+        spec,
+        log_format(spec, query),
+        query.subqueries.items.as_slice(),
+        places.as_slice(),
+        moment,
+        logs,
+        0,
+        &mut givens,
+    ) {
+        Ok(()) => Ok(givens),
+        Err(fault) => Err(fault),
+    }
+}
