@@ -1,7 +1,7 @@
 -- An answer that the disk has no part in ends no run well, and tells of no damage.
 use Rattle.std.proofs.Common.{◌≡◌, ◌≢◌, false, inl, inr, refl, sym, subst}
-use Rattle.execution.specs.declared.fault.RunFault.{RunFault}
-use Rattle.execution.specs.declared.fault.RunFault.TheVariants as X
+use Rattle.checkpointed_run.specs.RunFault.{RunFault}
+use Rattle.checkpointed_run.specs.RunFault.TheVariants as X
 use Rattle.ledger.specs.declared.refused.LedgerRefused.{LedgerRefused}
 use Rattle.ledger.specs.declared.refused.LedgerRefused.TheVariants as C
 use Rattle.positions.specs.declared.fault.LoadFault.{LoadFault}
@@ -17,7 +17,8 @@ use Rattle.requests.specs.declared.fault.RequestFault.TheVariants as R
 use Rattle.row_output.specs.declared.fault.Refused.{Refused}
 use Rattle.row_output.specs.declared.fault.Refused.TheVariants as W
 use Rattle.grammar.specs.Trees.{Query}
-use Rattle.command_words.specs.declared.spec.Spec.{Spec}
+use Rattle.checkpointed_run.specs.SubqueryFault.{SubqueryFault}
+use Rattle.checkpointed_run.specs.SubqueryFault.TheVariants as G
 use Rattle.run_model.specs.Steps.{Ending, well, refused, disk_failed}
 use Rattle.checkpointed_run.specs.Steps.{IsLoadDamage, fault_ending, ledger_ending, load_ending, phase_ending, stop_ending}
 use Rattle.checkpointed_run.specs.Steps.{IsDamaged as IsDamagedRun}
@@ -27,7 +28,7 @@ use Rattle.checkpointed_run.specs.declared.over.LedgerStop.TheVariants as L
 use Rattle.checkpointed_run.specs.declared.running.RunStop.{RunStop}
 use Rattle.checkpointed_run.specs.declared.running.RunStop.TheVariants as B
 use Rattle.checkpointed_command.specs.Asked.{IsUnfit}
-use Rattle.checkpointed_command.specs.Statuses.{IsAnswerTo, broken_off, stopped, unasked, unloaded, unplaced, unspanned, untemplated, unsettled}
+use Rattle.checkpointed_command.specs.Statuses.{IsAnswerTo, IsBrokenOff, IsUngivenAs, stopped, unasked, ungiven, unloaded, unplaced, unspanned, untemplated, unsettled}
 use Rattle.checkpointed_command.specs.Steps.{IsDamaged, ending_by}
 
 refused_not_well : refused ≢ well
@@ -65,13 +66,9 @@ mild_misplaced fault = record { not_well = refused_not_well; undamaged = λ d. d
 mild_into : IsMild S.IntoNeeded
 mild_into = record { not_well = refused_not_well; undamaged = λ d. d; no_disk = λ e. cc }
 
-mild_unbuilt : IsMild S.NotBuilt
-mild_unbuilt = record { not_well = refused_not_well; undamaged = λ d. d; no_disk = λ e. cc }
-
-pub mild_unfit : (spec : Spec) (q : Query) (status : Status) → IsUnfit spec q status → IsMild status
-mild_unfit spec q status (inl (at, is, same)) = subst IsMild (sym same) (mild_misplaced _)
-mild_unfit spec q status (inr (inl (none, into, same))) = subst IsMild (sym same) mild_into
-mild_unfit spec q status (inr (inr (none, into, built, same))) = subst IsMild (sym same) mild_unbuilt
+pub mild_unfit : (q : Query) (status : Status) → IsUnfit q status → IsMild status
+mild_unfit q status (inl (at, is, same)) = subst IsMild (sym same) (mild_misplaced _)
+mild_unfit q status (inr (none, into, same)) = subst IsMild (sym same) mild_into
 
 -- no fault of a phase ends a run well
 pub unsettled_not_well : (fault : LedgerRefused) → ending_by (unsettled fault) ≢ well
@@ -119,18 +116,30 @@ before_gate : (fault : LedgerRefused) → (IsFaultDamage fault → ⊥) → Ends
 before_gate C.DiskFault none = (refl, λ d. d)
 before_gate (C.LedgerFault part at) none = absurd (none tt)
 
-of_stop : (stop : RunStop) → (IsDamagedStop stop → ⊥) → EndsAs (stop_ending stop) (broken_off stop)
-of_stop (B.Refused fault) none = of_fault fault
-of_stop (B.BeforeGate fault) none = before_gate fault none
-of_stop (B.FromGate fault) none = of_phase fault none
-
 at : (ending : Ending) (answer status : Status) → status ≡ answer → EndsAs ending answer → EndsAs ending status
 at ending answer status same ends = subst (λ (s : Status). EndsAs ending s) (sym same) ends
+
+of_subquery : (fault : SubqueryFault) (status : Status) → IsUngivenAs fault status → EndsAs refused status
+of_subquery (G.BadName fault) status is = at refused (S.BadName fault) status is (refl, λ d. d)
+of_subquery (G.NoSuchLog name) status is = at refused (S.NoSuchLog name) status is (refl, λ d. d)
+of_subquery G.TooManyLogs status is = at refused S.TooManyLogs status is (refl, λ d. d)
+of_subquery (G.Clash name) status (inl is) = at refused (S.NameClash name) status is (refl, λ d. d)
+of_subquery (G.Clash name) status (inr is) = at refused S.Memory status is (refl, λ d. d)
+of_subquery (G.Plan fault) status is = at refused (ungiven (G.Plan fault)) status is (refl, λ d. d)
+of_subquery (G.Bad log row) status is = at refused (S.ParseErrors log row) status is (refl, λ d. d)
+of_subquery G.Logs status is = at refused S.LogsFault status is (refl, λ d. d)
+of_subquery G.Memory status is = at refused S.Memory status is (refl, λ d. d)
+
+of_stop : (stop : RunStop) (status : Status) → IsBrokenOff stop status → (IsDamagedStop stop → ⊥) → EndsAs (stop_ending stop) status
+of_stop (B.Subquery fault) status is none = of_subquery fault status is
+of_stop (B.Refused fault) status is none = at (fault_ending fault) (stopped false fault) status is (of_fault fault)
+of_stop (B.BeforeGate fault) status is none = at (phase_ending fault) (unsettled fault) status is (before_gate fault none)
+of_stop (B.FromGate fault) status is none = at disk_failed (unsettled fault) status is (of_phase fault none)
 
 pub ends_as : (stop : LedgerStop) (status : Status) → IsAnswerTo stop status → (IsDamagedRun stop → ⊥) → (ledger_ending stop ≡ ending_by status) × (IsDamaged status → ⊥)
 ends_as (L.Ledger fault) status is none = at (load_ending fault) (unloaded fault) status is (of_load fault none)
 ends_as (L.Logs fault) status is none = at refused (unspanned fault) status is (of_spans fault)
 ends_as (L.Clash name) status (inl is) none = at refused (S.NameClash name) status is (refl, λ d. d)
 ends_as (L.Clash name) status (inr is) none = at refused S.Memory status is (refl, λ d. d)
-ends_as (L.Run stop) status is none = at (stop_ending stop) (broken_off stop) status is (of_stop stop none)
+ends_as (L.Run stop) status is none = of_stop stop status is none
 ends_as L.Memory status is none = at refused S.Memory status is (refl, λ d. d)

@@ -20,7 +20,7 @@ unsettled_ends disk ledger stage status is = subst (λ (s : Status). ending_by s
 
 pub mild_asking : (before now : Option Folder) (spec : Spec) (status : Status) → IsUnread before now spec status ⊎ IsUnsuited before now spec status → IsMild status
 mild_asking before now spec status (inl unread) = subst IsMild (sym unread.status_is) (mild_unasked unread.fault)
-mild_asking before now spec status (inr unsuited) = mild_unfit spec unsuited.q status unsuited.why
+mild_asking before now spec status (inr unsuited) = mild_unfit unsuited.q status unsuited.why
 
 pub settled_by : (old new : DiskState) (ledger stage l s : List ℕ) → ledger ≡ l → stage ≡ s → Nears old new ledger stage → (old.tells → IsApart ledger stage old.seen → FitsWhole ledger stage old.seen) → IsSettledBy old new l s
 settled_by old new ledger stage l s ledger_is stage_is near fits = record { settles = near_as old new ledger stage l s ledger_is stage_is near; fits = fits_as old ledger stage l s ledger_is stage_is fits }

@@ -5,7 +5,7 @@ use Rattle.lp_model.specs.Outside.{Folder}
 use Rattle.commit.specs.Faults.{FitsWhole, IsApart}
 use Rattle.commit.specs.Resume.{CanSettle, Settles}
 use Rattle.query_run.specs.declared.executing.Counts.{Counts}
-use Rattle.run_entry.specs.Entries.{Request}
+use Rattle.checkpointed_run.specs.Entries.{Request}
 use Rattle.reports.specs.declared.status.Status.{Status}
 use Rattle.checkpointed_run.specs.Steps.{TakesStep}
 use Rattle.checkpointed_run.specs.declared.over.LedgerStop.{LedgerStop}

@@ -5,3 +5,7 @@ pub mod Naming
 mod Files
 mod OnDisk
 mod Commanding
+pub use Rattle.checkpointed_run.proofs.FormatLemmas
+pub use Rattle.checkpointed_run.proofs.Options
+pub use Rattle.checkpointed_run.proofs.Clashing
+pub use Rattle.checkpointed_run.proofs.SubqueriesSteps

@@ -5,7 +5,7 @@ use Rattle.lp_model.specs.Outside.{Folder, OnlyGrow}
 use Rattle.command_words.specs.declared.formats.OutputFormat.{OutputFormat}
 use Rattle.command_words.specs.declared.formats.OutputFormat.TheVariants as O
 use Rattle.command_words.specs.declared.spec.Spec.{Spec}
-use Rattle.execution.specs.Texts.{output_of}
+use Rattle.checkpointed_run.specs.Texts.{output_of}
 use Rattle.requests.specs.Texts.{HoldsQuery}
 use Rattle.requests.specs.Files.{IsTextFault}
 use Rattle.requests.specs.Templates.{IsNoTemplate}

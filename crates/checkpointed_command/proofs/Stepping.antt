@@ -7,14 +7,14 @@ use Rattle.lp_model.specs.Outside.{Folder, OnlyGrow}
 use Rattle.grammar.specs.Trees.{Placed, Query}
 use Rattle.command_words.specs.declared.spec.Spec.{Spec}
 use Rattle.commit.specs.Resume.{CanSettle, Settles}
-use Rattle.execution.specs.Outputs.{is_standard, is_stdout}
-use Rattle.execution.specs.Texts.{into_in, output_of}
-use Rattle.program_meaning.specs.Meaning.{meaning}
-use Rattle.program_meaning.proofs.OneMeaning.{is_one}
+use Rattle.checkpointed_run.specs.Outputs.{is_standard, is_stdout}
+use Rattle.checkpointed_run.specs.Texts.{into_in, output_of}
+use Rattle.checkpointed_run.specs.Meaning.{meaning}
+use Rattle.checkpointed_run.proofs.OneMeaning.{is_one}
 use Rattle.query_run.specs.declared.executing.Counts.{Counts}
 use Rattle.reports.specs.declared.status.Status.{Status}
 use Rattle.requests.specs.Texts.{HoldsQuery}
-use Rattle.run_entry.specs.Entries.{Request}
+use Rattle.checkpointed_run.specs.Entries.{Request}
 use Rattle.run_model.specs.Logs.{Logs}
 use Rattle.run_model.specs.Meanings.{Asked}
 use Rattle.run_model.specs.Steps.{Setting, MayRun, Ending, well, RunStep}
@@ -33,7 +33,7 @@ use Rattle.checkpointed_command.specs.Counted.{IsCounted}
 use Rattle.checkpointed_run.specs.Counted.{HasRun}
 use Rattle.ledger_model.specs.Inputs.{input_text}
 use Rattle.positions.specs.Spanning.{rule_of}
-use Rattle.program_meaning.specs.Inputs.{input_for}
+use Rattle.checkpointed_run.specs.Inputs.{input_for}
 use Rattle.query_text.specs.Stdin.{names_in}
 use Rattle.checkpointed_command.specs.Refusals.{IsCountless, IsRefusedBehind}
 use Rattle.checkpointed_command.proofs.Since.{bytes_asked, found_over, query_grown}
@@ -115,7 +115,6 @@ module _ {D : Type 0} (state : D → DiskState)
         checkpoint = subst (λ (o : Option (List ℕ)). IsSome o) (sym kept) refl;
         query = here.query.query;
         only = here.query.only;
-        built = here.fit.built;
         sections = here.finds.sections;
         into_is = into.1;
         no_stdout = into.2;
@@ -150,7 +149,7 @@ module _ {D : Type 0} (state : D → DiskState)
 
 -- why a run that was prepared comes to no counts, from the moment on at which its query was read
 pub refused_behind : (disk : DiskState) (ledger stage : List ℕ) (old mid now : Option Folder) (spec : Spec) (moment : ℤ) (text : List ℕ) (q : Query) (bytes : List ℕ) (template : Sections) (result : Result Counts Status)
-    → OnlyGrow old mid → OnlyGrow mid now → IsFit spec q → FindsTemplate old mid spec q bytes template → IfErr result (λ status. IsCountless disk ledger stage mid now (request_of spec q text bytes moment) template status ⊎ (status ≡ S.Memory))
+    → OnlyGrow old mid → OnlyGrow mid now → IsFit q → FindsTemplate old mid spec q bytes template → IfErr result (λ status. IsCountless disk ledger stage mid now (request_of spec q text bytes moment) template status ⊎ (status ≡ S.Memory))
     → IfErr result (λ status. (since : Option Folder) → OnlyGrow since old → HoldsQuery since old spec.query text q → IsRefusedBehind disk ledger stage since now spec moment status)
 refused_behind disk ledger stage old mid now spec moment text q bytes template (Ok counts) grow grown fit found none = tt
 refused_behind disk ledger stage old mid now spec moment text q bytes template (Err status) grow grown fit found (inl countless) = λ since early holds. inr (inr (inr (inl (record {
@@ -171,7 +170,7 @@ refused_behind disk ledger stage old mid now spec moment text q bytes template (
 
 -- or what it did where it comes to them
 pub counted_behind : {D : Type 0} (state : D → DiskState) (disk : DiskState) (ledger stage : List ℕ) (old mid now : Option Folder) (spec : Spec) (moment : ℤ) (text : List ℕ) (q : Query) (bytes : List ℕ) (template : Sections) (result : Result Counts Status)
-    → OnlyGrow old mid → OnlyGrow mid now → IsFit spec q → FindsTemplate old mid spec q bytes template → IfOk result (HasRun state disk ledger stage (rule_of spec.rotation) (input_text (input_for spec q)) (map (λ name. name.text) (names_in q)) (request_of spec q text bytes moment) template mid now)
+    → OnlyGrow old mid → OnlyGrow mid now → IsFit q → FindsTemplate old mid spec q bytes template → IfOk result (HasRun state disk ledger stage (rule_of spec.rotation) (input_text (input_for spec q)) (map (λ name. name.text) (names_in q)) (request_of spec q text bytes moment) template mid now)
     → IfOk result (λ counts. (since : Option Folder) → OnlyGrow since old → HoldsQuery since old spec.query text q → IsCounted state disk ledger stage since now spec moment counts)
 counted_behind state disk ledger stage old mid now spec moment text q bytes template (Err status) grow grown fit found ran = tt
 counted_behind state disk ledger stage old mid now spec moment text q bytes template (Ok counts) grow grown fit found ran = λ since early holds. record {

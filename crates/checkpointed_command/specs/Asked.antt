@@ -3,9 +3,8 @@ use Rattle.std.specs.Prelude.{◌≡◌, ◌⊎◌, ℕ, ℤ, true, false, if◌
 use Rattle.grammar.specs.Trees.{Placed, Query}
 use Rattle.lp_model.specs.Outside.{Folder}
 use Rattle.command_words.specs.declared.spec.Spec.{Spec}
-use Rattle.execution.specs.Built.{is_run_built}
-use Rattle.execution.specs.Outputs.{is_standard}
-use Rattle.execution.specs.Texts.{into_in}
+use Rattle.checkpointed_run.specs.Outputs.{is_standard}
+use Rattle.checkpointed_run.specs.Texts.{into_in}
 use Rattle.query_text.specs.Stdin.{is_stdin, names_in}
 use Rattle.query_text.specs.declared.fault.QueryFault.TheVariants as Q
 use Rattle.reports.specs.declared.status.Status.{Status}
@@ -21,23 +20,21 @@ stdin_alone [] = None
 stdin_alone (name ∷ []) = if is_stdin name.text then Some name.at else None
 stdin_alone (name ∷ next ∷ names) = None
 
--- a query that may run with a checkpoint: over files, into files, and of what is built
-pub record IsFit (spec : Spec) (q : Query) : Type 0 where
+-- a query that may run with a checkpoint: over files, into files
+pub record IsFit (q : Query) : Type 0 where
   pub over_files : stdin_alone (names_in q) ≡ None
   pub into_files : is_standard (into_in q) ≡ false
-  pub built : is_run_built spec q ≡ true
 
 -- why it may not, the first reason first
-abbrev pub IsUnfit : Spec → Query → Status → Type 0
-IsUnfit spec q status =
+abbrev pub IsUnfit : Query → Status → Type 0
+IsUnfit q status =
     ((at : ℕ) × (stdin_alone (names_in q) ≡ Some at) × (status ≡ S.Query (Q.StdinMisplaced at)))
     ⊎ ((stdin_alone (names_in q) ≡ None) × (is_standard (into_in q) ≡ true) × (status ≡ S.IntoNeeded))
-    ⊎ ((stdin_alone (names_in q) ≡ None) × (is_standard (into_in q) ≡ false) × (is_run_built spec q ≡ false) × (status ≡ S.NotBuilt))
 
 -- all that comes before the logs: the query was read, it may run, and so is its template
 pub record IsPrepared (before now : Option Folder) (spec : Spec) (text : List ℕ) (q : Query) (bytes : List ℕ) (template : Sections) : Type 0 where
   pub query : HoldsQuery before now spec.query text q
-  pub fit : IsFit spec q
+  pub fit : IsFit q
   pub finds : FindsTemplate before now spec q bytes template
 
 -- what was asked, as far as it was read: the options and the moment, and the texts of the query and the template or nothing

@@ -6,7 +6,7 @@ use Rattle.ledger_model.specs.Inputs.{input_text}
 use Rattle.lp_model.specs.Outside.{Folder, OnlyGrow}
 use Rattle.command_words.specs.declared.spec.Spec.{Spec}
 use Rattle.positions.specs.Spanning.{rule_of}
-use Rattle.program_meaning.specs.Inputs.{input_for}
+use Rattle.checkpointed_run.specs.Inputs.{input_for}
 use Rattle.query_run.specs.declared.executing.Counts.{Counts}
 use Rattle.query_text.specs.Stdin.{names_in}
 use Rattle.tpl_output.specs.Sections.{Sections}

@@ -10,7 +10,7 @@ use Rattle.command_words.specs.declared.spec.Spec.{Spec}
 use Rattle.ledger.specs.declared.refused.LedgerRefused.{LedgerRefused}
 use Rattle.ledger_model.specs.Inputs.{input_text}
 use Rattle.positions.specs.Spanning.{rule_of}
-use Rattle.program_meaning.specs.Inputs.{input_for}
+use Rattle.checkpointed_run.specs.Inputs.{input_for}
 use Rattle.query_text.specs.Stdin.{names_in}
 use Rattle.reports.specs.declared.status.Status.{Status}
 use Rattle.reports.specs.declared.status.Status.TheVariants as S
@@ -19,7 +19,7 @@ use Rattle.requests.specs.Texts.{HoldsQuery}
 use Rattle.requests.specs.declared.fault.NoTemplate.{NoTemplate}
 use Rattle.requests.specs.declared.fault.RequestFault.{RequestFault}
 use Rattle.tpl_output.specs.Sections.{Sections}
-use Rattle.run_entry.specs.Entries.{Request}
+use Rattle.checkpointed_run.specs.Entries.{Request}
 use Rattle.checkpointed_run.specs.Reasons.{IsDamage}
 use Rattle.checkpointed_run.specs.Refusals.{IsAtDamage, IsWithoutCounts}
 use Rattle.checkpointed_run.specs.Staged.{request_of}
@@ -50,14 +50,14 @@ pub record IsUnsuited (before now : Option Folder) (spec : Spec) (status : Statu
   pub text : List ℕ
   pub q : Query
   pub query : HoldsQuery before now spec.query text q
-  pub why : IsUnfit spec q status
+  pub why : IsUnfit q status
 
 -- it may, and its template isn't read
 pub record HasNoTemplate (before now : Option Folder) (spec : Spec) (status : Status) : Type 0 where
   pub text : List ℕ
   pub q : Query
   pub query : HoldsQuery before now spec.query text q
-  pub fit : IsFit spec q
+  pub fit : IsFit q
   pub fault : NoTemplate
   pub why : HoldsNone before now spec q fault
   pub status_is : status ≡ untemplated fault

@@ -1,7 +1,7 @@
 -- What each fault of a run is as its answer.
 use Rattle.std.specs.Prelude.{◌≡◌, ◌⊎◌, Bool, true, false}
-use Rattle.execution.specs.declared.fault.RunFault.{RunFault}
-use Rattle.execution.specs.declared.fault.RunFault.TheVariants as X
+use Rattle.checkpointed_run.specs.RunFault.{RunFault}
+use Rattle.checkpointed_run.specs.RunFault.TheVariants as X
 use Rattle.ledger.specs.declared.refused.LedgerRefused.{LedgerRefused}
 use Rattle.ledger.specs.declared.refused.LedgerRefused.TheVariants as C
 use Rattle.positions.specs.declared.fault.LoadFault.{LoadFault}
@@ -17,6 +17,8 @@ use Rattle.requests.specs.declared.fault.RequestFault.{RequestFault}
 use Rattle.requests.specs.declared.fault.RequestFault.TheVariants as R
 use Rattle.row_output.specs.declared.fault.Refused.{Refused}
 use Rattle.row_output.specs.declared.fault.Refused.TheVariants as W
+use Rattle.checkpointed_run.specs.SubqueryFault.{SubqueryFault}
+use Rattle.checkpointed_run.specs.SubqueryFault.TheVariants as G
 use Rattle.checkpointed_run.specs.declared.over.LedgerStop.{LedgerStop}
 use Rattle.checkpointed_run.specs.declared.over.LedgerStop.TheVariants as L
 use Rattle.checkpointed_run.specs.declared.running.RunStop.{RunStop}
@@ -80,11 +82,33 @@ unspanned F.LogsFault = LogsFault
 unspanned (F.BadName fault) = BadName fault
 unspanned F.Memory = Memory
 
+-- why a subquery gives nothing
+abbrev pub ungiven : SubqueryFault → Status
+ungiven (G.BadName fault) = BadName fault
+ungiven (G.NoSuchLog name) = NoSuchLog name
+ungiven G.TooManyLogs = TooManyLogs
+ungiven (G.Clash name) = NameClash name
+ungiven (G.Plan fault) = Query (Q.Plan fault)
+ungiven (G.Bad log row) = ParseErrors log row
+ungiven G.Logs = LogsFault
+ungiven G.Memory = Memory
+
+-- an answer tells why; the name of a clash wants memory
+abbrev pub IsUngivenAs : SubqueryFault → Status → Type 0
+IsUngivenAs (G.Clash name) status = (status ≡ NameClash name) ⊎ (status ≡ Memory)
+IsUngivenAs fault status = status ≡ ungiven fault
+
 -- why a run over spans stopped; its rows never go to standard output
 abbrev pub broken_off : RunStop → Status
+broken_off (S.Subquery fault) = ungiven fault
 broken_off (S.Refused fault) = stopped false fault
 broken_off (S.BeforeGate fault) = unsettled fault
 broken_off (S.FromGate fault) = unsettled fault
+
+-- an answer tells why
+abbrev pub IsBrokenOff : RunStop → Status → Type 0
+IsBrokenOff (S.Subquery fault) status = IsUngivenAs fault status
+IsBrokenOff stop status = status ≡ broken_off stop
 
 -- why a run over a ledger gives no counts
 abbrev pub uncounted : LedgerStop → Status
@@ -97,4 +121,5 @@ uncounted L.Memory = Memory
 -- an answer tells why a run over a ledger gives no counts; the name of a clash wants memory
 abbrev pub IsAnswerTo : LedgerStop → Status → Type 0
 IsAnswerTo (L.Clash name) status = (status ≡ NameClash name) ⊎ (status ≡ Memory)
+IsAnswerTo (L.Run stop) status = IsBrokenOff stop status
 IsAnswerTo stop status = status ≡ uncounted stop

@@ -7,14 +7,14 @@ use Rattle.lp_model.specs.Outside.{Folder}
 use Rattle.command_words.specs.Table.{IsAsked}
 use Rattle.command_words.specs.Usage.{AreFine}
 use Rattle.command_words.specs.declared.spec.Spec.{Spec}
-use Rattle.program_meaning.specs.Meaning.{meaning}
+use Rattle.checkpointed_run.specs.Meaning.{meaning}
 use Rattle.query_run.specs.declared.executing.Counts.{Counts}
 use Rattle.reports.specs.declared.status.Status.{Status}
 use Rattle.reports.specs.declared.status.Status.TheVariants as S
 use Rattle.run_model.specs.Logs.{Logs}
 use Rattle.run_model.specs.Meanings.{Asked}
 use Rattle.run_model.specs.Steps.{Setting, Gain, MayRun, Ending, well, refused, disk_failed, RunStep}
-use Rattle.run_entry.specs.Entries.{Request}
+use Rattle.checkpointed_run.specs.Entries.{Request}
 use Rattle.tpl_output.specs.Sections.{Sections}
 use Rattle.checkpointed_run.specs.Grounds.{IsRead, asked_by_request}
 use Rattle.checkpointed_run.specs.Steps.{HasCounted}

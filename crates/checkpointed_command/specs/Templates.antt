@@ -5,8 +5,8 @@ use Rattle.lp_model.specs.Outside.{Folder, Told}
 use Rattle.command_words.specs.declared.formats.OutputFormat.{OutputFormat}
 use Rattle.command_words.specs.declared.formats.OutputFormat.TheVariants as O
 use Rattle.command_words.specs.declared.spec.Spec.{Spec}
-use Rattle.execution.specs.Texts.{output_of}
-use Rattle.program_meaning.specs.Gives.{HasTemplate}
+use Rattle.checkpointed_run.specs.Texts.{output_of}
+use Rattle.checkpointed_run.specs.Gives.{HasTemplate}
 use Rattle.requests.specs.Templates.{IsNoTemplate}
 use Rattle.requests.specs.Texts.{IsCut}
 use Rattle.requests.specs.declared.fault.NoTemplate.{NoTemplate}

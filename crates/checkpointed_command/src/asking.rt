@@ -9,8 +9,8 @@ ghost use Rattle.checkpointed_command.specs.Asked.{IsFit, IsUnfit, stdin_alone};
 ghost use Rattle.checkpointed_command.specs.Refusals.{IsUnread, IsUnsuited};
 
 use crate::statuses::unasked;
+use checkpointed_run::is_standard;
 use command_words::Spec;
-use execution::{is_run_built, is_standard};
 use lp_outside::Logs;
 use query_text::{QueryFault, is_stdin};
 use query_tree::{PlacedList, Query};
@@ -30,14 +30,13 @@ fn stdin_alone(names: &PlacedList) -> Option<u32>
 
 // Whether a query may run with a checkpoint: standard input has no place that could be kept, and standard output none that
 // could be opened with the ledger.
-fn check_fit(spec: &Spec, query: &Query) -> Result<(), Status>
-    ensures { MatchResult result (λ unit. IsFit spec.now (query_of query.now)) (IsUnfit spec.now (query_of query.now)) }
+fn check_fit(query: &Query) -> Result<(), Status>
+    ensures { MatchResult result (λ unit. IsFit (query_of query.now)) (IsUnfit (query_of query.now)) }
 {
     match stdin_alone(&query.names) {
         Some(at) => Err(Status::Query(QueryFault::StdinMisplaced(at))),
         None if is_standard(query) => Err(Status::IntoNeeded),
-        None if is_run_built(spec, query) => Ok(()),
-        None => Err(Status::NotBuilt),
+        None => Ok(()),
     }
 }
 
@@ -49,7 +48,7 @@ pub(crate) fn ask_query<L: Logs>(
 ) -> Result<WrittenQuery, Status>
     ensures grows { OnlyGrow (L.folder logs.old) (L.folder logs.new) }
     ensures query { IfOk result (λ written. HoldsQuery (L.folder logs.old) (L.folder logs.new) spec.now.query written.text (query_of written.query)) }
-    ensures fit { IfOk result (λ written. IsFit spec.now (query_of written.query)) }
+    ensures fit { IfOk result (λ written. IsFit (query_of written.query)) }
     ensures refused { IfErr result (λ status. IsUnread (L.folder logs.old) (L.folder logs.new) spec.now status ⊎ IsUnsuited (L.folder logs.old) (L.folder logs.new) spec.now status) }
     ensures given { ReadsOnce (L.folder logs.new) (query_files spec.now.query) (L.given logs.old) (L.given logs.new) }
     ensures later { L.faults logs.old ≤ L.faults logs.new }
@@ -60,7 +59,7 @@ pub(crate) fn ask_query<L: Logs>(
         Ok(written) => written,
         Err(fault) => return Err(unasked(fault)),
     };
-    match check_fit(spec, &written.query) {
+    match check_fit(&written.query) {
         Ok(()) => Ok(written),
         Err(status) => {
             drop(written);

@@ -1,16 +1,17 @@
 // A run with a checkpoint, step by step.
-ghost use Rattle.std.specs.Prelude.{◌≡◌, ◌⊎◌, ◌≤◌, ◌++◌, ℕ, Option, codes, map, None, Some, IfOk, IfErr, IsErrOf, IsSome};
+ghost use Rattle.std.specs.Prelude.{◌≡◌, ◌⊎◌, ◌≤◌, ◌++◌, ℕ, Option, codes, map, true, None, Some, IfOk, IfErr, IsErrOf, IsSome};
 ghost use Rattle.lp_model.specs.Outside.{Rose, OnlyGrow, Folder};
 ghost use Rattle.command_words.specs.Table.{IsInRange};
 ghost use Rattle.command_words.specs.declared.formats.OutputFormat.TheVariants as O;
 ghost use Rattle.commit.specs.Resume.{CanSettle, Settles};
-ghost use Rattle.execution.specs.Executed.{IsMoment};
-ghost use Rattle.execution.specs.Texts.{output_of, sections_in};
+ghost use Rattle.checkpointed_run.specs.Executed.{IsMoment};
+ghost use Rattle.checkpointed_run.specs.Texts.{has_text, output_of, sections_in};
+ghost use Rattle.grammar.specs.Trees as model;
 ghost use Rattle.ledger_model.specs.Inputs.{input_text};
 ghost use Rattle.lp_outside.specs.NameFault.{name_fault};
 ghost use Rattle.positions.specs.Spanning.{rule_of};
-ghost use Rattle.program_meaning.specs.Gives.{HasTemplate};
-ghost use Rattle.program_meaning.specs.Inputs.{input_for};
+ghost use Rattle.checkpointed_run.specs.Gives.{HasTemplate};
+ghost use Rattle.checkpointed_run.specs.Inputs.{input_for};
 ghost use Rattle.query_text.specs.Stdin.{names_in};
 ghost use Rattle.query_tree.specs.Views.{query_of};
 ghost use Rattle.reports.specs.declared.status.Status.TheVariants as S;
@@ -49,7 +50,7 @@ fn run_prepared<L: Logs, D: Disk>(
     moment: i64,
     logs: &mut L,
     disk: &mut D,
-    query: &Query,
+    query: &mut Query,
     text: Text,
     template: RunTemplate,
 ) -> Result<Counts, Status>
@@ -57,15 +58,15 @@ fn run_prepared<L: Logs, D: Disk>(
     requires range { IsInRange spec.now }
     requires ledger { spec.now.checkpoint ≡ Some ledger.now }
     requires stage { name_fault (ledger.now ++ codes ".stage") ≡ None }
-    requires template { output_of spec.now (query_of query.now) ≡ O.Tpl → IsSome template.shared }
-    requires sections { HasTemplate spec.now (query_of query.now) template.bytes (sections_in (λ t. t.value) template.shared) }
-    requires fit { IsFit spec.now (query_of query.now) }
+    requires template { output_of spec.now (query_of query.old) ≡ O.Tpl → IsSome template.shared }
+    requires sections { HasTemplate spec.now (query_of query.old) template.bytes (sections_in (λ t. t.value) template.shared) }
+    requires fit { IsFit (query_of query.old) }
     ensures grows { OnlyGrow (L.folder logs.old) (L.folder logs.new) }
     ensures step { (earlier : D) (since : Option Folder) → (CanSettle (D.state earlier) ledger.now (ledger.now ++ codes ".stage") → Settles (D.state earlier) (D.state disk.old) ledger.now (ledger.now ++ codes ".stage")) → OnlyGrow since (L.folder logs.old)
-        → TakesStepWith result (request_of spec.now (query_of query.now) text template.bytes moment) ledger.now (ledger.now ++ codes ".stage") since (L.folder logs.new) (D.state earlier) (D.state disk.new) }
-    ensures ran { IfOk result (HasRun D.state (D.state disk.old) ledger.now (ledger.now ++ codes ".stage") (rule_of spec.now.rotation) (input_text (input_for spec.now (query_of query.now))) (map (λ name. name.text) (names_in (query_of query.now))) (request_of spec.now (query_of query.now) text template.bytes moment) (sections_in (λ t. t.value) template.shared) (L.folder logs.old) (L.folder logs.new)) }
-    ensures refused { IfErr result (λ status. IsCountless (D.state disk.old) ledger.now (ledger.now ++ codes ".stage") (L.folder logs.old) (L.folder logs.new) (request_of spec.now (query_of query.now) text template.bytes moment) (sections_in (λ t. t.value) template.shared) status ⊎ (status ≡ S.Memory)) }
-    ensures given { GivesSpans (D.state disk.old) ledger.now (ledger.now ++ codes ".stage") (rule_of spec.now.rotation) (input_text (input_for spec.now (query_of query.now))) (map (λ name. name.text) (names_in (query_of query.now))) (L.folder logs.old) (L.folder logs.new) (L.given logs.old) (L.given logs.new) }
+        → TakesStepWith result (request_of spec.now (query_of query.old) text template.bytes moment) ledger.now (ledger.now ++ codes ".stage") since (L.folder logs.new) (D.state earlier) (D.state disk.new) }
+    ensures ran { IfOk result (HasRun D.state (D.state disk.old) ledger.now (ledger.now ++ codes ".stage") (rule_of spec.now.rotation) (input_text (input_for spec.now (query_of query.old))) (map (λ name. name.text) (names_in (query_of query.old))) (request_of spec.now (query_of query.old) text template.bytes moment) (sections_in (λ t. t.value) template.shared) (L.folder logs.old) (L.folder logs.new)) }
+    ensures refused { IfErr result (λ status. IsCountless (D.state disk.old) ledger.now (ledger.now ++ codes ".stage") (L.folder logs.old) (L.folder logs.new) (request_of spec.now (query_of query.old) text template.bytes moment) (sections_in (λ t. t.value) template.shared) status ⊎ (status ≡ S.Memory)) }
+    ensures given { GivesSpans (D.state disk.old) ledger.now (ledger.now ++ codes ".stage") (rule_of spec.now.rotation) (input_text (input_for spec.now (query_of query.old))) (map (λ name. name.text) (names_in (query_of query.old))) (query_of query.old) (L.folder logs.old) (L.folder logs.new) (L.given logs.old) (L.given logs.new) }
     ensures later_logs { L.faults logs.old ≤ L.faults logs.new }
     ensures later { D.faults disk.old ≤ D.faults disk.new }
     ensures logs { IsErrOf result S.LogsFault → Rose (L.faults logs.old) (L.faults logs.new) }
@@ -102,20 +103,21 @@ fn run_query<L: Logs, D: Disk>(
     moment: i64,
     logs: &mut L,
     disk: &mut D,
-    query: &Query,
+    query: &mut Query,
     text: Text,
 ) -> Result<Counts, Status>
     requires moment { IsMoment moment }
     requires range { IsInRange spec.now }
     requires ledger { spec.now.checkpoint ≡ Some ledger.now }
     requires stage { name_fault (ledger.now ++ codes ".stage") ≡ None }
-    requires fit { IsFit spec.now (query_of query.now) }
+    requires text { has_text spec.now (output_of spec.now (query_of query.old)) ≡ true }
+    requires fit { IsFit (query_of query.old) }
     ensures grows { OnlyGrow (L.folder logs.old) (L.folder logs.new) }
-    ensures step { (earlier : D) (since : Option Folder) → (CanSettle (D.state earlier) ledger.now (ledger.now ++ codes ".stage") → Settles (D.state earlier) (D.state disk.old) ledger.now (ledger.now ++ codes ".stage")) → OnlyGrow since (L.folder logs.old) → HoldsQuery since (L.folder logs.old) spec.now.query text (query_of query.now)
+    ensures step { (earlier : D) (since : Option Folder) → (CanSettle (D.state earlier) ledger.now (ledger.now ++ codes ".stage") → Settles (D.state earlier) (D.state disk.old) ledger.now (ledger.now ++ codes ".stage")) → OnlyGrow since (L.folder logs.old) → HoldsQuery since (L.folder logs.old) spec.now.query text (query_of query.old)
         → TakesSteps spec.now ledger.now (ledger.now ++ codes ".stage") moment since (L.folder logs.new) (D.state earlier) (D.state disk.new) result }
-    ensures ran { IfOk result (λ counts. (since : Option Folder) → OnlyGrow since (L.folder logs.old) → HoldsQuery since (L.folder logs.old) spec.now.query text (query_of query.now) → IsCounted D.state (D.state disk.old) ledger.now (ledger.now ++ codes ".stage") since (L.folder logs.new) spec.now moment counts) }
-    ensures refused { IfErr result (λ status. (since : Option Folder) → OnlyGrow since (L.folder logs.old) → HoldsQuery since (L.folder logs.old) spec.now.query text (query_of query.now) → IsRefusedBehind (D.state disk.old) ledger.now (ledger.now ++ codes ".stage") since (L.folder logs.new) spec.now moment status) }
-    ensures given { (since : Option Folder) (given : ℕ) → OnlyGrow since (L.folder logs.old) → HoldsQuery since (L.folder logs.old) spec.now.query text (query_of query.now) → ReadsOnce (L.folder logs.old) (query_files spec.now.query) given (L.given logs.old)
+    ensures ran { IfOk result (λ counts. (since : Option Folder) → OnlyGrow since (L.folder logs.old) → HoldsQuery since (L.folder logs.old) spec.now.query text (query_of query.old) → IsCounted D.state (D.state disk.old) ledger.now (ledger.now ++ codes ".stage") since (L.folder logs.new) spec.now moment counts) }
+    ensures refused { IfErr result (λ status. (since : Option Folder) → OnlyGrow since (L.folder logs.old) → HoldsQuery since (L.folder logs.old) spec.now.query text (query_of query.old) → IsRefusedBehind (D.state disk.old) ledger.now (ledger.now ++ codes ".stage") since (L.folder logs.new) spec.now moment status) }
+    ensures given { (since : Option Folder) (given : ℕ) → OnlyGrow since (L.folder logs.old) → HoldsQuery since (L.folder logs.old) spec.now.query text (query_of query.old) → ReadsOnce (L.folder logs.old) (query_files spec.now.query) given (L.given logs.old)
         → ReadsBehind (D.state disk.old) ledger.now (ledger.now ++ codes ".stage") since (L.folder logs.new) spec.now given (L.given logs.new) }
     ensures later_logs { L.faults logs.old ≤ L.faults logs.new }
     ensures later { D.faults disk.old ≤ D.faults disk.new }
@@ -133,7 +135,8 @@ fn run_query<L: Logs, D: Disk>(
 
 /// Runs the query of the words with a checkpoint: settles the disk, reads the query and its template, and takes of each log behind
 /// FROM the complete lines behind its kept place; the outputs and the run's entry are committed together. Or why there are no
-/// counts. `input` is left as it is, and of the logs no more is read than stands behind the kept places.
+/// counts. `input` is left as it is, and of the logs no more is read than stands behind the kept places, beside those of
+/// subqueries.
 pub fn run_with_checkpoint<L: Logs, D: Disk>(
     alloc: Global,
     spec: &Spec,
@@ -146,6 +149,8 @@ pub fn run_with_checkpoint<L: Logs, D: Disk>(
     requires range { IsInRange spec.now }
     requires ledger { spec.now.checkpoint ≡ Some ledger.now }
     requires stage { name_fault (ledger.now ++ codes ".stage") ≡ None }
+    // Whatever the query, a template is named where the output is by one.
+    requires texts { (q : model.Query) → has_text spec.now (output_of spec.now q) ≡ true }
     ensures grows { OnlyGrow (L.folder logs.old) (L.folder logs.new) }
     ensures step { TakesSteps spec.now ledger.now (ledger.now ++ codes ".stage") moment (L.folder logs.old) (L.folder logs.new) (D.state disk.old) (D.state disk.new) result }
     ensures whole { IfOk result (IsWhole D.state disk.old ledger.now (ledger.now ++ codes ".stage") (L.folder logs.old) (L.folder logs.new) spec.now moment) }
@@ -164,7 +169,8 @@ pub fn run_with_checkpoint<L: Logs, D: Disk>(
         Ok(written) => written,
         Err(status) => return Err(status),
     };
-    let counted = run_query(alloc, spec, ledger, moment, logs, disk, &query, text);
+    let mut query = query;
+    let counted = run_query(alloc, spec, ledger, moment, logs, disk, &mut query, text);
     drop(query);
     counted
 }

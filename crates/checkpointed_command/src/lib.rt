@@ -13,6 +13,9 @@ mod settling;
 mod statuses;
 mod template;
 
+pub use checkpointed_run::{
+    Ran, RunFault, SubqueryFault, execute, is_standard, reads_stdin, run_subqueries,
+};
 pub use command::run_with_checkpoint;
 pub use names::texts_of;
 pub use statuses::{stopped, unasked, untemplated};

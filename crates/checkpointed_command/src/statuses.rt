@@ -1,11 +1,10 @@
 // What each fault of a run is as its answer.
 ghost use Rattle.std.specs.Prelude.{◌≡◌, ◌⊎◌};
 ghost use Rattle.reports.specs.declared.status.Status.TheVariants as S;
-ghost use Rattle.checkpointed_command.specs.Statuses.{stopped, unasked, untemplated, unplaced, unsettled, unloaded, unspanned, broken_off, IsAnswerTo};
+ghost use Rattle.checkpointed_command.specs.Statuses.{stopped, unasked, untemplated, unplaced, unsettled, unloaded, unspanned, IsAnswerTo, IsBrokenOff, IsUngivenAs};
 
-use checkpointed_run::{LedgerStop, RunStop};
+use checkpointed_run::{LedgerStop, RunFault, RunStop, SubqueryFault};
 use commit::CommitFault;
-use execution::RunFault;
 use lp_outside::Name;
 use lp_values::Text;
 use positions::{LoadFault, SpanFault};
@@ -109,16 +108,6 @@ fn unspanned(fault: SpanFault) -> Status
     }
 }
 
-// Why a run over spans stopped.
-fn broken_off(stop: RunStop) -> Status
-    ensures { result ≡ broken_off stop }
-{
-    match stop {
-        RunStop::Refused(fault) => stopped(false, fault),
-        RunStop::BeforeGate(fault) | RunStop::FromGate(fault) => unsettled(fault),
-    }
-}
-
 // A log that has the name of the ledger or the stage.
 fn clash(alloc: Global, name: &Name) -> Status
     ensures { (result ≡ S.NameClash name.now) ⊎ (result ≡ S.Memory) }
@@ -126,6 +115,34 @@ fn clash(alloc: Global, name: &Name) -> Status
     match Text::from_str(alloc, name.as_str()) {
         Ok(name) => Status::NameClash(name),
         Err(_) => Status::Memory,
+    }
+}
+
+// Why a subquery gives nothing.
+fn ungiven(alloc: Global, fault: SubqueryFault) -> Status
+    ensures { IsUngivenAs fault result }
+{
+    match fault {
+        SubqueryFault::BadName(fault) => Status::BadName(fault),
+        SubqueryFault::NoSuchLog(name) => Status::NoSuchLog(name),
+        SubqueryFault::TooManyLogs => Status::TooManyLogs,
+        SubqueryFault::Clash(name) => clash(alloc, &name),
+        SubqueryFault::Plan(fault) => Status::Query(QueryFault::Plan(fault)),
+        SubqueryFault::Bad { log, row } => Status::ParseErrors { log, row },
+        SubqueryFault::Logs => Status::LogsFault,
+        SubqueryFault::Memory => Status::Memory,
+    }
+}
+
+// Why a run over spans stopped.
+fn broken_off(alloc: Global, stop: RunStop) -> Status
+    ensures { IsBrokenOff stop result }
+{
+    match stop {
+        RunStop::Subquery(fault) => ungiven(alloc, fault),
+        RunStop::Refused(fault) => stopped(false, fault),
+        RunStop::BeforeGate(fault) => unsettled(fault),
+        RunStop::FromGate(fault) => unsettled(fault),
     }
 }
 
@@ -137,7 +154,7 @@ pub(crate) fn uncounted(alloc: Global, stop: LedgerStop) -> Status
         LedgerStop::Ledger(fault) => unloaded(fault),
         LedgerStop::Logs(fault) => unspanned(fault),
         LedgerStop::Clash(name) => clash(alloc, &name),
-        LedgerStop::Run(stop) => broken_off(stop),
+        LedgerStop::Run(stop) => broken_off(alloc, stop),
         LedgerStop::Memory => Status::Memory,
     }
 }

@@ -2,7 +2,7 @@
 ghost use Rattle.std.specs.Prelude.{◌≡◌, ◌≤◌, ◌∷◌, [], true, length, IfOk, IfErr, IsErrOf, IsSome, None};
 ghost use Rattle.lp_model.specs.Outside.{OnlyGrow, Rose, Told};
 ghost use Rattle.command_words.specs.declared.formats.OutputFormat.TheVariants as O;
-ghost use Rattle.execution.specs.Texts.{has_text, output_of, sections_in};
+ghost use Rattle.checkpointed_run.specs.Texts.{has_text, output_of, sections_in};
 ghost use Rattle.query_tree.specs.Views.{query_of};
 ghost use Rattle.requests.specs.Given.{ReadsOnce};
 ghost use Rattle.requests.specs.Templates.{IsNoTemplate};
@@ -12,8 +12,8 @@ ghost use Rattle.checkpointed_command.specs.Given.{template_files};
 ghost use Rattle.checkpointed_command.specs.Templates.{FindsTemplate, HoldsNone};
 ghost use Rattle.requests.specs.declared.fault.NoTemplate.TheVariants as N;
 
+use checkpointed_run::output_of;
 use command_words::{OutputFormat, Spec};
-use execution::output_of;
 use lp_outside::{Logs, Name};
 use lp_values::Bytes;
 use query_tree::Query;

@@ -4,15 +4,15 @@ use Rattle.std.specs.Result.{IsErrOf}
 use Rattle.commit.specs.Faults.{BreaksAt, IsApart}
 use Rattle.commit.specs.Resume.{CanSettle}
 use Rattle.disk_model.specs.Disk.{DiskState, Files, IsImage}
-use Rattle.execution.specs.Executed.{IsParseError, IsUnplaced, IsUnplanned}
-use Rattle.execution.specs.Faults.{IfParse, IfPlan, IfRefused}
-use Rattle.execution.specs.Formats.{log_format}
-use Rattle.execution.specs.Outputs.{asked_in}
+use Rattle.run_entry.specs.Executed.{IsParseError, IsUnplaced, IsUnplanned}
+use Rattle.run_entry.specs.Faults.{IfParse, IfPlan, IfRefused}
+use Rattle.run_entry.specs.Formats.{log_format}
+use Rattle.run_entry.specs.Outputs.{asked_in}
 use Rattle.lp_model.specs.Outside.{Folder}
 use Rattle.tpl_output.specs.Sections.{Sections}
 use Rattle.run_entry.specs.Entries.{Request}
-use Rattle.execution.specs.declared.fault.RunFault.{RunFault}
-use Rattle.execution.specs.declared.fault.RunFault.TheVariants as X
+use Rattle.run_entry.specs.RunFault.{RunFault}
+use Rattle.run_entry.specs.RunFault.TheVariants as X
 use Rattle.ledger.specs.Reader.{Rests}
 use Rattle.ledger_model.proofs.Reading.{ledger_apart}
 use Rattle.positions.specs.declared.fault.LoadFault.TheVariants as P
@@ -24,7 +24,9 @@ use Rattle.log_reading.specs.declared.span.Span.{Span}
 use Rattle.checkpointed_run.specs.Reasons.{IsDamage, RefusedFor, StopsAtDamage}
 use Rattle.checkpointed_run.specs.Refusals.{IsNotBegun}
 use Rattle.checkpointed_run.specs.Steps.{IsDamaged}
-use Rattle.checkpointed_run.specs.Stops.{IsFaultDamage}
+use Rattle.run_entry.specs.SubqueryFault.{SubqueryFault}
+use Rattle.run_entry.specs.SubqueryFault.TheVariants as Q
+use Rattle.checkpointed_run.specs.Stops.{HasReason, IsDamagedStop, IsFaultDamage, RunReason, SubqueryReason}
 use Rattle.checkpointed_run.specs.declared.over.LedgerStop.{LedgerStop}
 use Rattle.checkpointed_run.specs.declared.over.LedgerStop.TheVariants as L
 use Rattle.checkpointed_run.specs.declared.staging.StagedRun.{StagedRun}
@@ -51,6 +53,7 @@ damage_is disk ledger stage (C.LedgerFault part at) breaks = breaks part at refl
 
 -- was broken before some reads
 pub damage_rested : (a b : DiskState) (ledger stage : List ℕ) → Rests a b → (stop : RunStop) → StopsAtDamage b ledger stage stop → StopsAtDamage a ledger stage stop
+damage_rested a b ledger stage rests (R.Subquery fault) is = tt
 damage_rested a b ledger stage rests (R.Refused fault) is = tt
 damage_rested a b ledger stage rests (R.BeforeGate C.DiskFault) is = tt
 damage_rested a b ledger stage rests (R.BeforeGate (C.LedgerFault part at)) is = λ tells apart.
@@ -58,6 +61,50 @@ damage_rested a b ledger stage rests (R.BeforeGate (C.LedgerFault part at)) is =
     let same : b.seen ≡ a.seen = λ i name. shows.seen name i in
     subst (λ (seen : Files). BreaksAt ledger stage seen part at) same (is shows.tells (subst (λ (seen : Files). IsApart ledger stage seen) (sym same) apart))
 damage_rested a b ledger stage rests (R.FromGate fault) is = tt
+
+-- a run that tells no damage has found none
+pub not_damaged : (disk : DiskState) (ledger stage : List ℕ) (stop : RunStop) → (IsDamagedStop stop → ⊥) → StopsAtDamage disk ledger stage stop
+not_damaged disk ledger stage (R.Subquery fault) none = tt
+not_damaged disk ledger stage (R.Refused fault) none = tt
+not_damaged disk ledger stage (R.BeforeGate C.DiskFault) none = tt
+not_damaged disk ledger stage (R.BeforeGate (C.LedgerFault part at)) none = absurd (none tt)
+not_damaged disk ledger stage (R.FromGate fault) none = tt
+
+-- a fault that was counted behind a moment was counted behind an earlier one
+pub reason_earlier : (logs disk since : Type 0) (stop : RunStop) → (disk → since) → HasReason logs disk stop → HasReason logs since stop
+reason_earlier logs disk since (R.Subquery fault) to is = is
+reason_earlier logs disk since (R.Refused fault) to is = of_run fault is
+  where
+    of_run : (fault : RunFault) → RunReason logs disk fault → RunReason logs since fault
+    of_run (X.Plan fault) is = tt
+    of_run (X.Refused why) is = tt
+    of_run X.LogsFault is = is
+    of_run X.StageFault is = to is
+    of_run (X.ParseErrors log row) is = tt
+    of_run X.Memory is = tt
+reason_earlier logs disk since (R.BeforeGate C.DiskFault) to is = to is
+reason_earlier logs disk since (R.BeforeGate (C.LedgerFault part at)) to is = tt
+reason_earlier logs disk since (R.FromGate C.DiskFault) to is = to is
+reason_earlier logs disk since (R.FromGate (C.LedgerFault part at)) to is = tt
+
+-- a refused run by its fault, whose calls failed for a reason
+pub run_reason : {T : Type 0} (logs disk : Type 0) (fault : RunFault) → (IsErrOf {T = T} (Err fault) X.LogsFault → logs) → (IsErrOf {T = T} (Err fault) X.StageFault → disk) → RunReason logs disk fault
+run_reason logs disk (X.Plan fault) of_logs of_disk = tt
+run_reason logs disk (X.Refused why) of_logs of_disk = tt
+run_reason logs disk X.LogsFault of_logs of_disk = of_logs refl
+run_reason logs disk X.StageFault of_logs of_disk = of_disk refl
+run_reason logs disk (X.ParseErrors log row) of_logs of_disk = tt
+run_reason logs disk X.Memory of_logs of_disk = tt
+
+pub subquery_reason : {T : Type 0} (logs : Type 0) (fault : SubqueryFault) → (IsErrOf {T = T} (Err fault) Q.Logs → logs) → SubqueryReason logs fault
+subquery_reason logs (Q.BadName fault) of_logs = tt
+subquery_reason logs (Q.NoSuchLog name) of_logs = tt
+subquery_reason logs Q.TooManyLogs of_logs = tt
+subquery_reason logs (Q.Clash name) of_logs = tt
+subquery_reason logs (Q.Plan fault) of_logs = tt
+subquery_reason logs (Q.Bad log row) of_logs = tt
+subquery_reason logs Q.Logs of_logs = of_logs refl
+subquery_reason logs Q.Memory of_logs = tt
 
 -- no damage was told where each was ruled out
 pub none_told : {T : Type 0} (fault : LedgerRefused) → ((part : Part2) (p : ℕ) → IsErrOf {T = T} {E = LedgerRefused} (Err fault) (C.LedgerFault part p) → ⊥) → IsFaultDamage fault → ⊥

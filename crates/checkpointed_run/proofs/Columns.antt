@@ -13,9 +13,9 @@ use Rattle.std.proofs.lemmas.Str.{IsUtf8-append, IsUtf8-nil, IsUtf8-from_is_utf8
 use Rattle.std.proofs.lemmas.List.FromFn.{length-enumerate_from, length-map-range_with_len}
 use Rattle.std.proofs.lemmas.Fmt.{IsAscii-decimal, length-decimal-le_succ}
 use Rattle.std.specs.Option.{option_to_list}
-use Rattle.execution.specs.Formats.{lines_in}
-use Rattle.execution.specs.declared.formats.LogFormat.{LogFormat}
-use Rattle.execution.specs.declared.formats.LogFormat.TheVariants as F
+use Rattle.run_entry.specs.Formats.{lines_in}
+use Rattle.run_entry.specs.LogFormat.{LogFormat}
+use Rattle.run_entry.specs.LogFormat.TheVariants as F
 use Rattle.input_tables.specs.declared.format.TableFormat.{TableFormat}
 use Rattle.input_tables.specs.declared.format.TableFormat.TheVariants as T
 use Rattle.input_tables.specs.Tables.{lines_of as table_lines}

@@ -6,9 +6,10 @@ use Rattle.std.specs.Str.{IsUtf8}
 use Rattle.std.proofs.lemmas.List.{length-map, length-take}
 use Rattle.std.proofs.lemmas.List.Elements.{recursion_from_All}
 use Rattle.std.proofs.lemmas.Slice.Eq.{bytes_eq-Decides}
-use Rattle.grammar.specs.Trees.{Placed}
-use Rattle.execution.specs.Formats.{lines_in, log_format}
-use Rattle.execution.specs.declared.formats.LogFormat.{LogFormat}
+use Rattle.grammar.specs.Filled.{PlacedGiven}
+use Rattle.grammar.specs.Trees.{Placed, Query}
+use Rattle.run_entry.specs.Formats.{lines_in, log_format}
+use Rattle.run_entry.specs.LogFormat.{LogFormat}
 use Rattle.log_listing.specs.Firsts.{is_among}
 use Rattle.log_reading.specs.Spans.{AllSpans, IsSpan, cut_of, last_end, span_end, took_of}
 use Rattle.log_reading.specs.declared.span.Span.{Span}
@@ -26,8 +27,8 @@ use Rattle.text_output.specs.declared.target.Output.{Output}
 use Rattle.tpl_output.specs.Sections.{Sections}
 use Rattle.run_entry.specs.Entries.{Request}
 use Rattle.run_entry.specs.Forms.{AreOutputs, HasForm, IsFileName, IsNewName, IsOutput, IsRequest, IsTook}
-use Rattle.checkpointed_run.specs.Grounds.{IsRead}
 use Rattle.checkpointed_run.specs.Staged.{AreParts, IsWord}
+use Rattle.checkpointed_run.proofs.Asking.{IsReadWith}
 use Rattle.checkpointed_run.proofs.Columns.{standing_fits, standing_short}
 use Rattle.checkpointed_run.proofs.Grounded.{spans_low}
 use Rattle.checkpointed_run.proofs.Next.{names_of, names_split, test_first, test_rest}
@@ -43,9 +44,9 @@ words_short [] all = tt
 words_short (word ∷ words) (is, all) = (is.short, words_short words all)
 
 -- a query's text is short and UTF-8, since it is read
-pub request_formed : (words : List (List ℕ)) (request : Request) (template : Sections) (into : Placed) (took : List Took) (outputs : List Output) (counts : Counts) → IsRead words request template into
-    → AreParts request.spec.words request.template took outputs counts → IsRequest request
-request_formed words request template into took outputs counts read parts =
+pub request_formed : (words : List (List ℕ)) (request : Request) (q : Query) (givens : List PlacedGiven) (lists : List (List Value)) (template : Sections) (into : Placed) (took : List Took) (outputs : List Output) (counts : Counts)
+    → IsReadWith words request q givens template into → AreParts request.spec.words request.template lists took outputs counts → IsRequest request
+request_formed words request q givens lists template into took outputs counts read parts =
     let each : AllByRecursion IsWord request.spec.words = recursion_from_All IsWord request.spec.words parts.each_word in
     let readable = read.query.parses.are.readable in
     record {
@@ -140,18 +141,19 @@ module _ {S : Type 0} (kind : StageKind S) (files : Files) (text : OutputText) (
       )
 
   -- the whole
-  pub has_form : (words : List (List ℕ)) (request : Request) (template : Sections) (into : Placed) (folder : Folder) (spans : List Span) (took : List Took) (rows : List (List Value)) (outputs : List Output) (staged : ℕ) (counts : Counts)
-      → IsRead words request template into → AllSpans spans IsSpan → length spans ≤ 100_000 → took ≡ map (took_of (lines_in (log_format request.spec request.q)) folder) spans → FilesHold kind files text start rows outputs now → staged < 2 ^ 64
-      → AreParts request.spec.words request.template took outputs counts → HasForm request took outputs staged counts
-  has_form words request template into folder spans took rows outputs staged counts read low few took_is hold small parts =
+  pub has_form : (words : List (List ℕ)) (request : Request) (q : Query) (givens : List PlacedGiven) (lists : List (List Value)) (template : Sections) (into : Placed) (folder : Folder) (spans : List Span) (took : List Took) (rows : List (List Value)) (outputs : List Output) (staged : ℕ) (counts : Counts)
+      → IsReadWith words request q givens template into → AllSpans spans IsSpan → length spans ≤ 100_000 → took ≡ map (took_of (lines_in (log_format request.spec request.q)) folder) spans → FilesHold kind files text start rows outputs now → staged < 2 ^ 64
+      → AreParts request.spec.words request.template lists took outputs counts → HasForm request lists took outputs staged counts
+  has_form words request q givens lists template into folder spans took rows outputs staged counts read low few took_is hold small parts =
       let format : LogFormat = log_format request.spec request.q in
       let names : AllByRecursion (λ (log : Took). IsFileName log.identity) took = recursion_from_All (λ (log : Took). IsFileName log.identity) took parts.each_log in
       let written = written_formed rows outputs hold (recursion_from_All IsOutput outputs parts.each_output) in
       let many : length took ≡ length spans = ap length took_is ∙ length-map spans (took_of (lines_in format) folder) in
       record {
-        request_fits = request_formed words request template into took outputs counts read parts;
+        request_fits = request_formed words request q givens lists template into took outputs counts read parts;
         spans = subst (AllByRecursion IsTook) (sym took_is) (spans_formed format folder spans (spans_low spans low) (subst (AllByRecursion (λ (log : Took). IsFileName log.identity)) took_is names));
         few_spans = omega (arith, many, few);
+        kept = parts.kept;
         outputs = written.0;
         few_outputs = written.1;
         staged = small;

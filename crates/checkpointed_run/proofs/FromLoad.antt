@@ -10,7 +10,7 @@ use Rattle.lp_model.specs.Outside.{Folder, Grows}
 use Rattle.grammar.specs.Trees.{Placed}
 use Rattle.commit.specs.declared.phases.Commit.{Commit}
 use Rattle.commit.specs.Phases.{disk_of, ledger_of, stage_of, Same, SettlesHeld, Unsettled}
-use Rattle.execution.specs.Formats.{lines_in, log_format}
+use Rattle.run_entry.specs.Formats.{lines_in, log_format}
 use Rattle.log_reading.specs.Spans.{AllSpans, IsSpan}
 use Rattle.log_reading.specs.declared.span.Span.{Span}
 use Rattle.positions.specs.Places.{Kept, Keeps}
@@ -21,9 +21,9 @@ use Rattle.query_text.specs.Stdin.{names_in}
 use Rattle.run_model.specs.Logs.{Logs}
 use Rattle.run_model.specs.Steps.{Setting, Gain, MayRun, Ending, well, disk_failed, RunStep}
 use Rattle.tpl_output.specs.Sections.{Sections}
-use Rattle.program_meaning.specs.Inputs.{format_in, input_for}
-use Rattle.program_meaning.specs.Meaning.{meaning}
-use Rattle.program_meaning.proofs.OneMeaning.{is_one}
+use Rattle.run_entry.specs.Inputs.{format_in, input_for}
+use Rattle.run_entry.specs.Meaning.{meaning}
+use Rattle.run_entry.proofs.OneMeaning.{is_one}
 use Rattle.run_entry.specs.Entries.{Request}
 use Rattle.checkpointed_run.specs.Committed.{IsCommitted, StopsAtGate}
 use Rattle.checkpointed_run.specs.Grounds.{IsRead, asked_by_request}
@@ -61,32 +61,32 @@ module _ {D : Type 0} (state : D → DiskState)
       (settles_behind state counts_now first old same near new settles)
 
   module _ (kept : Kept) (keeps : (entries : List Entry) (files : Contents) → Recovers (ledger_of first) (stage_of first) entries files (disk_of state first).seen → Keeps entries kept) (agrees : Agrees kept.input (input_text (input_for request.spec request.q)))
-      (mid now : Folder) (grown : Grows before.folder mid) (grows : Grows now after_logs.folder) (spans : List Span) (low : AllSpans spans IsSpan)
+      (mid now : Folder) (grown : Grows before.folder mid) (since : Grows before.folder now) (grows : Grows now after_logs.folder) (spans : List Span) (low : AllSpans spans IsSpan)
       (are : (entries : List Entry) → AreOf (rule_of request.spec.rotation) entries kept → AreSpansOf (rule_of request.spec.rotation) kept.places entries (map (λ name. name.text) (names_in request.q)) (Some mid) (Some now) spans)
       (ledger_is : request.spec.checkpoint ≡ Some (ledger_of first)) (stage_is : stage_of first ≡ ledger_of first ++ codes ".stage") where
     wider : (entries : List Entry) → AreOf (rule_of request.spec.rotation) entries kept → AreSpansOf (rule_of request.spec.rotation) kept.places entries (map (λ name. name.text) (names_in request.q)) (Some before.folder) (Some after_logs.folder) spans
     wider entries of = spans_wider before.folder mid now after_logs.folder grown grows (rule_of request.spec.rotation) kept.places entries (map (λ name. name.text) (names_in request.q)) spans (are entries of)
 
-    behind : (new : Commit D) (counts : Counts) → IsCommitted state request template (Some after_logs.folder) spans old new counts → IsCommitted state request template (Some after_logs.folder) spans first new counts
-    behind new counts is = committed_behind state counts_now first old same near request template (Some after_logs.folder) spans new counts is
+    behind : (new : Commit D) (counts : Counts) → IsCommitted state request template (Some now) (Some after_logs.folder) spans old new counts → IsCommitted state request template (Some before.folder) (Some after_logs.folder) spans first new counts
+    behind new counts is = committed_behind state counts_now first old same near request template (Some before.folder) (Some now) (Some after_logs.folder) spans new counts since is
 
-    stopped : (new : Commit D) (stop : RunStop) → StopsAtGate state request template (Some after_logs.folder) spans old new stop → StopsAtGate state request template (Some after_logs.folder) spans first new stop
-    stopped new stop is = stopped_behind state counts_now first old same near request template (Some after_logs.folder) spans new stop is
+    stopped : (new : Commit D) (stop : RunStop) → StopsAtGate state request template (Some now) (Some after_logs.folder) spans old new stop → StopsAtGate state request template (Some before.folder) (Some after_logs.folder) spans first new stop
+    stopped new stop is = stopped_behind state counts_now first old same near request template (Some before.folder) (Some now) (Some after_logs.folder) spans new stop since is
 
     -- the run was whole
-    pub step_committed : (new : Commit D) (counts : Counts) (is : IsCommitted state request template (Some after_logs.folder) spans old new counts) → IsStep well new
+    pub step_committed : (new : Commit D) (counts : Counts) (is : IsCommitted state request template (Some now) (Some after_logs.folder) spans old new counts) → IsStep well new
     step_committed new counts is = commits state only_now seen_left counts_now honest_tells words request template into read text_law setting before after_logs first may gain is_one
         kept keeps agrees spans low wider ledger_is stage_is new counts (behind new counts is)
 
-    pub counted : (new : Commit D) (counts : Counts) (is : IsCommitted state request template (Some after_logs.folder) spans old new counts) → HasCounted (setting_by first setting) before (disk_of state first) (disk_of state new) counts
+    pub counted : (new : Commit D) (counts : Counts) (is : IsCommitted state request template (Some now) (Some after_logs.folder) spans old new counts) → HasCounted (setting_by first setting) before (disk_of state first) (disk_of state new) counts
     counted new counts is = commits_counted state only_now seen_left counts_now honest_tells words request template into read text_law setting before after_logs first may gain is_one
         kept keeps agrees spans low wider ledger_is stage_is new counts (behind new counts is)
 
     -- the disk stopped it at its gate or behind it
-    pub step_at_gate : (new : Commit D) (stop : RunStop) (is : StopsAtGate state request template (Some after_logs.folder) spans old new stop) → IsStep disk_failed new
+    pub step_at_gate : (new : Commit D) (stop : RunStop) (is : StopsAtGate state request template (Some now) (Some after_logs.folder) spans old new stop) → IsStep disk_failed new
     step_at_gate new stop is = stops_at_gate state only_now seen_left counts_now honest_tells words request template into read text_law setting before after_logs first may gain is_one
         kept keeps agrees spans low wider ledger_is stage_is new stop (stopped new stop is)
 
-    pub undamaged_at_gate : (new : Commit D) (stop : RunStop) (is : StopsAtGate state request template (Some after_logs.folder) spans old new stop) → IsDamagedStop stop → ⊥
+    pub undamaged_at_gate : (new : Commit D) (stop : RunStop) (is : StopsAtGate state request template (Some now) (Some after_logs.folder) spans old new stop) → IsDamagedStop stop → ⊥
     undamaged_at_gate new stop is = gate_undamaged state only_now seen_left counts_now honest_tells words request template into read text_law setting before after_logs first may gain is_one
         kept keeps agrees spans low wider ledger_is stage_is new stop (stopped new stop is)

@@ -22,7 +22,7 @@ use Rattle.run_model.specs.Right.{GoesOn, FollowFrom}
 use Rattle.positions.specs.Places.{Kept, Keeps, IsPlaceOf, IsEndOf, last_from, last_of, place_in}
 use Rattle.positions.specs.Spans.{start_of}
 use Rattle.positions.specs.declared.place.Place.{Place}
-use Rattle.program_meaning.proofs.Ends.{last_end_is_last, standing_at_end}
+use Rattle.run_entry.proofs.Ends.{last_end_is_last, standing_at_end}
 use Rattle.run_entry.specs.Entries.{kept_span}
 use Rattle.checkpointed_run.specs.Sound.{IsSound}
 

@@ -13,7 +13,7 @@ use Rattle.log_reading.specs.Spans.{AllSpans, IsSpan, took_of}
 use Rattle.log_reading.specs.declared.span.Span.{Span}
 use Rattle.command_words.specs.Table.{rotation_of}
 use Rattle.query_text.specs.Stdin.{names_in}
-use Rattle.execution.specs.Formats.{lines_in, log_format}
+use Rattle.run_entry.specs.Formats.{lines_in, log_format}
 use Rattle.run_model.specs.Kept.{spans_of}
 use Rattle.run_model.specs.Listed.{Listed, Lists, ListsStem}
 use Rattle.run_model.specs.Logs.{Rotation, names, numbers, Logs}
@@ -24,10 +24,10 @@ use Rattle.positions.specs.Spans.{Agrees}
 use Rattle.positions.specs.Spanning.{AreSpansOf, Reaches, rule_of}
 use Rattle.tpl_output.specs.Sections.{Sections}
 use Rattle.grammar.specs.Trees.{Placed}
-use Rattle.program_meaning.specs.Asked.{Asks}
-use Rattle.program_meaning.specs.Inputs.{format_in, input_for}
-use Rattle.program_meaning.specs.Meaning.{meaning, IsInput, ReachesLogs, HaveFiles, HasFile}
-use Rattle.program_meaning.proofs.Options.{rotation_by_options}
+use Rattle.run_entry.specs.ProgramMeaningAsked.{Asks}
+use Rattle.run_entry.specs.Inputs.{format_in, input_for}
+use Rattle.run_entry.specs.Meaning.{meaning, IsInput, ReachesLogs, HaveFiles, HasFile}
+use Rattle.run_entry.proofs.Options.{rotation_by_options}
 use Rattle.run_entry.specs.Entries.{Request, kept_span}
 use Rattle.checkpointed_run.specs.Grounds.{IsRead, GoOn, asked_by_request}
 use Rattle.checkpointed_run.proofs.Apart.{are_apart}

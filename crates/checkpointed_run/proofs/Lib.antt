@@ -24,3 +24,11 @@ pub mod Loaded
 pub mod FromLoad
 pub mod Causes
 pub mod OverDisk
+pub mod Asking
+pub mod Subqueries
+pub mod Values
+pub use Rattle.run_entry.proofs.FormatLemmas
+pub use Rattle.run_entry.proofs.OneMeaning
+pub use Rattle.run_entry.proofs.Options
+pub use Rattle.run_entry.proofs.Clashing
+pub use Rattle.run_entry.proofs.SubqueriesSteps

@@ -1,21 +1,22 @@
 -- A run that was carried out makes an entry that may come next, and its texts are staged.
-use Rattle.std.proofs.Common.{◌≡◌, ◌≢◌, ℕ, zero, suc, ◌<◌, ◌≤◌, ◌^◌, ◌||◌, Bool, true, false, true≢false, List, [], ◌∷◌, ◌++◌, length, map, filter, Option, Some, refl, sym, ◌∙◌, ap, subst, arith, inl, inr}
-use Rattle.std.specs.Prelude.{IfSome, All, codes, bytes_eq}
+use Rattle.std.proofs.Common.{◌≡◌, ◌≢◌, ℕ, zero, suc, ◌+◌, ◌<◌, ◌≤◌, ◌^◌, ◌||◌, Bool, true, false, true≢false, List, [], ◌∷◌, ◌++◌, length, map, filter, Option, Some, refl, sym, ◌∙◌, ap, subst, arith, inl, inr}
+use Rattle.std.specs.Prelude.{IfSome, All, Ok, codes, bytes_eq}
 use Rattle.std.specs.List.{AllByRecursion, AllZip}
 use Rattle.std.proofs.lemmas.Bool.{cases_Bool}
 use Rattle.std.proofs.lemmas.List.Elements.{All-head, All-tail}
 use Rattle.std.proofs.lemmas.Slice.Eq.{bytes_eq-Decides}
-use Rattle.grammar.specs.Trees.{Placed}
+use Rattle.grammar.specs.Filled.{PlacedGiven, filled, given_bad}
+use Rattle.grammar.specs.Trees.{Placed, Query}
 use Rattle.commit.specs.declared.phases.Commit.{Commit}
 use Rattle.commit.specs.Phases.{disk_of, ledger_of, stage_of, staged_of, stage_state, HasFrames}
 use Rattle.commit.specs.States.{HasStaged}
 use Rattle.ledger_model.specs.Grammar.{IsEntry, payload_of}
 use Rattle.disk_model.specs.Disk.{DiskState}
 use Rattle.disk_model.specs.Disk.{Files as Contents}
-use Rattle.execution.specs.Formats.{lines_in, log_format}
-use Rattle.execution.specs.Outputs.{asked_in, files_named, forbidden_by, log_names, own_names}
-use Rattle.execution.specs.Plans.{PlannedQuery, asked_for}
-use Rattle.execution.specs.Texts.{into_in, run_text}
+use Rattle.run_entry.specs.Formats.{lines_in, log_format}
+use Rattle.run_entry.specs.Outputs.{asked_in, files_named, forbidden_by, log_names, own_names}
+use Rattle.run_entry.specs.Plans.{PlannedQuery, asked_for, query_plan}
+use Rattle.run_entry.specs.Texts.{into_in, run_text}
 use Rattle.ledger_model.specs.Entries.{Entry}
 use Rattle.ledger_model.specs.Entries.{Span as EntrySpan}
 use Rattle.ledger_model.specs.Inputs.{input_text}
@@ -42,18 +43,22 @@ use Rattle.run_model.specs.Right.{IsNext, AreOutputs, AreApart as SpansApart, Go
 use Rattle.text_output.specs.Output.{StageKind, kind_of}
 use Rattle.text_output.specs.declared.target.Output.{Output}
 use Rattle.tpl_output.specs.Sections.{Sections}
-use Rattle.program_meaning.specs.Asked.{Asks}
-use Rattle.program_meaning.specs.Gives.{Gives, GivesOver, split_of, past_in, rows_over}
-use Rattle.program_meaning.specs.Inputs.{format_in, input_for}
-use Rattle.program_meaning.specs.Meaning.{meaning, mode_as}
-use Rattle.program_meaning.proofs.Meant.{ArePartsOf, past_is, rows_are, bad_are}
+use Rattle.run_entry.specs.ProgramMeaningAsked.{Asks}
+use Rattle.run_entry.specs.Gives.{Gives, GivesOver, split_of, past_in, rows_over, table_over}
+use Rattle.run_entry.specs.Inputs.{format_in, input_for}
+use Rattle.run_entry.specs.Meaning.{meaning, mode_as}
+use Rattle.run_entry.specs.Lists.{with_lists}
+use Rattle.run_entry.proofs.Filled.{PutsFilled, gives_filled, input_filled}
+use Rattle.run_entry.proofs.Listed.{one_each, plan_with_lists}
+use Rattle.run_entry.proofs.Meant.{ArePartsOf, past_is, rows_are, bad_are}
+use Rattle.run_entry.specs.Giving.{GiveThese}
 use Rattle.run_entry.specs.Entries.{Request, entry_for, kept_span, kept_output}
 use Rattle.checkpointed_run.specs.Carried.{IsCarriedOut}
 use Rattle.checkpointed_run.specs.Files.{files_with, ArePlaced}
-use Rattle.checkpointed_run.specs.Grounds.{IsRead, GoOn}
+use Rattle.checkpointed_run.specs.Grounds.{GoOn}
 use Rattle.checkpointed_run.specs.Sound.{IsSound}
+use Rattle.checkpointed_run.proofs.Asking.{IsReadWith}
 use Rattle.checkpointed_run.proofs.Meant.{IsMet, met}
-use Rattle.execution.proofs.NotGiven.{none_bad}
 use Rattle.checkpointed_run.proofs.OutputsApart.{outputs_apart}
 use Rattle.checkpointed_run.proofs.Placed.{outputs_are}
 use Rattle.column_kinds.specs.Past.{Past}
@@ -143,7 +148,8 @@ opened kind files asked start now rows outputs is holds = subst (λ (f : Option 
 
 module _ {D : Type 0} (state : D → DiskState) (ended : Commit D → List ℕ → ℕ → Mark → Type 0) (words : List (List ℕ)) (request : Request) (template : Sections) (into : Placed) (written : Written) (folder : Folder)
     (spans : List Span) (started now : Commit D) (took : List Took) (outputs : List Output) (counts : Counts) (entries : List Entry) (before : Contents)
-    (read : IsRead words request template into) (carried : IsCarriedOut state ended request template (Some folder) spans started now took outputs counts) (go : GoOn request written folder entries spans)
+    (q : Query) (givens : List PlacedGiven) (lists : List (List Value)) (earlier : Option Folder) (give : GiveThese request.spec request.moment earlier (Some folder) q givens lists)
+    (read : IsReadWith words request q givens template into) (carried : IsCarriedOut state ended request template (Some folder) spans started now took outputs counts) (go : GoOn request written folder entries spans)
     (text_law : format_in (input_text (input_for request.spec request.q)) ≡ lines_in (log_format request.spec request.q))
     (has : HasFrames state started) (same : stage_of now ≡ stage_of started)
     (ledger_is : request.spec.checkpoint ≡ Some (ledger_of started)) (stage_is : stage_of started ≡ ledger_of started ++ codes ".stage")
@@ -156,7 +162,7 @@ module _ {D : Type 0} (state : D → DiskState) (ended : Commit D → List ℕ �
   kind = kind_of (stage_state state) ended
 
   abbrev pub entry : Entry
-  entry = entry_for request took outputs (staged_of now) counts
+  entry = entry_for request lists took outputs (staged_of now) counts
 
   abbrev pub asked : PlannedQuery → Asked
   asked = asked_in request.spec template request.moment request.q spans
@@ -175,7 +181,7 @@ module _ {D : Type 0} (state : D → DiskState) (ended : Commit D → List ℕ �
   kept = each_kept lines written folder spans go.sound
 
   pub is_met : IsMet (λ a rows. Holds kind a started rows outputs now) asked request.spec request.q request.moment folder spans counts
-  is_met = met (λ a rows. Holds kind a started rows outputs now) asked request.spec request.q request.moment folder spans counts (none_bad request.spec request.q read.built) kept carried.executed
+  is_met = met (λ a rows. Holds kind a started rows outputs now) asked request.spec request.q request.moment folder spans counts kept carried.executed
 
   abbrev pub past : Past
   past = past_of lines true folder spans
@@ -250,26 +256,26 @@ module _ {D : Type 0} (state : D → DiskState) (ended : Commit D → List ℕ �
   pub past_is_met : past_in (parts_of (meaning.format entry.input) written entry.spans) ≡ past
   past_is_met = ap (λ (f : Format). past_in (parts_of f written entry.spans)) format_is ∙ past_is lines written folder spans entry.spans sound
 
-  pub asks : Asks (asked_of entry) request.spec request.q
+  pub asks : Asks (asked_of entry) request.spec q
   asks = record { options = record { words = words; fine = read.fine; options_are = sym read.asked.words_given; asked = read.asked }; query = read.query; only = read.only }
 
-  pub gives : Gives (asked_of entry) (parts_of (meaning.format entry.input) written entry.spans) [] given
-  gives = (
-    subst (λ (p : Past). GivesOver (asked_of entry) p given) (sym past_is_met) (record {
-      spec = request.spec;
-      q = request.q;
-      asks = asks;
-      built = read.built;
-      template = template;
-      is_template = read.sections;
-      plan = is_met.plan;
-      is_planned = is_met.is_planned;
-      files = files_by [];
-      are_files = named_by [];
-      puts = record { splits = refl; rows_are = refl };
-    }),
-    refl,
-  )
+  -- the plan is that of the query with the lists
+  pub is_listed : query_plan (table_over (log_format request.spec request.q) request.spec.ts_format past) request.moment (with_lists lists q) ≡ Ok is_met.plan
+  is_listed = plan_with_lists request.spec request.moment earlier folder read.checkpoint q givens lists give (table_over (log_format request.spec request.q) request.spec.ts_format past) is_met.plan
+      (ap (query_plan (table_over (log_format request.spec request.q) request.spec.ts_format past) request.moment) (sym read.whole_is) ∙ is_met.is_planned)
+
+  pub gives : Gives (asked_of entry) (parts_of (meaning.format entry.input) written entry.spans) entry.lists given
+  gives = subst (λ (p : Past). GivesOver (asked_of entry) p entry.lists given) (sym past_is_met)
+      (gives_filled (asked_of entry) past request.spec q givens entry.lists lists given asks (record { kept = refl; each = one_each request.spec request.moment earlier folder read.checkpoint q givens lists give })
+      (subst (λ (whole : Query). PutsFilled (asked_of entry) past request.spec q whole lists given) read.whole_is (record {
+        template = template;
+        is_template = read.sections;
+        plan = is_met.plan;
+        is_planned = is_listed;
+        files = files_by [];
+        are_files = named_by [];
+        puts = record { splits = refl; rows_are = refl };
+      })))
 
   pub outputs_as : AreOutputs (meaning.mode entry.words) before splits entry.outputs
   outputs_as = subst (λ (m : Mode). AreOutputs m before splits entry.outputs) mode_is placed.0
@@ -290,7 +296,7 @@ module _ {D : Type 0} (state : D → DiskState) (ended : Commit D → List ℕ �
     right = record {
       reads = record {
         words = record { spec = request.spec; options = asks.options; checkpoint = read.checkpoint };
-        input_is = record { spec = request.spec; q = request.q; asks = asks; is = refl };
+        input_is = record { spec = request.spec; q = q; asks = asks; is = ap (λ (whole : Query). input_text (input_for request.spec whole)) read.whole_is ∙ ap input_text (input_filled request.spec givens q) };
         same_input = go.same_input;
         apart = subst SpansApart (sym spans_are) go.apart;
         go_on = subst (λ (f : Format). AllByRecursion (GoesOn f written entries) entry.spans) (sym format_is) (subst (AllByRecursion (GoesOn lines written entries)) (sym spans_are) go.go_on);

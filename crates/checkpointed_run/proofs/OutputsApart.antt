@@ -10,7 +10,7 @@ use Rattle.recovery_model.specs.Recovered.{AreApart, IsOther}
 use Rattle.row_output.specs.Asked.{OutputText}
 use Rattle.run_model.specs.Meanings.{Mode, Split}
 use Rattle.run_model.specs.Right.{IsOutput, takes_part}
-use Rattle.program_meaning.specs.Gives.{split_of}
+use Rattle.run_entry.specs.Gives.{split_of}
 
 module _ (P : List ℕ → Type 0) where
   splits_have : (text : OutputText) (each : List OutputRows) → AllByRecursion (λ (o : OutputRows). P o.name) each → AllByRecursion (λ (s : Split). P s.name) (map (split_of text) each)

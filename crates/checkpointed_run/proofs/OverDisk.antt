@@ -9,6 +9,7 @@ use Rattle.ledger.specs.declared.refused.LedgerRefused.TheVariants as C
 use Rattle.ledger_model.specs.Entries.{Entry}
 use Rattle.ledger_model.specs.Inputs.{input_text}
 use Rattle.lp_model.specs.Outside.{Folder, Grows, OnlyGrow}
+use Rattle.lp_model.proofs.Growing.{OnlyGrow-trans}
 use Rattle.lp_outside.specs.NameFault.{name_fault}
 use Rattle.grammar.specs.Trees.{Placed}
 use Rattle.command_words.specs.declared.modes.Rotation.{Rotation as Word}
@@ -16,9 +17,9 @@ use Rattle.commit.specs.declared.phases.Commit.{Commit}
 use Rattle.commit.specs.declared.phases.CommitFiles.{CommitFiles}
 use Rattle.commit.specs.Phases.{Same, SettlesHeld, Unsettled}
 use Rattle.commit.specs.Resume.{CanSettle, Settles}
-use Rattle.execution.specs.Formats.{lines_in, log_format}
-use Rattle.execution.specs.declared.fault.RunFault.{RunFault}
-use Rattle.execution.specs.declared.fault.RunFault.TheVariants as X
+use Rattle.run_entry.specs.Formats.{lines_in, log_format}
+use Rattle.run_entry.specs.RunFault.{RunFault}
+use Rattle.run_entry.specs.RunFault.TheVariants as X
 use Rattle.log_reading.specs.Spans.{AllSpans, IsSpan}
 use Rattle.log_reading.specs.declared.span.Span.{Span}
 use Rattle.recovery_model.specs.Recovered.{Recovers}
@@ -32,9 +33,9 @@ use Rattle.query_text.specs.Stdin.{names_in}
 use Rattle.run_model.specs.Logs.{Logs}
 use Rattle.run_model.specs.Steps.{Setting, Gain, MayRun, well, refused, disk_failed}
 use Rattle.tpl_output.specs.Sections.{Sections}
-use Rattle.program_meaning.specs.Gives.{HasTemplate}
-use Rattle.program_meaning.specs.Inputs.{format_in, input_for}
-use Rattle.program_meaning.specs.Meaning.{meaning}
+use Rattle.run_entry.specs.Gives.{HasTemplate}
+use Rattle.run_entry.specs.Inputs.{format_in, input_for}
+use Rattle.run_entry.specs.Meaning.{meaning}
 use Rattle.run_entry.specs.Entries.{Request}
 use Rattle.checkpointed_run.specs.Begun.{HasSpans}
 use Rattle.checkpointed_run.specs.Committed.{IsCommitted, StopsAtGate}
@@ -77,6 +78,7 @@ fault_not_well (X.ParseErrors log row) = refused_not_well
 fault_not_well X.Memory = refused_not_well
 
 stop_not_well : (stop : RunStop) → stop_ending stop ≢ well
+stop_not_well (R.Subquery fault) = refused_not_well
 stop_not_well (R.Refused fault) = fault_not_well fault
 stop_not_well (R.BeforeGate fault) = phase_not_well fault
 stop_not_well (R.FromGate fault) = failed_not_well
@@ -124,7 +126,6 @@ module _ {D : Type 0} (state : D → DiskState)
     checkpoint = read.checkpoint;
     query = read.query;
     only = read.only;
-    built = read.built;
     sections = is_template;
     into_is = read.into_is;
     no_stdout = read.no_stdout;
@@ -187,6 +188,9 @@ module _ {D : Type 0} (state : D → DiskState)
       listing : (b : Folder) × (listed ≡ Some b)
       listing = told_on there.0 listed (subst (λ (o : Option Folder). OnlyGrow o listed) there.1 grown)
 
+      since_listed : Grows before.folder listing.0
+      since_listed = subst (λ (o : Option Folder). OnlyGrow (Some before.folder) o) listing.1 (OnlyGrow-trans (Some before.folder) told listed from_then grown)
+
       load : KeepsLedger ((state old).seen files.ledger) has.kept
       load = has.loads ((state old).seen files.ledger) (record { tells = honest_tells old (near can).again.honest; seen = refl })
 
@@ -201,19 +205,25 @@ module _ {D : Type 0} (state : D → DiskState)
       are entries of = subst (λ (o : Option Folder). AreSpansOf (rule_of request.spec.rotation) has.kept.places entries (map (λ name. name.text) (names_in request.q)) (Some there.0) o spans) listing.1
           (subst (λ (o : Option Folder). AreSpansOf (rule_of request.spec.rotation) has.kept.places entries (map (λ name. name.text) (names_in request.q)) o listed spans) there.1 (has.are entries of))
 
-      pub steps_by : (result : Result Counts RunStop) → IfOk result (IsCommitted state request sections now spans first last)
-          → IfErr result (λ stop. IsBeforeGate stop → Unsettled state first → SettlesHeld state first last) → IfErr result (λ stop. IsFromGate stop → StopsAtGate state request sections now spans first last stop)
+      pub steps_by : (result : Result Counts RunStop) → IfOk result (IsCommitted state request sections listed now spans first last)
+          → IfErr result (λ stop. IsBeforeGate stop → Unsettled state first → SettlesHeld state first last) → IfErr result (λ stop. IsFromGate stop → StopsAtGate state request sections listed now spans first last stop)
           → IfErr result (λ stop. IsBeforeGate stop → IsDamagedStop stop → Unsettled state first → ⊥)
           → StepsAs (setting_by (found first) setting) (asked_by_request request) before after (state early) (state last.disk.now) (over result)
       steps_by (Ok counts) committed early_stop late_stop sound =
-          let is : IsCommitted state request sections (Some after.folder) spans first last counts = subst (λ (o : Option Folder). IsCommitted state request sections o spans first last counts) now_is committed in
+          let is : IsCommitted state request sections (Some listing.0) (Some after.folder) spans first last counts = subst (λ (o : Option Folder). IsCommitted state request sections o (Some after.folder) spans first last counts) listing.1
+          (subst (λ (o : Option Folder). IsCommitted state request sections listed o spans first last counts) now_is committed) in
           record {
             step = step_committed state only_now seen_left counts_now honest_tells words request sections into read text_law setting before after (found first) first may gain same settled_since
-                has.kept keeps has.agrees there.0 listing.0 since_then later spans low are ledger_is stage_is last counts is;
+                has.kept keeps has.agrees there.0 listing.0 since_then since_listed later spans low are ledger_is stage_is last counts is;
             undamaged = tt;
             counted = counted state only_now seen_left counts_now honest_tells words request sections into read text_law setting before after (found first) first may gain same settled_since
-                has.kept keeps has.agrees there.0 listing.0 since_then later spans low are ledger_is stage_is last counts is;
+                has.kept keeps has.agrees there.0 listing.0 since_then since_listed later spans low are ledger_is stage_is last counts is;
           }
+      steps_by (Err (R.Subquery fault)) committed early_stop late_stop sound = record {
+        step = step_before_gate state only_now seen_left counts_now honest_tells words request sections into read text_law setting before after (found first) first may gain same settled_since refused last refused_not_well (early_stop tt);
+        undamaged = λ told. told;
+        counted = tt;
+      }
       steps_by (Err (R.Refused fault)) committed early_stop late_stop sound = record {
         step = step_before_gate state only_now seen_left counts_now honest_tells words request sections into read text_law setting before after (found first) first may gain same settled_since (fault_ending fault) last (fault_not_well fault) (early_stop tt);
         undamaged = λ told. told;
@@ -225,17 +235,18 @@ module _ {D : Type 0} (state : D → DiskState)
         counted = tt;
       }
       steps_by (Err (R.FromGate fault)) committed early_stop late_stop sound =
-          let is : StopsAtGate state request sections (Some after.folder) spans first last (R.FromGate fault) = subst (λ (o : Option Folder). StopsAtGate state request sections o spans first last (R.FromGate fault)) now_is (late_stop tt) in
+          let is : StopsAtGate state request sections (Some listing.0) (Some after.folder) spans first last (R.FromGate fault) = subst (λ (o : Option Folder). StopsAtGate state request sections o (Some after.folder) spans first last (R.FromGate fault)) listing.1
+          (subst (λ (o : Option Folder). StopsAtGate state request sections listed o spans first last (R.FromGate fault)) now_is (late_stop tt)) in
           record {
             step = step_at_gate state only_now seen_left counts_now honest_tells words request sections into read text_law setting before after (found first) first may gain same settled_since
-                has.kept keeps has.agrees there.0 listing.0 since_then later spans low are ledger_is stage_is last (R.FromGate fault) is;
+                has.kept keeps has.agrees there.0 listing.0 since_then since_listed later spans low are ledger_is stage_is last (R.FromGate fault) is;
             undamaged = undamaged_at_gate state only_now seen_left counts_now honest_tells words request sections into read text_law setting before after (found first) first may gain same settled_since
-                has.kept keeps has.agrees there.0 listing.0 since_then later spans low are ledger_is stage_is last (R.FromGate fault) is;
+                has.kept keeps has.agrees there.0 listing.0 since_then since_listed later spans low are ledger_is stage_is last (R.FromGate fault) is;
             counted = tt;
           }
 
     -- the run began
-    pub steps_over : (result : Result Counts RunStop) → RunsOver state request sections now spans files mid new result → TakesStep (over result) request files.ledger files.stage since now (state early) (state new)
+    pub steps_over : (result : Result Counts RunStop) → RunsOver state request sections listed now spans files mid new result → TakesStep (over result) request files.ledger files.stage since now (state early) (state new)
     steps_over result runs = λ words template into setting before after read setting_ledger setting_stage told_is now_is may gain.
         let is : setting ≡ setting_by (found runs.first) setting = setting_is runs.first setting setting_ledger setting_stage in
         subst (λ (s : Setting). StepsAs s (asked_by_request request) before after (state early) (state new) (over result)) (sym is)

@@ -17,8 +17,8 @@ use Rattle.text_output.specs.Output.{StageKind, kind_of}
 use Rattle.text_output.specs.declared.target.Output.{Output as Written}
 use Rattle.commit.specs.declared.phases.Commit.{Commit}
 use Rattle.commit.specs.Phases.{disk_of, ledger_of, stage_of, stage_state, HasFrames}
-use Rattle.program_meaning.specs.Gives.{split_of}
-use Rattle.program_meaning.specs.Meaning.{mode_as}
+use Rattle.run_entry.specs.Gives.{split_of}
+use Rattle.run_entry.specs.Meaning.{mode_as}
 use Rattle.run_entry.specs.Entries.{kept_output}
 use Rattle.checkpointed_run.specs.Files.{ArePlaced, IsPlaced}
 

@@ -11,13 +11,16 @@ use Rattle.commit.specs.declared.phases.CommitFiles.{CommitFiles}
 use Rattle.commit.specs.Phases.{disk_of, ledger_of, stage_of, Same, Unsettled, SettlesHeld}
 use Rattle.commit.specs.States.{ShowsFiles}
 use Rattle.commit.proofs.Composing.{same_on}
-use Rattle.lp_model.specs.Outside.{Folder}
+use Rattle.lp_model.specs.Outside.{Folder, OnlyGrow}
+use Rattle.lp_model.proofs.Growing.{OnlyGrow-refl}
 use Rattle.log_reading.specs.declared.span.Span.{Span}
 use Rattle.query_run.specs.declared.executing.Counts.{Counts}
 use Rattle.tpl_output.specs.Sections.{Sections}
+use Rattle.run_entry.proofs.Keeping.{give_wider}
 use Rattle.run_entry.specs.Entries.{Request}
 use Rattle.checkpointed_run.specs.Committed.{ComesToGate, IsCommitted, StopsAtGate}
 use Rattle.checkpointed_run.specs.Phases.{IsSettledFrom}
+use Rattle.checkpointed_run.specs.Staged.{HasStagedRun}
 use Rattle.checkpointed_run.specs.declared.running.RunStop.{RunStop}
 
 -- the images are the same
@@ -116,33 +119,49 @@ module _ {D : Type 0} (state : D → DiskState)
         (found.0, subst (λ (f : CommitFiles). ShowsFiles (disk_of state new) f.ledger f.stage files) same.files found.1);
   }
 
+  -- what subqueries gave from a moment on they gave from an earlier one on
+  stages_wider : (request : Request) (template : Sections) (early began told : Option Folder) (spans : List Span) (settled staged : Commit D) (entry : Entry) (counts : Counts) → OnlyGrow early began
+      → HasStagedRun state request template began told spans settled staged entry counts → HasStagedRun state request template early told spans settled staged entry counts
+  stages_wider request template early began told spans settled staged entry counts front stages = record {
+    started = stages.started;
+    starts = stages.starts;
+    empty = stages.empty;
+    givens = stages.givens;
+    lists = stages.lists;
+    give = give_wider request.spec request.moment request.q stages.givens stages.lists early began told told front (OnlyGrow-refl told) stages.give;
+    run = stages.run;
+  }
+
   -- a run that came to its gate
-  pub comes_behind : (request : Request) (template : Sections) (told : Option Folder) (spans : List Span) (gate : Commit D) (entry : Entry) (counts : Counts) → ComesToGate state request template told spans old gate entry counts → ComesToGate state request template told spans first gate entry counts
-  comes_behind request template told spans gate entry counts comes = record {
+  pub comes_behind : (request : Request) (template : Sections) (early began told : Option Folder) (spans : List Span) (gate : Commit D) (entry : Entry) (counts : Counts) → OnlyGrow early began
+      → ComesToGate state request template began told spans old gate entry counts → ComesToGate state request template early told spans first gate entry counts
+  comes_behind request template early began told spans gate entry counts front comes = record {
     settled = comes.settled;
     settles = settled_behind comes.settled comes.settles;
     staged = comes.staged;
-    stages = comes.stages;
+    stages = stages_wider request template early began told spans comes.settled comes.staged entry counts front comes.stages;
     seals = comes.seals;
   }
 
   -- was whole
-  abbrev pub committed_behind : (request : Request) (template : Sections) (told : Option Folder) (spans : List Span) (new : Commit D) (counts : Counts) → IsCommitted state request template told spans old new counts → IsCommitted state request template told spans first new counts
-  committed_behind request template told spans new counts is = record {
+  abbrev pub committed_behind : (request : Request) (template : Sections) (early began told : Option Folder) (spans : List Span) (new : Commit D) (counts : Counts) → OnlyGrow early began
+      → IsCommitted state request template began told spans old new counts → IsCommitted state request template early told spans first new counts
+  committed_behind request template early began told spans new counts front is = record {
     entry = is.entry;
     gate = is.gate;
-    comes = comes_behind request template told spans is.gate is.entry counts is.comes;
+    comes = comes_behind request template early began told spans is.gate is.entry counts front is.comes;
     opens = is.opens;
     done = is.done;
   }
 
   -- or was stopped there
-  abbrev pub stopped_behind : (request : Request) (template : Sections) (told : Option Folder) (spans : List Span) (new : Commit D) (stop : RunStop) → StopsAtGate state request template told spans old new stop → StopsAtGate state request template told spans first new stop
-  stopped_behind request template told spans new stop is = record {
+  abbrev pub stopped_behind : (request : Request) (template : Sections) (early began told : Option Folder) (spans : List Span) (new : Commit D) (stop : RunStop) → OnlyGrow early began
+      → StopsAtGate state request template began told spans old new stop → StopsAtGate state request template early told spans first new stop
+  stopped_behind request template early began told spans new stop front is = record {
     entry = is.entry;
     counts = is.counts;
     gate = is.gate;
-    comes = comes_behind request template told spans is.gate is.entry is.counts is.comes;
+    comes = comes_behind request template early began told spans is.gate is.entry is.counts front is.comes;
     opens = is.opens;
     undamaged = is.undamaged;
   }

@@ -15,7 +15,7 @@ use Rattle.run_model.specs.Meanings.{Meaning}
 use Rattle.run_model.specs.Right.{IsSettled}
 use Rattle.run_model.proofs.Generations.{one_number, one_stem}
 use Rattle.worlds.proofs.Good.{has_written}
-use Rattle.program_meaning.proofs.Ends.{last_end_is_last}
+use Rattle.run_entry.proofs.Ends.{last_end_is_last}
 use Rattle.run_entry.specs.Entries.{kept_span}
 
 -- what is kept of a span that was taken is what an entry has to list

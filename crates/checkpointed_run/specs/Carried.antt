@@ -3,9 +3,9 @@ use Rattle.std.specs.Prelude.{◌≡◌, ℕ, true, List, map, Option}
 use Rattle.lp_model.specs.Outside.{Folder, Told}
 use Rattle.disk_model.specs.Disk.{DiskState}
 use Rattle.lp_outside.specs.declared.stage.Mark.{Mark}
-use Rattle.execution.specs.Executed.{IsExecuted}
-use Rattle.execution.specs.Formats.{lines_in, log_format}
-use Rattle.execution.specs.Outputs.{asked_in}
+use Rattle.run_entry.specs.Executed.{IsExecuted}
+use Rattle.run_entry.specs.Formats.{lines_in, log_format}
+use Rattle.run_entry.specs.Outputs.{asked_in}
 use Rattle.log_reading.specs.Page.{IsWithin}
 use Rattle.log_reading.specs.Spans.{AreKept, took_of}
 use Rattle.log_reading.specs.declared.span.Span.{Span}

@@ -15,26 +15,26 @@ use Rattle.checkpointed_run.specs.Stops.{IsDamagedStop}
 use Rattle.checkpointed_run.specs.declared.running.RunStop.{RunStop}
 
 -- A run came to its gate: the disk was settled, the run staged, and its entry sealed.
-pub record ComesToGate {D : Type 0} (state : D → DiskState) (request : Request) (template : Sections) (told : Option Folder) (spans : List Span) (old gate : Commit D) (entry : Entry) (counts : Counts) : Type 0 where
+pub record ComesToGate {D : Type 0} (state : D → DiskState) (request : Request) (template : Sections) (began told : Option Folder) (spans : List Span) (old gate : Commit D) (entry : Entry) (counts : Counts) : Type 0 where
   pub settled : Commit D
   pub settles : IsSettledFrom state old settled
   pub staged : Commit D
-  pub stages : HasStagedRun state request template told spans settled staged entry counts
+  pub stages : HasStagedRun state request template began told spans settled staged entry counts
   pub seals : IsSealedFrom state entry staged gate
 
 -- and was whole: the gate was opened, and the outputs were written
-pub record IsCommitted {D : Type 0} (state : D → DiskState) (request : Request) (template : Sections) (told : Option Folder) (spans : List Span) (old new : Commit D) (counts : Counts) : Type 0 where
+pub record IsCommitted {D : Type 0} (state : D → DiskState) (request : Request) (template : Sections) (began told : Option Folder) (spans : List Span) (old new : Commit D) (counts : Counts) : Type 0 where
   pub entry : Entry
   pub gate : Commit D
-  pub comes : ComesToGate state request template told spans old gate entry counts
+  pub comes : ComesToGate state request template began told spans old gate entry counts
   pub opens : IsOpenedFrom state gate new
   pub done : (entries : List Entry) (before after : Files) → Sealed state gate entry entries before after → Settled state new (entries ++ entry ∷ []) after
 
 -- it stopped at its gate or behind it, where no damage is found if the entry was sealed
-pub record StopsAtGate {D : Type 0} (state : D → DiskState) (request : Request) (template : Sections) (told : Option Folder) (spans : List Span) (old new : Commit D) (stop : RunStop) : Type 0 where
+pub record StopsAtGate {D : Type 0} (state : D → DiskState) (request : Request) (template : Sections) (began told : Option Folder) (spans : List Span) (old new : Commit D) (stop : RunStop) : Type 0 where
   pub entry : Entry
   pub counts : Counts
   pub gate : Commit D
-  pub comes : ComesToGate state request template told spans old gate entry counts
+  pub comes : ComesToGate state request template began told spans old gate entry counts
   pub opens : IsOpenedFrom state gate new
   pub undamaged : IsDamagedStop stop → (entries : List Entry) (before after : Files) → Sealed state gate entry entries before after → ⊥

@@ -5,8 +5,11 @@ use Rattle.commit.specs.declared.phases.Commit.{Commit}
 use Rattle.disk_model.specs.Disk.{DiskState}
 use Rattle.log_reading.specs.declared.span.Span.{Span}
 use Rattle.log_reading.specs.declared.span.Took.{Took}
+use Rattle.grammar.specs.Filled.{PlacedGiven}
 use Rattle.lp_model.specs.Outside.{Folder, OnlyGrow}
+use Rattle.lp_values.specs.declared.value.Value.{Value}
 use Rattle.query_run.specs.declared.executing.Counts.{Counts}
+use Rattle.run_entry.specs.Giving.{GiveThese}
 use Rattle.run_entry.specs.Entries.{Request}
 use Rattle.run_model.specs.Logs.{Rotation}
 use Rattle.text_output.specs.declared.target.Output.{Output}
@@ -14,8 +17,10 @@ use Rattle.tpl_output.specs.Sections.{Sections}
 use Rattle.checkpointed_run.specs.Begun.{HasSpans}
 use Rattle.checkpointed_run.specs.Carried.{IsCarriedOut}
 use Rattle.checkpointed_run.specs.Clash.{first_clash}
+use Rattle.checkpointed_run.specs.Filled.{filled_request}
 
--- the logs behind FROM have spans, none of them is the ledger or the stage, and the query was carried out over them, with these counts
+-- the logs behind FROM have spans, none of them is the ledger or the stage, the subqueries gave what they had, and the query was carried
+-- out with it over the spans, with these counts
 pub record HasRun {D : Type 0} (state : D → DiskState) (disk : DiskState) (ledger stage : List ℕ) (rotation : Rotation) (input : List ℕ) (texts : List (List ℕ)) (request : Request) (template : Sections) (before now : Option Folder) (counts : Counts) : Type 0 where
   pub listed : Option Folder
   pub grows : OnlyGrow listed now
@@ -26,4 +31,7 @@ pub record HasRun {D : Type 0} (state : D → DiskState) (disk : DiskState) (led
   pub staged : Commit D
   pub took : List Took
   pub outputs : List Output
-  pub carried : IsCarriedOut state (λ commit name base mark. ⊤) request template now spans started staged took outputs counts
+  pub givens : List PlacedGiven
+  pub lists : List (List Value)
+  pub give : GiveThese request.spec request.moment listed now request.q givens lists
+  pub carried : IsCarriedOut state (λ commit name base mark. ⊤) (filled_request givens request) template now spans started staged took outputs counts

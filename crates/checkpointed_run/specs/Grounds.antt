@@ -1,14 +1,13 @@
 -- What a run with a checkpoint rests on: how its words and its query are read, and how its spans go on.
-use Rattle.std.specs.Prelude.{◌≡◌, ℕ, true, false, List, map, Some, IsSome}
+use Rattle.std.specs.Prelude.{◌≡◌, ℕ, false, List, map, Some, IsSome}
 use Rattle.std.specs.List.{AllByRecursion}
 use Rattle.grammar.specs.Trees.{Placed}
 use Rattle.lp_model.specs.Outside.{Folder}
 use Rattle.command_words.specs.Table.{IsAsked}
 use Rattle.command_words.specs.Usage.{AreFine}
-use Rattle.execution.specs.Built.{is_run_built}
-use Rattle.execution.specs.Formats.{lines_in, log_format}
-use Rattle.execution.specs.Outputs.{is_stdout}
-use Rattle.execution.specs.Texts.{into_in}
+use Rattle.run_entry.specs.Formats.{lines_in, log_format}
+use Rattle.run_entry.specs.Outputs.{is_stdout}
+use Rattle.run_entry.specs.Texts.{into_in}
 use Rattle.ledger_model.specs.Entries.{Entry}
 use Rattle.ledger_model.specs.Inputs.{input_text}
 use Rattle.log_reading.specs.Spans.{took_of}
@@ -18,8 +17,8 @@ use Rattle.run_model.specs.Logs.{Written}
 use Rattle.run_model.specs.Meanings.{Asked}
 use Rattle.run_model.specs.Right.{AreApart, GoesOn}
 use Rattle.tpl_output.specs.Sections.{Sections}
-use Rattle.program_meaning.specs.Gives.{HasTemplate}
-use Rattle.program_meaning.specs.Inputs.{input_for}
+use Rattle.run_entry.specs.Gives.{HasTemplate}
+use Rattle.run_entry.specs.Inputs.{input_for}
 use Rattle.run_entry.specs.Entries.{Request, kept_span}
 use Rattle.checkpointed_run.specs.Sound.{IsSound}
 
@@ -34,7 +33,6 @@ pub record IsRead (words : List (List ℕ)) (request : Request) (template : Sect
   pub checkpoint : IsSome request.spec.checkpoint
   pub query : IsQuery request.text request.q
   pub only : IsOnlyQuery request.text request.q
-  pub built : is_run_built request.spec request.q ≡ true
   pub sections : HasTemplate request.spec request.q request.template template
   pub into_is : into_in request.q ≡ Some into
   pub no_stdout : is_stdout into.text ≡ false

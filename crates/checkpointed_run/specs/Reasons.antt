@@ -3,18 +3,20 @@ use Rattle.std.specs.Prelude.{ℕ, true, List, Option}
 use Rattle.std.specs.Bool.{⊤}
 use Rattle.commit.specs.Faults.{BreaksAt, IsApart}
 use Rattle.disk_model.specs.Disk.{DiskState}
-use Rattle.execution.specs.Executed.{IsParseError, IsUnplaced, IsUnplanned}
-use Rattle.execution.specs.Formats.{log_format}
-use Rattle.execution.specs.Outputs.{asked_in}
-use Rattle.execution.specs.declared.fault.RunFault.{RunFault}
-use Rattle.execution.specs.declared.fault.RunFault.TheVariants as X
+use Rattle.run_entry.specs.Executed.{IsParseError, IsUnplaced, IsUnplanned}
+use Rattle.run_entry.specs.Formats.{log_format}
+use Rattle.run_entry.specs.Outputs.{asked_in}
+use Rattle.run_entry.specs.RunFault.{RunFault}
+use Rattle.run_entry.specs.RunFault.TheVariants as X
 use Rattle.ledger.specs.declared.refused.LedgerRefused.{LedgerRefused}
 use Rattle.ledger.specs.declared.refused.LedgerRefused.TheVariants as C
 use Rattle.log_reading.specs.Spans.{bad_line}
 use Rattle.log_reading.specs.declared.span.Span.{Span}
 use Rattle.lp_model.specs.Outside.{Folder}
 use Rattle.tpl_output.specs.Sections.{Sections}
+use Rattle.run_entry.specs.Refusing.{StopsBy}
 use Rattle.run_entry.specs.Entries.{Request}
+use Rattle.checkpointed_run.specs.Filled.{IsBehind}
 use Rattle.checkpointed_run.specs.declared.running.RunStop.{RunStop}
 use Rattle.checkpointed_run.specs.declared.running.RunStop.TheVariants as R
 
@@ -27,10 +29,21 @@ RefusedFor request template told spans X.StageFault = ⊤
 RefusedFor request template told spans (X.ParseErrors log row) = IsParseError (log_format request.spec request.q) true told request.spec request.moment request.q spans (bad_line log row)
 RefusedFor request template told spans X.Memory = ⊤
 
-abbrev pub StopsFor : Request → Sections → Option Folder → List Span → RunStop → Type 0
-StopsFor request template told spans (R.Refused fault) = RefusedFor request template told spans fault
-StopsFor request template told spans (R.BeforeGate fault) = ⊤
-StopsFor request template told spans (R.FromGate fault) = ⊤
+-- so it is with what the subqueries gave before, where the fault tells anything
+abbrev pub RefusedBehind : Request → Sections → Option Folder → Option Folder → List Span → RunFault → Type 0
+RefusedBehind request template began told spans (X.Plan fault) = IsBehind (λ filled. RefusedFor filled template told spans (X.Plan fault)) began told request
+RefusedBehind request template began told spans (X.Refused why) = IsBehind (λ filled. RefusedFor filled template told spans (X.Refused why)) began told request
+RefusedBehind request template began told spans X.LogsFault = ⊤
+RefusedBehind request template began told spans X.StageFault = ⊤
+RefusedBehind request template began told spans (X.ParseErrors log row) = IsBehind (λ filled. RefusedFor filled template told spans (X.ParseErrors log row)) began told request
+RefusedBehind request template began told spans X.Memory = ⊤
+
+-- a subquery is refused, or the run with what all of them gave
+abbrev pub StopsFor : Request → Sections → Option Folder → Option Folder → List Span → RunStop → Type 0
+StopsFor request template began told spans (R.Subquery fault) = StopsBy request.spec request.moment began told request.q fault
+StopsFor request template began told spans (R.Refused fault) = RefusedBehind request template began told spans fault
+StopsFor request template began told spans (R.BeforeGate fault) = ⊤
+StopsFor request template began told spans (R.FromGate fault) = ⊤
 
 -- a damage that a run is told is one of what a read gave before it, where no output of a run that isn't done is the ledger or the stage
 abbrev pub IsDamage : DiskState → List ℕ → List ℕ → LedgerRefused → Type 0
@@ -38,6 +51,7 @@ IsDamage disk ledger stage C.DiskFault = ⊤
 IsDamage disk ledger stage (C.LedgerFault part at) = disk.tells → IsApart ledger stage disk.seen → BreaksAt ledger stage disk.seen part at
 
 abbrev pub StopsAtDamage : DiskState → List ℕ → List ℕ → RunStop → Type 0
+StopsAtDamage disk ledger stage (R.Subquery fault) = ⊤
 StopsAtDamage disk ledger stage (R.Refused fault) = ⊤
 StopsAtDamage disk ledger stage (R.BeforeGate fault) = IsDamage disk ledger stage fault
 StopsAtDamage disk ledger stage (R.FromGate fault) = ⊤

@@ -51,7 +51,7 @@ pub record HasStopped (disk : DiskState) (ledger stage : List ℕ) (rotation : R
   pub spans : List Span
   pub has : HasSpans disk ledger rotation input texts before listed spans
   pub free : first_clash ledger stage spans ≡ None
-  pub stops : StopsFor request template now spans stop
+  pub stops : StopsFor request template listed now spans stop
 
 -- why there are no counts: the ledger that a read gives is damaged, the logs behind FROM have no spans from where its runs left them, one of them is the ledger or the stage, or the run over them is stopped
 abbrev pub IsWithoutCounts : DiskState → List ℕ → List ℕ → Rotation → List ℕ → List (List ℕ) → Request → Sections → Option Folder → Option Folder → LedgerStop → Type 0

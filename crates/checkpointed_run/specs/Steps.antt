@@ -16,7 +16,7 @@ use Rattle.run_model.specs.Meanings.{Asked}
 use Rattle.run_model.specs.Right.{IsSettled}
 use Rattle.run_model.specs.Steps.{Setting, Gain, MayRun, Ending, well, refused, disk_failed, RunStep}
 use Rattle.tpl_output.specs.Sections.{Sections}
-use Rattle.program_meaning.specs.Meaning.{meaning}
+use Rattle.run_entry.specs.Meaning.{meaning}
 use Rattle.run_entry.specs.Entries.{Request}
 use Rattle.checkpointed_run.specs.Grounds.{IsRead, asked_by_request}
 use Rattle.checkpointed_run.specs.Stops.{IsDamagedStop}
@@ -24,8 +24,8 @@ use Rattle.checkpointed_run.specs.declared.running.RunStop.{RunStop}
 use Rattle.checkpointed_run.specs.declared.running.RunStop.TheVariants as R
 use Rattle.checkpointed_run.specs.declared.over.LedgerStop.{LedgerStop}
 use Rattle.checkpointed_run.specs.declared.over.LedgerStop.TheVariants as L
-use Rattle.execution.specs.declared.fault.RunFault.{RunFault}
-use Rattle.execution.specs.declared.fault.RunFault.TheVariants as X
+use Rattle.run_entry.specs.RunFault.{RunFault}
+use Rattle.run_entry.specs.RunFault.TheVariants as X
 
 -- a fault of a phase: of the disk, or a damage that it found
 abbrev pub phase_ending : LedgerRefused → Ending
@@ -47,6 +47,7 @@ fault_ending X.Memory = refused
 
 -- from the gate on only the disk stops a run
 abbrev pub stop_ending : RunStop → Ending
+stop_ending (R.Subquery fault) = refused
 stop_ending (R.Refused fault) = fault_ending fault
 stop_ending (R.BeforeGate fault) = phase_ending fault
 stop_ending (R.FromGate fault) = disk_failed

@@ -1,28 +1,28 @@
 // The entry of a run, where its parts fit the form of one.
-ghost use Rattle.std.specs.Prelude.{◌≡◌, ◌<◌, ◌+◌, ◌^◌, true, length, All, IfOk, OnOk};
+ghost use Rattle.std.specs.Prelude.{◌≡◌, ◌<◌, ◌+◌, ◌^◌, true, length, All, FitsSigned, IfOk, OnOk};
+ghost use Rattle.std.specs.Int.{w64};
 ghost use Rattle.command_words.specs.Table.{IsInRange};
-ghost use Rattle.execution.specs.Executed.{IsMoment};
-ghost use Rattle.ledger.specs.Written.{entry_of};
-ghost use Rattle.ledger_model.specs.Grammar.{IsEntry};
+ghost use Rattle.run_entry.specs.Executed.{IsMoment};
+ghost use Rattle.ledger.specs.Written.{entry_of, part_code};
+ghost use Rattle.ledger_model.specs.Grammar.{IsEntry, IsStamp};
 ghost use Rattle.log_reading.specs.declared.span.Took.{Took as TookValue};
 ghost use Rattle.query_tree.specs.Views.{query_of};
 ghost use Rattle.run_entry.specs.Entries.{entry_for};
-ghost use Rattle.run_entry.specs.Forms.{AreCounts, HasForm, IsFileName, IsOutput};
+ghost use Rattle.run_entry.specs.Forms.{AreCounts, HasForm, IsFileName, IsKeptList, IsKeptValue, IsOutput};
 ghost use Rattle.checkpointed_run.specs.Staged.{AreParts, IsWord, request_of};
 
 use command_words::Spec;
-use execution::Ran;
 use ledger::Entry;
 use log_reading::Took;
 use lp_outside::{Mark, Name};
-use lp_values::{Bytes, Text};
+use lp_values::{Bytes, RowList, Stamp, Text, Value, ValueList};
 use query_run::Counts;
 use query_tree::Query;
-use run_entry::{entries_have_their_form, entry_of_run};
+use run_entry::{Ran, entries_have_their_form, entry_of_run};
 use std::alloc::{AllocError, Global};
 use text_output::Output;
 
-/// Each word of an entry has fewer bytes, and there are fewer words.
+/// Each text of an entry has fewer bytes, and there are fewer words, and lists.
 const WORDS: u64 = 1 << 32;
 
 /// A template has at most so many bytes.
@@ -47,6 +47,79 @@ fn are_words(words: &[Text]) -> bool
         }
     }
     (words.len() as u64) < WORDS
+}
+
+// A number has 64 bits.
+fn know_number(number: i64)
+    ensures { FitsSigned w64 number }
+{
+    let _number = number;
+}
+
+// A stamp is one that an entry may keep.
+fn know_stamp(stamp: &Stamp)
+    ensures { IsStamp (part_code stamp.now.part) stamp.now.seconds }
+{
+    let _seconds = stamp.seconds;
+}
+
+// Whether an entry may keep a value.
+fn is_value(value: &Value) -> bool
+    ensures { result ≡ true → IsKeptValue value.now }
+{
+    match value {
+        Value::Null => true,
+        Value::Int(number) => {
+            know_number(*number);
+            true
+        }
+        Value::Real(real) => {
+            know_number(real.millionths);
+            true
+        }
+        Value::Text(text) => is_word(text),
+        Value::Stamp(stamp) => {
+            know_stamp(stamp);
+            true
+        }
+    }
+}
+
+// How many there are has 64 bits.
+fn know_size(values: &[Value])
+    ensures { length values.now < 2 ^ 64 }
+{
+    let _size = values.len();
+}
+
+fn are_values(values: &[Value]) -> bool
+    ensures { result ≡ true → All IsKeptValue values.now }
+{
+    for value in values {
+        if !is_value(value) {
+            return false;
+        }
+    }
+    true
+}
+
+fn is_list(list: &ValueList) -> bool
+    ensures { result ≡ true → IsKeptList list.now }
+{
+    know_size(list.as_slice());
+    are_values(list.as_slice())
+}
+
+fn are_lists(lists: &[ValueList]) -> bool
+    ensures few { result ≡ true → length lists.now < 2 ^ 32 }
+    ensures each { result ≡ true → All IsKeptList lists.now }
+{
+    for list in lists {
+        if !is_list(list) {
+            return false;
+        }
+    }
+    (lists.len() as u64) < WORDS
 }
 
 // A name is a file's.
@@ -102,9 +175,9 @@ fn know_counts(counts: &Counts)
     let _bad = counts.bad;
 }
 
-// Whether an entry may keep these words, this template, and what a run took and wrote.
-fn are_parts(spec: &Spec, template: &Bytes, ran: &Ran) -> bool
-    ensures { result ≡ true → AreParts spec.now.words template.now ran.now.took ran.now.outputs ran.now.counts }
+// Whether an entry may keep these words, this template, these lists, and what a run took and wrote.
+fn are_parts(spec: &Spec, template: &Bytes, lists: &RowList, ran: &Ran) -> bool
+    ensures { result ≡ true → AreParts spec.now.words template.now lists.now ran.now.took ran.now.outputs ran.now.counts }
 {
     know_counts(&ran.counts);
     know_files(ran.took.as_slice());
@@ -114,15 +187,19 @@ fn are_parts(spec: &Spec, template: &Bytes, ran: &Ran) -> bool
     if template.len() as u64 > TEMPLATE {
         return false;
     }
+    if !are_lists(lists.as_slice()) {
+        return false;
+    }
     are_outputs(ran.outputs.as_slice())
 }
 
-/// The entry of a run. One that doesn't fit an entry's form, with words of 4 GiB or an output of 2^63 bytes, wants more memory
-/// than there is.
+/// The entry of a run whose subqueries gave these lists. One that doesn't fit an entry's form, with a text of 4 GiB or an output of
+/// 2^63 bytes, wants more memory than there is.
 pub(crate) fn make_entry(
     alloc: Global,
     spec: &Spec,
     query: &Query,
+    lists: RowList,
     text: Text,
     template: Bytes,
     moment: i64,
@@ -131,11 +208,11 @@ pub(crate) fn make_entry(
 ) -> Result<Entry, AllocError>
     requires range { IsInRange spec.now }
     requires moment { IsMoment moment }
-    ensures entry { IfOk result (λ entry. entry_of entry ≡ entry_for (request_of spec.now (query_of query.now) text template moment) ran.now.took ran.now.outputs staged ran.now.counts) }
-    ensures parts { OnOk result (AreParts spec.now.words template ran.now.took ran.now.outputs ran.now.counts) }
-    ensures formed { IfOk result (λ entry. HasForm (request_of spec.now (query_of query.now) text template moment) ran.now.took ran.now.outputs staged ran.now.counts → IsEntry (entry_of entry)) }
+    ensures entry { IfOk result (λ entry. entry_of entry ≡ entry_for (request_of spec.now (query_of query.now) text template moment) lists ran.now.took ran.now.outputs staged ran.now.counts) }
+    ensures parts { OnOk result (AreParts spec.now.words template lists ran.now.took ran.now.outputs ran.now.counts) }
+    ensures formed { IfOk result (λ entry. HasForm (request_of spec.now (query_of query.now) text template moment) lists ran.now.took ran.now.outputs staged ran.now.counts → IsEntry (entry_of entry)) }
 {
-    if !are_parts(spec, &template, ran) {
+    if !are_parts(spec, &template, &lists, ran) {
         return Err(AllocError);
     }
     entries_have_their_form();
@@ -146,6 +223,7 @@ pub(crate) fn make_entry(
         text,
         template,
         moment,
+        lists,
         ran.took.as_slice(),
         ran.outputs.as_slice(),
         staged,

@@ -4,21 +4,21 @@ ghost use Rattle.lp_model.specs.Outside.{Folder, Rose, OnlyGrow, Told, bytes_in}
 ghost use Rattle.command_words.specs.Table.{IsInRange};
 ghost use Rattle.command_words.specs.declared.formats.OutputFormat.TheVariants as O;
 ghost use Rattle.commit.specs.Resume.{CanSettle, Settles};
-ghost use Rattle.execution.specs.Built.{is_run_built};
-ghost use Rattle.execution.specs.Executed.{IsMoment};
-ghost use Rattle.execution.specs.Texts.{output_of, sections_in};
+ghost use Rattle.run_entry.specs.Executed.{IsMoment};
+ghost use Rattle.run_entry.specs.Texts.{output_of, sections_in};
 ghost use Rattle.ledger.specs.Reader.{Rests};
 ghost use Rattle.ledger_model.specs.Inputs.{input_text};
 ghost use Rattle.log_reading.specs.Spans.{AllSpans, IsSpan, spans_size};
 ghost use Rattle.lp_outside.specs.NameFault.{name_fault};
 ghost use Rattle.positions.specs.Spanning.{rule_of};
-ghost use Rattle.program_meaning.specs.Gives.{HasTemplate};
-ghost use Rattle.program_meaning.specs.Inputs.{input_for};
+ghost use Rattle.run_entry.specs.Gives.{HasTemplate};
+ghost use Rattle.run_entry.specs.Inputs.{input_for};
 ghost use Rattle.query_text.specs.Stdin.{names_in};
 ghost use Rattle.query_tree.specs.Views.{query_of};
 ghost use Rattle.checkpointed_run.specs.Begun.{GivesSpans, HasSpans};
 ghost use Rattle.checkpointed_run.specs.Counted.{HasRun};
 ghost use Rattle.checkpointed_run.specs.Clash.{first_clash};
+ghost use Rattle.checkpointed_run.specs.Reading.{ReadsThen};
 ghost use Rattle.checkpointed_run.specs.Reasons.{StopsAtDamage, StopsFor};
 ghost use Rattle.checkpointed_run.specs.Refusals.{HasCauses, IsAtDamage, IsNotBegun, IsWithoutCounts};
 ghost use Rattle.checkpointed_run.specs.Runs.{RunsOver};
@@ -103,7 +103,7 @@ fn name_is_good(name: &Name)
 fn run_over_spans<L: Logs, D: Disk>(
     alloc: Global,
     spec: &Spec,
-    query: &Query,
+    query: &mut Query,
     text: Text,
     template: Option<Rc<Template>>,
     bytes: Bytes,
@@ -115,18 +115,17 @@ fn run_over_spans<L: Logs, D: Disk>(
 ) -> Result<Counts, RunStop>
     requires moment { IsMoment moment }
     requires range { IsInRange spec.now }
-    requires template { output_of spec.now (query_of query.now) ≡ O.Tpl → IsSome template }
-    requires built { is_run_built spec.now (query_of query.now) ≡ true }
+    requires template { output_of spec.now (query_of query.old) ≡ O.Tpl → IsSome template }
     requires ledger { spec.now.checkpoint ≡ Some files.ledger }
     requires stage { files.stage ≡ files.ledger ++ codes ".stage" }
     requires few { length spans.now ≤ 100_000 }
     requires low { AllSpans spans.now IsSpan }
     requires there { Told (L.folder logs.old) (λ folder. AllSpans spans.now (λ span. span.listed ≤ length (bytes_in folder span.name))) }
     ensures grows { OnlyGrow (L.folder logs.old) (L.folder logs.new) }
-    ensures runs { RunsOver D.state (request_of spec.now (query_of query.now) text bytes moment) (sections_in (λ t. t.value) template) (L.folder logs.new) spans.now files disk.old disk.new result }
-    ensures refused { IfErr result (StopsFor (request_of spec.now (query_of query.now) text bytes moment) (sections_in (λ t. t.value) template) (L.folder logs.new) spans.now) }
+    ensures runs { RunsOver D.state (request_of spec.now (query_of query.old) text bytes moment) (sections_in (λ t. t.value) template) (L.folder logs.old) (L.folder logs.new) spans.now files disk.old disk.new result }
+    ensures refused { IfErr result (StopsFor (request_of spec.now (query_of query.old) text bytes moment) (sections_in (λ t. t.value) template) (L.folder logs.old) (L.folder logs.new) spans.now) }
     ensures damaged { IfErr result (StopsAtDamage (D.state disk.old) files.ledger files.stage) }
-    ensures given { L.given logs.new ≤ L.given logs.old + spans_size spans.now }
+    ensures given { ReadsThen (L.folder logs.new) (query_of query.old) (spans_size spans.now) (L.given logs.old) (L.given logs.new) }
     ensures later_logs { L.faults logs.old ≤ L.faults logs.new }
     ensures later { D.faults disk.old ≤ D.faults disk.new }
     ensures reason { IfErr result (HasReason (Rose (L.faults logs.old) (L.faults logs.new)) (Rose (D.faults disk.old) (D.faults disk.new))) }
@@ -161,12 +160,12 @@ fn clash_in(ledger: &Name, stage: &Name, spans: &Spans) -> Option<Name>
     }
 }
 
-/// Runs a query over the logs behind FROM, of each the complete lines behind its kept place, and commits its outputs and its
-/// entry together.
+/// Runs a query over the logs behind FROM, of each the complete lines behind its kept place, its subqueries before it, and commits
+/// its outputs and its entry together.
 pub fn run_over_ledger<L: Logs, D: Disk>(
     alloc: Global,
     spec: &Spec,
-    query: &Query,
+    query: &mut Query,
     text: Text,
     template: Option<Rc<Template>>,
     bytes: Bytes,
@@ -178,28 +177,27 @@ pub fn run_over_ledger<L: Logs, D: Disk>(
 ) -> Result<Counts, LedgerStop>
     requires moment { IsMoment moment }
     requires range { IsInRange spec.now }
-    requires template { output_of spec.now (query_of query.now) ≡ O.Tpl → IsSome template }
+    requires template { output_of spec.now (query_of query.old) ≡ O.Tpl → IsSome template }
     // The bytes are those of the template.
-    requires sections { HasTemplate spec.now (query_of query.now) bytes (sections_in (λ t. t.value) template) }
-    requires built { is_run_built spec.now (query_of query.now) ≡ true }
-    requires names { sources.now.names ≡ map (λ name. name.text) (names_in (query_of query.now)) }
+    requires sections { HasTemplate spec.now (query_of query.old) bytes (sections_in (λ t. t.value) template) }
+    requires names { sources.now.names ≡ map (λ name. name.text) (names_in (query_of query.old)) }
     requires rotation { sources.now.rotation ≡ spec.now.rotation }
     requires ledger { spec.now.checkpoint ≡ Some files.ledger }
     requires stage { files.stage ≡ files.ledger ++ codes ".stage" }
     ensures grows { OnlyGrow (L.folder logs.old) (L.folder logs.new) }
     // It is a step of the world from any earlier moment on, since when the disk was settled at most and the logs only grew.
     ensures step { (earlier : D) (since : Option Folder) → (CanSettle (D.state earlier) files.ledger files.stage → Settles (D.state earlier) (D.state disk.old) files.ledger files.stage) → OnlyGrow since (L.folder logs.old)
-        → TakesStep result (request_of spec.now (query_of query.now) text bytes moment) files.ledger files.stage since (L.folder logs.new) (D.state earlier) (D.state disk.new) }
+        → TakesStep result (request_of spec.now (query_of query.old) text bytes moment) files.ledger files.stage since (L.folder logs.new) (D.state earlier) (D.state disk.new) }
     // What it did where it came to counts.
-    ensures ran { IfOk result (HasRun D.state (D.state disk.old) files.ledger files.stage (rule_of sources.now.rotation) (input_text (input_for spec.now (query_of query.now))) sources.now.names (request_of spec.now (query_of query.now) text bytes moment) (sections_in (λ t. t.value) template) (L.folder logs.old) (L.folder logs.new)) }
+    ensures ran { IfOk result (HasRun D.state (D.state disk.old) files.ledger files.stage (rule_of sources.now.rotation) (input_text (input_for spec.now (query_of query.old))) sources.now.names (request_of spec.now (query_of query.old) text bytes moment) (sections_in (λ t. t.value) template) (L.folder logs.old) (L.folder logs.new)) }
     // Why there are no counts.
-    ensures refused { IfErr result (IsWithoutCounts (D.state disk.old) files.ledger files.stage (rule_of sources.now.rotation) (input_text (input_for spec.now (query_of query.now))) sources.now.names (request_of spec.now (query_of query.now) text bytes moment) (sections_in (λ t. t.value) template) (L.folder logs.old) (L.folder logs.new)) }
+    ensures refused { IfErr result (IsWithoutCounts (D.state disk.old) files.ledger files.stage (rule_of sources.now.rotation) (input_text (input_for spec.now (query_of query.old))) sources.now.names (request_of spec.now (query_of query.old) text bytes moment) (sections_in (λ t. t.value) template) (L.folder logs.old) (L.folder logs.new)) }
     // A damage that settling the disk finds is that of the stage or of the ledger.
     ensures damaged { IfErr result (IsAtDamage (D.state disk.old) files.ledger files.stage) }
     // A fault of the disk or of the logs is one that was counted in the call.
     ensures reason { IfErr result (HasCauses (Rose (L.faults logs.old) (L.faults logs.new)) (Rose (D.faults disk.old) (D.faults disk.new))) }
-    // What the logs gave lies in the spans.
-    ensures given { GivesSpans (D.state disk.old) files.ledger files.stage (rule_of sources.now.rotation) (input_text (input_for spec.now (query_of query.now))) sources.now.names (L.folder logs.old) (L.folder logs.new) (L.given logs.old) (L.given logs.new) }
+    // What the logs gave lies in those of the subqueries and in the spans.
+    ensures given { GivesSpans (D.state disk.old) files.ledger files.stage (rule_of sources.now.rotation) (input_text (input_for spec.now (query_of query.old))) sources.now.names (query_of query.old) (L.folder logs.old) (L.folder logs.new) (L.given logs.old) (L.given logs.new) }
     ensures later_logs { L.faults logs.old ≤ L.faults logs.new }
     ensures later { D.faults disk.old ≤ D.faults disk.new }
 {

@@ -1,16 +1,16 @@
 // A run over a ledger: settled, staged, sealed, opened and finished.
-ghost use Rattle.std.specs.Prelude.{◌≡◌, ◌≤◌, ◌+◌, ◌++◌, true, length, codes, None, IfOk, IfErr, IfSome, IsSome};
+ghost use Rattle.std.specs.Prelude.{◌≡◌, ◌≤◌, ◌++◌, length, codes, None, IfOk, IfErr, IfSome, IsSome};
 ghost use Rattle.lp_model.specs.Outside.{Rose, OnlyGrow, Told, bytes_in};
 ghost use Rattle.command_words.specs.Table.{IsInRange};
 ghost use Rattle.command_words.specs.declared.formats.OutputFormat.TheVariants as O;
 ghost use Rattle.commit.specs.Phases.{disk_of, ledger_of, stage_of, Same, SettlesHeld, Unsettled};
-ghost use Rattle.execution.specs.Built.{is_run_built};
-ghost use Rattle.execution.specs.Executed.{IsMoment};
-ghost use Rattle.execution.specs.Texts.{output_of, sections_in};
+ghost use Rattle.run_entry.specs.Executed.{IsMoment};
+ghost use Rattle.run_entry.specs.Texts.{output_of, sections_in};
 ghost use Rattle.lp_outside.specs.NameFault.{name_fault};
 ghost use Rattle.log_reading.specs.Spans.{AllSpans, IsSpan, spans_size};
 ghost use Rattle.query_tree.specs.Views.{query_of};
 ghost use Rattle.checkpointed_run.specs.Committed.{IsCommitted, StopsAtGate};
+ghost use Rattle.checkpointed_run.specs.Reading.{ReadsThen};
 ghost use Rattle.checkpointed_run.specs.Reasons.{StopsAtDamage, StopsFor};
 ghost use Rattle.checkpointed_run.specs.Staged.{request_of};
 ghost use Rattle.checkpointed_run.specs.Stops.{IsBeforeGate, IsDamagedStop, IsFromGate, HasReason};
@@ -19,11 +19,11 @@ use crate::staging::stage_run;
 use checkpoint::Spans;
 use command_words::Spec;
 use commit::{Commit, CommitFault};
-use execution::RunFault;
 use lp_outside::{Disk, Logs};
 use lp_values::{Bytes, Text};
 use query_run::Counts;
 use query_tree::Query;
+use run_entry::{RunFault, SubqueryFault};
 use std::alloc::Global;
 use std::rc::Rc;
 use tpl_output::Template;
@@ -31,6 +31,8 @@ use tpl_output::Template;
 /// Why a run over a ledger stops.
 #[derive(Drop)]
 pub enum RunStop {
+    /// Before the gate: a subquery of the query.
+    Subquery(SubqueryFault),
     /// Before the gate: the query, its logs, its outputs or memory.
     Refused(RunFault),
     /// Before the gate: the disk failed, or the ledger or the stage that it found is damaged.
@@ -39,12 +41,12 @@ pub enum RunStop {
     FromGate(CommitFault),
 }
 
-/// Runs a query over spans of logs: settles the disk, stages the rows and seals the run's entry, opens its gate and writes its
-/// outputs.
+/// Runs a query over spans of logs: settles the disk, runs the query's subqueries and tells it what they gave, stages the rows and
+/// seals the run's entry, opens its gate and writes its outputs.
 pub fn commit_run<'d, L: Logs, D: Disk>(
     alloc: Global,
     spec: &Spec,
-    query: &Query,
+    query: &mut Query,
     text: Text,
     template: Option<Rc<Template>>,
     bytes: Bytes,
@@ -55,22 +57,21 @@ pub fn commit_run<'d, L: Logs, D: Disk>(
 ) -> Result<Counts, RunStop>
     requires moment { IsMoment moment }
     requires range { IsInRange spec.now }
-    requires template { output_of spec.now (query_of query.now) ≡ O.Tpl → IsSome template }
-    requires built { is_run_built spec.now (query_of query.now) ≡ true }
+    requires template { output_of spec.now (query_of query.old) ≡ O.Tpl → IsSome template }
     requires stage { IfSome spec.now.checkpoint (λ ledger. name_fault (ledger ++ codes ".stage") ≡ None) }
     requires few { length spans.now ≤ 100000 }
     requires spans { AllSpans spans.now IsSpan }
     requires there { Told (L.folder logs.old) (λ folder. AllSpans spans.now (λ span. span.listed ≤ length (bytes_in folder span.name))) }
     ensures grows { OnlyGrow (L.folder logs.old) (L.folder logs.new) }
     ensures same { Same commit.old commit.new }
-    ensures committed { IfOk result (IsCommitted D.state (request_of spec.now (query_of query.now) text bytes moment) (sections_in (λ t. t.value) template) (L.folder logs.new) spans.now commit.old commit.new) }
+    ensures committed { IfOk result (IsCommitted D.state (request_of spec.now (query_of query.old) text bytes moment) (sections_in (λ t. t.value) template) (L.folder logs.old) (L.folder logs.new) spans.now commit.old commit.new) }
     ensures before { IfErr result (λ stop. IsBeforeGate stop → Unsettled D.state commit.old → SettlesHeld D.state commit.old commit.new) }
-    ensures behind { IfErr result (λ stop. IsFromGate stop → StopsAtGate D.state (request_of spec.now (query_of query.now) text bytes moment) (sections_in (λ t. t.value) template) (L.folder logs.new) spans.now commit.old commit.new stop) }
+    ensures behind { IfErr result (λ stop. IsFromGate stop → StopsAtGate D.state (request_of spec.now (query_of query.old) text bytes moment) (sections_in (λ t. t.value) template) (L.folder logs.old) (L.folder logs.new) spans.now commit.old commit.new stop) }
     // No damage is told of a disk that may be settled.
     ensures undamaged { IfErr result (λ stop. IsBeforeGate stop → IsDamagedStop stop → Unsettled D.state commit.old → ⊥) }
-    ensures refused { IfErr result (StopsFor (request_of spec.now (query_of query.now) text bytes moment) (sections_in (λ t. t.value) template) (L.folder logs.new) spans.now) }
+    ensures refused { IfErr result (StopsFor (request_of spec.now (query_of query.old) text bytes moment) (sections_in (λ t. t.value) template) (L.folder logs.old) (L.folder logs.new) spans.now) }
     ensures damaged { IfErr result (StopsAtDamage (disk_of D.state commit.old) (ledger_of commit.old) (stage_of commit.old)) }
-    ensures given { L.given logs.new ≤ L.given logs.old + spans_size spans.now }
+    ensures given { ReadsThen (L.folder logs.new) (query_of query.old) (spans_size spans.now) (L.given logs.old) (L.given logs.new) }
     ensures later_logs { L.faults logs.old ≤ L.faults logs.new }
     ensures later { D.faults commit.old.disk.now ≤ D.faults commit.new.disk.now }
     ensures reason { IfErr result (HasReason (Rose (L.faults logs.old) (L.faults logs.new)) (Rose (D.faults commit.old.disk.now) (D.faults commit.new.disk.now))) }
@@ -83,7 +84,7 @@ pub fn commit_run<'d, L: Logs, D: Disk>(
         alloc, spec, query, text, template, bytes, moment, logs, spans, commit,
     ) {
         Ok(run) => run,
-        Err(fault) => return Err(RunStop::Refused(fault)),
+        Err(stop) => return Err(stop),
     };
     match commit.seal(&run.entry) {
         Ok(()) => {}

@@ -1,6 +1,6 @@
 -- One record more.
 use Rattle.std.proofs.Common.{◌≡◌, ℕ, ◌≤◌, List, [], ◌∷◌, ◌++◌, length, map, Option, Some, None, ap, sym, ◌∙◌, refl, subst, inl, arith, append_assoc, length-append}
-use Rattle.std.proofs.lemmas.List.{length-map}
+use Rattle.std.proofs.lemmas.List.{append-nil, length-map}
 use Rattle.log_reading.specs.Found.{Found, Met, row_met}
 use Rattle.query_types.specs.declared.fault.TypeFault.{TypeFault}
 use Rattle.column_kinds.specs.declared.judging.Judged.{Judged}
@@ -104,6 +104,35 @@ pub halts_taking : {M T O : Type 0} (kind : SampleKind M T O) (laws : IsTaker ki
     → old.phase ≡ P.Taking first → kind.stops first u (row_met found ∷ []) last v → HaltsAt kind old u found (P.Taking last) v
 halts_taking kind laws old first last u v found is stops = λ rules start past holds later follows.
     stops_on kind laws rules start u v past later first last found stops (phase_is kind rules start u past old (P.Taking first) is holds) follows
+
+-- the taker handed on what it had, and nothing was met
+pub samples_handed : {M T O : Type 0} (kind : SampleKind M T O) (laws : IsTaker kind) (old : Sampled M T) (first last : T) (u v : O)
+    → old.phase ≡ P.Taking first → kind.takes first u [] last v → (rules : Rules M) (start : O) (past : Past) → Holds kind rules start past old u → PhaseHolds kind rules start past (P.Taking last) v
+samples_handed kind laws old first last u v is takes rules start past holds =
+    let on = phase_is kind rules start u past old (P.Taking first) is holds in
+    let begun = on.begun in
+    record {
+      told = on.told;
+      begun = record {
+        made = begun.made;
+        is_made = begun.is_made;
+        taken = subst (λ (mets : List Met). kind.takes begun.made start mets last v) (append-nil (rows_of past.founds)) (laws.takes_more begun.made first last start u v (rows_of past.founds) [] begun.taken takes);
+      };
+    }
+
+pub halts_handed : {M T O : Type 0} (kind : SampleKind M T O) (laws : IsTaker kind) (old : Sampled M T) (first last : T) (u v : O)
+    → old.phase ≡ P.Taking first → kind.stops first u [] last v → (rules : Rules M) (start : O) (past : Past) → Holds kind rules start past old u → (later : Past) → Later past later → PhaseStopped kind rules start later (P.Taking last) v
+halts_handed kind laws old first last u v is stops rules start past holds later follows =
+    let on = phase_is kind rules start u past old (P.Taking first) is holds in
+    let begun = on.begun in
+    let Of : List Met → Type 0 = λ mets. kind.stops begun.made start mets last v in
+    let here : Of (rows_of past.founds) = subst Of (append-nil (rows_of past.founds)) (laws.stops_later begun.made first last start u v (rows_of past.founds) [] begun.taken stops) in
+    record {
+      made = begun.made;
+      is_made = subst (λ (told : Judged). kind.makes rules.maker told begun.made) (sym (told_stays rules past later on.told follows)) begun.is_made;
+      stopped = subst Of (sym (rows_of-append past.founds follows.more) ∙ sym (ap rows_of follows.founds))
+          (laws.stops_more begun.made last start v (rows_of past.founds) (rows_of follows.more) here);
+    }
 
 pub samples_gathering : {M T O : Type 0} (kind : SampleKind M T O) (old : Sampled M T) (first last : Gathering M) (u : O) (found : Found)
     → old.phase ≡ P.Gathering first → last.first ≡ first_seen first.first (found ∷ []) → map found_in last.rows ≡ map found_in first.rows ++ found ∷ [] → last.maker ≡ first.maker

@@ -1,5 +1,5 @@
 // How a sample takes what is met.
-ghost use Rattle.std.specs.Prelude.{◌≡◌, ◌≤◌, ◌<◌, ◌+◌, ◌^◌, ◌++◌, ◌∷◌, [], ℕ, List, OnOk, OnErr, IsErrOf};
+ghost use Rattle.std.specs.Prelude.{◌≡◌, ◌≤◌, ◌<◌, ◌+◌, ◌^◌, ◌++◌, ◌∷◌, [], ℕ, List, ⊤, OnOk, OnErr, IsErrOf};
 ghost use Rattle.lp_model.specs.Outside.{Rose};
 ghost use Rattle.column_kinds.specs.Phases.{IsStoppedIn, taken_in};
 ghost use Rattle.column_kinds.specs.Sampling.{kind_of};
@@ -26,6 +26,9 @@ impl<'a, M: Maker<T, O> + Drop, T: Taker<O> + Drop, O> Taker<O> for Sampled<'a, 
     ghost faults = { T.faults };
 
     ghost goes = { T.goes };
+
+    // what is handed on is the taker's own matter
+    ghost handed_on = { λ s out. ⊤ };
 
     ghost goes_nowhere = { T.goes_nowhere };
 
@@ -69,6 +72,15 @@ impl<'a, M: Maker<T, O> + Drop, T: Taker<O> + Drop, O> Taker<O> for Sampled<'a, 
         match note_first(alloc, identity, columns, self) {
             Ok(()) => Ok(()),
             Err(_) => Err(TakeFault::Memory),
+        }
+    }
+
+    fn hand_on(&mut self, out: &mut O) -> Result<(), TakeFault> {
+        match &mut self.phase {
+            Phase::Taking(taker) => taker.hand_on(out),
+            Phase::Gathering(_) => Ok(()),
+            Phase::Refused(_) => Ok(()),
+            Phase::Lost => Ok(()),
         }
     }
 

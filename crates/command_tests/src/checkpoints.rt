@@ -234,3 +234,129 @@ fn a_stopped_run_takes_each_line_once(rt: HostRuntime) -> Result<(), Fail> {
     }
     Ok(())
 }
+
+const COUNTED: &str =
+    "-i:TEXTLINE -iCheckpoint:cp -fileMode:0 \"SELECT Index, Text INTO o.csv FROM a.log\"";
+
+// How many lines the run behind a stopped one takes, where a crash leaves such bytes of all that wasn't synced.
+fn left_behind(alloc: Global, torn: Torn, call: u64) -> Result<u8, Fail> {
+    let mut logs = MemoryLogs::new(alloc);
+    let mut disk = MemoryDisk::new(alloc);
+    logs.put(&name("a.log")?, b"a\n")?;
+    let _first = told(alloc, &mut logs, &mut disk, COUNTED)?;
+    logs.put(&name("a.log")?, b"b\n")?;
+    disk.stop_after(call);
+    let _stopped = told(alloc, &mut logs, &mut disk, COUNTED)?;
+    disk.crash(&torn_list(alloc, torn)?)?;
+    let last = told(alloc, &mut logs, &mut disk, COUNTED)?;
+    let once = are_lines(alloc, disk.bytes(&name("o.csv")?), "Index,Text;1,a;2,b;")?;
+    let none = are_lines(
+        alloc,
+        last.as_slice(),
+        "0 Statistics:;-----------;Elements processed: 0;Elements output:    0;",
+    )?;
+    let one = are_lines(
+        alloc,
+        last.as_slice(),
+        "0 Statistics:;-----------;Elements processed: 1;Elements output:    1;",
+    )?;
+    Ok(if !once {
+        9
+    } else if none {
+        0
+    } else if one {
+        1
+    } else {
+        9
+    })
+}
+
+// The gate's byte alone decides: at two calls of the disk, its write and the sync behind it, the run stands where the byte came out
+// as an open gate, and its line is taken by the next run where it came out as anything else.
+#[test]
+fn the_gate_decides(rt: HostRuntime) -> Result<(), Fail> {
+    let mut gates = 0u64;
+    for call in 0..64 {
+        let open = left_behind(rt.alloc(), Torn::Filled(0xA5), call)?;
+        let torn = left_behind(rt.alloc(), Torn::Filled(0x37), call)?;
+        assert!(rt; open < 2 && torn < 2, "a stop behind {call} calls");
+        if open == 0 && torn == 1 {
+            gates = gates.saturating_add(1);
+        }
+    }
+    assert!(rt; gates == 2, "{gates}");
+    Ok(())
+}
+
+const SPLIT: &str =
+    "-stats:OFF -iCheckpoint:cm -fileMode:0 \"SELECT k, v INTO out_*.csv FROM m.csv\"";
+
+// Whether each of three outputs has its row once.
+fn are_split(alloc: Global, disk: &MemoryDisk) -> Result<bool, Fail> {
+    Ok(
+        are_lines(alloc, disk.bytes(&name("out_a.csv")?), "v;1;")?
+            && are_lines(alloc, disk.bytes(&name("out_b.csv")?), "v;2;")?
+            && are_lines(alloc, disk.bytes(&name("out_c.csv")?), "v;3;")?,
+    )
+}
+
+// A run into three outputs stops behind so many calls of the disk, the next one behind so many, as crashes leave them, and a third
+// is made. Whether the outputs are right then.
+fn splits_at(alloc: Global, call: u64, next: u64) -> Result<bool, Fail> {
+    let mut logs = MemoryLogs::new(alloc);
+    let mut disk = MemoryDisk::new(alloc);
+    logs.put(&name("m.csv")?, b"k,v\na,1\nb,2\nc,3\n")?;
+    disk.stop_after(call);
+    let _first = told(alloc, &mut logs, &mut disk, SPLIT)?;
+    disk.crash(&torn_list(alloc, Torn::Filled(0xA5))?)?;
+    disk.stop_after(next);
+    let _second = told(alloc, &mut logs, &mut disk, SPLIT)?;
+    disk.crash(&torn_list(alloc, Torn::Filled(0x37))?)?;
+    let last = told(alloc, &mut logs, &mut disk, SPLIT)?;
+    Ok(are_lines(alloc, last.as_slice(), "0 ")? && are_split(alloc, &disk)?)
+}
+
+// What a settling run does first, the cut, the write and the sync of an output among it, are fewer than eight calls.
+#[test]
+fn a_run_that_stops_twice_splits_once(rt: HostRuntime) -> Result<(), Fail> {
+    for call in 0..48 {
+        for next in 0..8 {
+            let right = splits_at(rt.alloc(), call, next)?;
+            assert!(rt; right, "stops behind {call} and {next} calls");
+        }
+    }
+    Ok(())
+}
+
+// One call of the disk fails in the second run, which is made again. Whether it failed for that, and each line stands once.
+fn fails_at(alloc: Global, call: u64) -> Result<(bool, bool), Fail> {
+    let mut logs = MemoryLogs::new(alloc);
+    let mut disk = MemoryDisk::new(alloc);
+    logs.put(&name("a.log")?, b"a\n")?;
+    let _first = told(alloc, &mut logs, &mut disk, APPENDS)?;
+    logs.put(&name("a.log")?, b"b\n")?;
+    disk.fail(call)?;
+    let second = told(alloc, &mut logs, &mut disk, APPENDS)?;
+    let third = told(alloc, &mut logs, &mut disk, APPENDS)?;
+    let once = are_lines(alloc, disk.bytes(&name("o.csv")?), "Index,Text;1,a;2,b;")?;
+    let ended = are_lines(alloc, third.as_slice(), "0 ")?;
+    let failed = are_lines(alloc, second.as_slice(), "6 logparser: disk fault;")?;
+    Ok((failed, once && (ended || !failed)))
+}
+
+// Each call of the disk fails once, the syncs of the stage among them.
+#[test]
+fn a_run_that_fails_is_made_again(rt: HostRuntime) -> Result<(), Fail> {
+    let mut failed_before = true;
+    for call in 0..64 {
+        let (failed, once) = fails_at(rt.alloc(), call)?;
+        assert!(rt; once, "call {call} fails");
+        assert!(rt;
+            failed_before || !failed,
+            "call {call} fails behind the run"
+        );
+        failed_before = failed;
+    }
+    assert!(rt; !failed_before);
+    Ok(())
+}

@@ -1,8 +1,12 @@
 // Runs over standard input.
-use logparser_cli::run;
+ghost use Rattle.std.specs.Prelude.{None};
+
+use headline::run;
+use lp_outside::{Sink, SinkFailed, Source, SourceFailed};
 use lp_values::{Bytes, Text, TextList};
 use memory_outside::{MemoryDisk, MemoryLogs, MemorySink, MemorySource};
 use std::alloc::Global;
+use std::cell::Cell;
 use std::test::Fail;
 
 // The options and the query of a run, what standard input gives, and what is told: the code, and what it writes to out and to err.
@@ -76,5 +80,96 @@ fn standard_input_may_fail(rt: HostRuntime) -> Result<(), Fail> {
     )?;
     let want = "5 |logparser: read fault: standard input;";
     assert!(rt; told.as_slice() == want.as_bytes(), "{:?}", told.as_slice());
+    Ok(())
+}
+
+// Lines of 64 bytes, as many as there are left, and a count of the bytes that were given, which the output sees.
+#[derive(Drop)]
+struct Lines<'a> {
+    left: usize,
+    given: u64,
+    faults: u64,
+    shared: &'a Cell<u64>,
+}
+
+impl<'a> Source for Lines<'a> {
+    ghost left = { λ s. None };
+
+    ghost given = { λ s. s.given };
+
+    ghost faults = { λ s. s.faults };
+
+    fn read(&mut self, into: &mut [u8]) -> Result<usize, SourceFailed> {
+        let count = into.len().min(self.left);
+        let Some(given) = self.given.checked_add(count as u64) else {
+            self.faults = self.faults.saturating_add(1);
+            return Err(SourceFailed);
+        };
+        for index in 0..count {
+            into[index] = if index % 64 == 63 { b'\n' } else { b'x' };
+        }
+        self.left -= count;
+        self.given = given;
+        self.shared.set(given);
+        Ok(count)
+    }
+}
+
+// An output that notes how many bytes were given when it is first written to.
+#[derive(Drop)]
+struct First<'a> {
+    at: Option<u64>,
+    shared: &'a Cell<u64>,
+}
+
+impl<'a> Sink for First<'a> {
+    ghost written = { λ s. None };
+
+    ghost faults = { λ s. 0 };
+
+    fn write(&mut self, piece: &[u8]) -> Result<usize, SinkFailed> {
+        if self.at.is_none() && !piece.is_empty() {
+            self.at = Some(self.shared.get());
+        }
+        Ok(piece.len())
+    }
+}
+
+// How many of 1,048,576 bytes were given when a query first writes.
+fn first_write(alloc: Global, query: &str) -> Result<Option<u64>, Fail> {
+    let shared = Cell::new(0);
+    let mut input = Lines {
+        left: 1_048_576,
+        given: 0,
+        faults: 0,
+        shared: &shared,
+    };
+    let mut out = First {
+        at: None,
+        shared: &shared,
+    };
+    let mut words = TextList::new(alloc);
+    for word in ["-i:TEXTLINE", "-o:CSV", query] {
+        words.push(Text::from_str(alloc, word)?)?;
+    }
+    let mut logs = MemoryLogs::new(alloc);
+    let mut disk = MemoryDisk::new(alloc);
+    let mut err = MemorySink::new(alloc);
+    let _status = run(
+        alloc, &words, 0, &mut logs, &mut disk, &mut input, &mut out, &mut err,
+    );
+    Ok(out.at)
+}
+
+// The first rows are out before the third piece is read, also where one line in ten is kept.
+#[test]
+fn rows_come_out_while_lines_come_in(rt: HostRuntime) -> Result<(), Fail> {
+    let all = first_write(rt.alloc(), "SELECT Text FROM STDIN")?;
+    assert!(rt; all.is_some_and(|given| given <= 131_072));
+    let tenth = first_write(
+        rt.alloc(),
+        "SELECT Text FROM STDIN WHERE MOD(Index, 10) = 0",
+    )?;
+    assert!(rt; tenth.is_some_and(|given| given <= 131_072));
     Ok(())
 }

@@ -2,8 +2,7 @@
 //!
 //! To the crate above: [`execute`] writes exactly the text of the query's rows over the records of the spans, in order, or
 //! answers the typing fault of the query; after a refusal the stage has the front of the text. Where unended lines wait, it
-//! tells what it took of each span. [`all_built`] tells what is built so far, and [`log_format`] how logs are read, in the
-//! format that [`input_of`] tells.
+//! tells what it took of each span. [`log_format`] tells how logs are read, in the format that [`input_of`] tells.
 #![tactic(auto)]
 
 mod built;
@@ -19,7 +18,7 @@ mod sampling;
 mod tabled;
 mod texts;
 
-pub use built::{all_built, is_run_built, reads_stdin};
+pub use built::reads_stdin;
 pub use executing::execute;
 pub use fault::{Ran, RunFault};
 pub use formats::{LogFormat, input_of, log_format};

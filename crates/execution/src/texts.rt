@@ -3,7 +3,7 @@ ghost use Rattle.std.specs.Prelude.{◌≡◌, ℤ, true, option_map, IsSome};
 ghost use Rattle.any_format.specs.Wanted.{wanted_text};
 ghost use Rattle.command_words.specs.declared.formats.OutputFormat.TheVariants as O;
 ghost use Rattle.query_tree.specs.Views.{placed_of, query_of};
-ghost use Rattle.execution.specs.Texts.{has_text, output_by_into, output_of, sections_in, text_as};
+ghost use Rattle.execution.specs.Texts.{output_by_into, output_of, sections_in, text_as};
 
 use any_format::Wanted;
 use command_words::{OutputFormat, Spec};
@@ -34,16 +34,6 @@ pub fn output_of(spec: &Spec, query: &Query) -> OutputFormat
                 output_by_into(&query.into)
             }
         }
-    }
-}
-
-/// Whether a format's text is built.
-pub(crate) fn has_text(spec: &Spec, format: OutputFormat) -> bool
-    ensures { result ≡ has_text spec.now format }
-{
-    match format {
-        OutputFormat::Nat | OutputFormat::Csv | OutputFormat::Tsv | OutputFormat::W3c => true,
-        OutputFormat::Tpl => spec.tpl.is_some(),
     }
 }
 

@@ -6,19 +6,19 @@ use Rattle.command_words.specs.declared.spec.Spec.{Spec}
 use Rattle.command_words.specs.Usage.{AreFine}
 use Rattle.command_words.specs.declared.usage.UsageFault.{UsageFault}
 use Rattle.command_words.proofs.Refusals.{never_both}
-use Rattle.checkpointed_command.specs.Refusals.{IsRefused}
-use Rattle.checkpointed_command.specs.Steps.{TakesSteps}
+use Rattle.logparser_cli.specs.Refusals.{IsRefused}
+use Rattle.logparser_cli.specs.Steps.{TakesSteps}
 use Rattle.query_run.specs.declared.executing.Counts.{Counts}
 use Rattle.disk_model.specs.Disk.{DiskState}
-use Rattle.execution.specs.Built.{reads_stdin}
+use Rattle.logparser_cli.specs.Built.{reads_stdin}
 use Rattle.query_text.specs.Stdin.{names_in}
 use Rattle.tpl_output.specs.Sections.{Sections}
 use Rattle.logparser_cli.specs.Answers.{Asked, AnswersOf, AnswersOver, AnswersPlainly}
 use Rattle.logparser_cli.specs.Kept.{stage_beside, AnswersKept, Answers, IsEarly}
 use Rattle.logparser_cli.specs.Outputs.{World}
 use Rattle.logparser_cli.specs.Subqueries.{ungiven}
-use Rattle.subqueries.specs.declared.fault.SubqueryFault.{SubqueryFault}
-use Rattle.subqueries.specs.declared.fault.SubqueryFault.TheVariants as F
+use Rattle.logparser_cli.specs.SubqueryFault.{SubqueryFault}
+use Rattle.logparser_cli.specs.SubqueryFault.TheVariants as F
 use Rattle.lp_model.specs.Outside.{Folder}
 use Rattle.reports.specs.declared.status.Status.{Status}
 use Rattle.reports.specs.declared.status.Status.TheVariants as S
@@ -45,6 +45,7 @@ no_given_clock : (fault : SubqueryFault) (at : ℤ) → S.Clock at ≡ ungiven f
 no_given_clock (F.BadName fault) at same = cc
 no_given_clock (F.NoSuchLog name) at same = cc
 no_given_clock F.TooManyLogs at same = cc
+no_given_clock (F.Clash name) at same = cc
 no_given_clock (F.Plan fault) at same = cc
 no_given_clock (F.Bad log row) at same = cc
 no_given_clock F.Logs at same = cc
@@ -54,6 +55,7 @@ no_given_usage : (fault : SubqueryFault) (word : UsageFault) → S.Usage word �
 no_given_usage (F.BadName fault) word same = cc
 no_given_usage (F.NoSuchLog name) word same = cc
 no_given_usage F.TooManyLogs word same = cc
+no_given_usage (F.Clash name) word same = cc
 no_given_usage (F.Plan fault) word same = cc
 no_given_usage (F.Bad log row) word same = cc
 no_given_usage F.Logs word same = cc
@@ -71,11 +73,11 @@ given_no_usage old new template spec moment q fault (inr (inr r)) = over_no_usag
 
 -- a query's answer tells of no clock
 no_clock : (moment : ℤ) (old new : World) (words : List (List ℕ)) (at : ℤ) → Asked moment old new words (S.Clock at) → ⊥
-no_clock moment old new words at a = ⊎_elim (λ unbuilt. let same = unbuilt.1 in cc) (λ built. ⊎_elim (λ unread. unread.refused.refused) (λ read. given_no_clock old new read.template a.spec moment a.q at read.answers) built.1) a.answers
+no_clock moment old new words at a = ⊎_elim (λ unread. unread.refused.refused) (λ read. given_no_clock old new read.template a.spec moment a.q at read.answers) a.answers
 
 -- and of no word
 no_usage : (moment : ℤ) (old new : World) (words : List (List ℕ)) (fault : UsageFault) → Asked moment old new words (S.Usage fault) → ⊥
-no_usage moment old new words fault a = ⊎_elim (λ unbuilt. let same = unbuilt.1 in cc) (λ built. ⊎_elim (λ unread. unread.refused.refused) (λ read. given_no_usage old new read.template a.spec moment a.q fault read.answers) built.1) a.answers
+no_usage moment old new words fault a = ⊎_elim (λ unread. unread.refused.refused) (λ read. given_no_usage old new read.template a.spec moment a.q fault read.answers) a.answers
 
 -- so what is answered early to words that are fine tells of the moment or of memory
 unbegun : (moment : ℤ) (old new : World) (words : List (List ℕ)) (status : Status) → AreFine words → IsEarly status → AnswersPlainly moment words old new status → IsUnbegun moment status
@@ -88,7 +90,6 @@ unbegun moment old new words (S.Usage fault) fine early (inr (now, inl unasked))
 unbegun moment old new words (S.Usage fault) fine early (inr (now, inr asked)) = absurd (no_usage moment old new words fault asked)
 unbegun moment old new words S.Done fine early answers = absurd early
 unbegun moment old new words (S.Query fault) fine early answers = absurd early
-unbegun moment old new words S.NotBuilt fine early answers = absurd early
 unbegun moment old new words (S.NoSuchLog name) fine early answers = absurd early
 unbegun moment old new words (S.BadName fault) fine early answers = absurd early
 unbegun moment old new words (S.NameClash name) fine early answers = absurd early

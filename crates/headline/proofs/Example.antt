@@ -10,9 +10,9 @@ use Rattle.command_words.specs.Usage.{AreFine, fault_at}
 use Rattle.command_words.specs.Words.{options_in, query_in}
 use Rattle.command_words.specs.declared.modes.Rotation.TheVariants as R
 use Rattle.command_words.specs.declared.spec.Spec.{Spec}
-use Rattle.checkpointed_command.specs.Asked.{IsAskedBy}
-use Rattle.checkpointed_command.specs.Refusals.{IsRefused}
-use Rattle.checkpointed_command.specs.Steps.{TakesSteps}
+use Rattle.logparser_cli.specs.CheckpointedCommandAsked.{IsAskedBy}
+use Rattle.logparser_cli.specs.Refusals.{IsRefused}
+use Rattle.logparser_cli.specs.Steps.{TakesSteps}
 use Rattle.commit.specs.Faults.{FitsWhole}
 use Rattle.commit.specs.Resume.{CanSettle, Settles}
 use Rattle.disk_model.specs.Disk.{Files}
@@ -24,7 +24,7 @@ use Rattle.lp_model.specs.Outside.{Folder}
 use Rattle.lp_model.proofs.Growing.{OnlyGrow-refl}
 use Rattle.lp_time.specs.Patterns.{pieces_from}
 use Rattle.positions.specs.Spanning.{Reaches, rule_of}
-use Rattle.program_meaning.proofs.Options.{rotation_by_options}
+use Rattle.logparser_cli.proofs.Options.{rotation_by_options}
 use Rattle.reports.specs.declared.status.Status.TheVariants as S
 use Rattle.requests.specs.declared.fault.RequestFault.TheVariants as F
 use Rattle.run_model.specs.Logs.{Rotation, names, numbers, Logs, Shows}

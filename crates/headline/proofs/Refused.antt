@@ -3,8 +3,8 @@ use Rattle.std.proofs.Common.{◌≡◌, ◌≢◌, ℕ, ℤ, false, List, Optio
 use Rattle.disk_model.specs.Disk.{DiskState}
 use Rattle.lp_model.specs.Outside.{Folder}
 use Rattle.command_words.specs.declared.spec.Spec.{Spec}
-use Rattle.execution.specs.declared.fault.RunFault.{RunFault}
-use Rattle.execution.specs.declared.fault.RunFault.TheVariants as X
+use Rattle.logparser_cli.specs.RunFault.{RunFault}
+use Rattle.logparser_cli.specs.RunFault.TheVariants as X
 use Rattle.ledger.specs.declared.refused.LedgerRefused.{LedgerRefused}
 use Rattle.positions.specs.declared.fault.LoadFault.{LoadFault}
 use Rattle.positions.specs.declared.fault.LoadFault.TheVariants as P
@@ -16,15 +16,17 @@ use Rattle.query_run.specs.declared.executing.Counts.{Counts}
 use Rattle.reports.specs.declared.status.Status.{Status}
 use Rattle.reports.specs.declared.status.Status.TheVariants as S
 use Rattle.run_model.specs.Steps.{well}
+use Rattle.logparser_cli.specs.SubqueryFault.{SubqueryFault}
+use Rattle.logparser_cli.specs.SubqueryFault.TheVariants as G
 use Rattle.logparser_cli.specs.Kept.{answer_of}
-use Rattle.checkpointed_run.specs.declared.over.LedgerStop.{LedgerStop}
-use Rattle.checkpointed_run.specs.declared.over.LedgerStop.TheVariants as L
-use Rattle.checkpointed_run.specs.declared.running.RunStop.{RunStop}
-use Rattle.checkpointed_run.specs.declared.running.RunStop.TheVariants as B
-use Rattle.checkpointed_command.specs.Refusals.{IsRefused, IsRefusedBehind}
-use Rattle.checkpointed_command.specs.Statuses.{IsAnswerTo, broken_off, stopped, uncounted, unloaded, unplaced, unsettled, unspanned}
-use Rattle.checkpointed_command.specs.Steps.{ending_by}
-use Rattle.checkpointed_command.proofs.Answering.{mild_unasked, mild_unfit, mild_untemplated, unsettled_not_well}
+use Rattle.logparser_cli.specs.LedgerStop.{LedgerStop}
+use Rattle.logparser_cli.specs.LedgerStop.TheVariants as L
+use Rattle.logparser_cli.specs.RunStop.{RunStop}
+use Rattle.logparser_cli.specs.RunStop.TheVariants as B
+use Rattle.logparser_cli.specs.Refusals.{IsRefused, IsRefusedBehind}
+use Rattle.logparser_cli.specs.Statuses.{IsAnswerTo, IsBrokenOff, IsUngivenAs, stopped, ungiven, unloaded, unplaced, unsettled, unspanned}
+use Rattle.logparser_cli.specs.Steps.{ending_by}
+use Rattle.logparser_cli.proofs.CheckpointedCommandAnswering.{mild_unasked, mild_unfit, mild_untemplated, unsettled_not_well}
 
 -- what doesn't end well isn't `Done`
 not_done : (status : Status) → ending_by status ≢ well → status ≢ S.Done
@@ -61,25 +63,37 @@ of_spans F.Memory e = cc
 of_phase : (fault : LedgerRefused) → unsettled fault ≢ S.Done
 of_phase fault = not_done (unsettled fault) (unsettled_not_well fault)
 
-of_stop : (stop : RunStop) → broken_off stop ≢ S.Done
-of_stop (B.Refused fault) = of_run fault
-of_stop (B.BeforeGate fault) = of_phase fault
-of_stop (B.FromGate fault) = of_phase fault
-
 at : (answer status : Status) → status ≡ answer → answer ≢ S.Done → status ≢ S.Done
 at answer status is none done = none (sym is ∙ done)
+
+of_subquery : (fault : SubqueryFault) (status : Status) → IsUngivenAs fault status → status ≢ S.Done
+of_subquery (G.BadName fault) status is = at (S.BadName fault) status is (λ e. cc)
+of_subquery (G.NoSuchLog name) status is = at (S.NoSuchLog name) status is (λ e. cc)
+of_subquery G.TooManyLogs status is = at S.TooManyLogs status is (λ e. cc)
+of_subquery (G.Clash name) status (inl is) = at (S.NameClash name) status is (λ e. cc)
+of_subquery (G.Clash name) status (inr is) = at S.Memory status is (λ e. cc)
+of_subquery (G.Plan fault) status is = at (ungiven (G.Plan fault)) status is (λ e. cc)
+of_subquery (G.Bad log row) status is = at (S.ParseErrors log row) status is (λ e. cc)
+of_subquery G.Logs status is = at S.LogsFault status is (λ e. cc)
+of_subquery G.Memory status is = at S.Memory status is (λ e. cc)
+
+of_stop : (stop : RunStop) (status : Status) → IsBrokenOff stop status → status ≢ S.Done
+of_stop (B.Subquery fault) status is = of_subquery fault status is
+of_stop (B.Refused fault) status is = at (stopped false fault) status is (of_run fault)
+of_stop (B.BeforeGate fault) status is = at (unsettled fault) status is (of_phase fault)
+of_stop (B.FromGate fault) status is = at (unsettled fault) status is (of_phase fault)
 
 of_answer : (stop : LedgerStop) (status : Status) → IsAnswerTo stop status → status ≢ S.Done
 of_answer (L.Ledger fault) status is = at (unloaded fault) status is (of_load fault)
 of_answer (L.Logs fault) status is = at (unspanned fault) status is (of_spans fault)
 of_answer (L.Clash name) status (inl is) = at (S.NameClash name) status is (λ e. cc)
 of_answer (L.Clash name) status (inr is) = at S.Memory status is (λ e. cc)
-of_answer (L.Run stop) status is = at (broken_off stop) status is (of_stop stop)
+of_answer (L.Run stop) status is = of_stop stop status is
 of_answer L.Memory status is = at S.Memory status is (λ e. cc)
 
 behind : (disk : DiskState) (ledger stage : List ℕ) (before now : Option Folder) (spec : Spec) (moment : ℤ) (status : Status) → IsRefusedBehind disk ledger stage before now spec moment status → status ≢ S.Done
 behind disk ledger stage before now spec moment status (inl unread) = at _ status unread.status_is (not_done _ (mild_unasked unread.fault).not_well)
-behind disk ledger stage before now spec moment status (inr (inl unsuited)) = not_done status (mild_unfit spec unsuited.q status unsuited.why).not_well
+behind disk ledger stage before now spec moment status (inr (inl unsuited)) = not_done status (mild_unfit unsuited.q status unsuited.why).not_well
 behind disk ledger stage before now spec moment status (inr (inr (inl none))) = at _ status none.status_is (not_done _ (mild_untemplated none.fault).not_well)
 behind disk ledger stage before now spec moment status (inr (inr (inr (inl uncounted)))) = of_answer uncounted.countless.stop status uncounted.countless.answers
 behind disk ledger stage before now spec moment status (inr (inr (inr (inr memory)))) = at S.Memory status memory (λ e. cc)

@@ -3,15 +3,15 @@ use Rattle.std.proofs.Common.{◌≡◌, ⊎_elim, ℕ, ℤ, List, [], ◌∷◌
 use Rattle.command_words.specs.Table.{IsAsked}
 use Rattle.command_words.specs.Words.{options_in}
 use Rattle.command_words.specs.declared.spec.Spec.{Spec}
-use Rattle.checkpointed_command.specs.Asked.{IsAskedBy}
-use Rattle.checkpointed_command.specs.Steps.{ending_by, ending_with, StepsBy}
+use Rattle.logparser_cli.specs.CheckpointedCommandAsked.{IsAskedBy}
+use Rattle.logparser_cli.specs.Steps.{ending_by, ending_with, StepsBy}
 use Rattle.disk_model.specs.Disk.{Files, DiskState, IsImage}
 use Rattle.logparser_cli.specs.Kept.{answer_of}
 use Rattle.lp_model.specs.Outside.{Folder}
-use Rattle.program_meaning.specs.Meaning.{meaning}
+use Rattle.logparser_cli.specs.Meaning.{meaning}
 use Rattle.query_run.specs.declared.executing.Counts.{Counts}
 use Rattle.std.specs.Prelude.{OnOk}
-use Rattle.checkpointed_command.specs.Asked.{IsAskedWhole}
+use Rattle.logparser_cli.specs.CheckpointedCommandAsked.{IsAskedWhole}
 use Rattle.reports.specs.declared.status.Status.{Status}
 use Rattle.reports.specs.declared.status.Status.TheVariants as S
 use Rattle.requests.specs.Texts.{HoldsText}
@@ -46,7 +46,6 @@ early_ends moment S.Memory early = refl
 early_ends moment (S.Clock at) early = refl
 early_ends moment (S.Usage fault) early = absurd early
 early_ends moment (S.Query fault) early = absurd early
-early_ends moment S.NotBuilt early = absurd early
 early_ends moment (S.NoSuchLog name) early = absurd early
 early_ends moment (S.BadName fault) early = absurd early
 early_ends moment (S.NameClash name) early = absurd early

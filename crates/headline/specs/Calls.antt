@@ -5,14 +5,14 @@ use Rattle.command_words.specs.Table.{IsAsked, checkpoint_of, template_of}
 use Rattle.command_words.specs.Usage.{AreFine}
 use Rattle.command_words.specs.Words.{options_in, query_in}
 use Rattle.command_words.specs.declared.spec.Spec.{Spec}
-use Rattle.checkpointed_command.specs.Asked.{IsAskedWhole}
-use Rattle.checkpointed_command.specs.Refusals.{IsRefused}
-use Rattle.checkpointed_command.specs.Steps.{ending_by, TakesSteps}
+use Rattle.logparser_cli.specs.CheckpointedCommandAsked.{IsAskedWhole}
+use Rattle.logparser_cli.specs.Refusals.{IsRefused}
+use Rattle.logparser_cli.specs.Steps.{ending_by, TakesSteps}
 use Rattle.disk_model.specs.Disk.{Files, DiskState}
-use Rattle.execution.specs.Executed.{IsMoment}
+use Rattle.logparser_cli.specs.Executed.{IsMoment}
 use Rattle.logparser_cli.specs.Kept.{answer_of, stage_beside}
 use Rattle.lp_model.specs.Outside.{Folder, Told}
-use Rattle.program_meaning.specs.Meaning.{meaning}
+use Rattle.logparser_cli.specs.Meaning.{meaning}
 use Rattle.query_run.specs.declared.executing.Counts.{Counts}
 use Rattle.reports.specs.declared.status.Status.{Status}
 use Rattle.reports.specs.declared.status.Status.TheVariants as S

@@ -1,7 +1,7 @@
 // The promise of the program's calls. The functions do no work: their contracts are the laws.
 ghost use Rattle.std.specs.Prelude.{ℕ, ℤ, List, [], ◌∷◌, ◌++◌};
 ghost use Rattle.disk_model.specs.Disk.{Files, IsImage};
-ghost use Rattle.program_meaning.specs.Meaning.{meaning};
+ghost use Rattle.logparser_cli.specs.Meaning.{meaning};
 ghost use Rattle.reports.specs.declared.status.Status.{Status};
 ghost use Rattle.run_model.specs.Logs.{Logs};
 ghost use Rattle.run_model.specs.Steps.{Setting};

@@ -14,3 +14,4 @@ mod laws;
 
 pub use calling::run_in_world;
 pub use laws::{a_call_is_a_run, calls_go_on, calls_reach_worlds, each_line_once_by_calls};
+pub use logparser_cli::run;

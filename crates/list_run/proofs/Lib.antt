@@ -1,3 +1,5 @@
 pub mod Taken
+pub mod Same
+pub mod Alike
 pub mod Spanning
 pub mod Sampled

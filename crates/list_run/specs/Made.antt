@@ -2,7 +2,6 @@
 use Rattle.std.specs.Prelude.{◌≡◌, ℕ, ℤ, List, Result, Ok, Err, None, [], ⊤}
 use Rattle.grammar.specs.Trees.{Query}
 use Rattle.lp_time.specs.declared.piece.Piece.{Piece}
-use Rattle.in_set.specs.Facts.{Facts}
 use Rattle.log_reading.specs.Found.{rows_met}
 use Rattle.query_tree.specs.Views.{query_of}
 use Rattle.query_types.specs.Planned.{Planned, planned_in}
@@ -19,6 +18,7 @@ use Rattle.column_kinds.specs.Sampling.{Rules as SampleRules}
 use Rattle.sampled_run.specs.Kinds.{picks_of}
 use Rattle.sampled_table.specs.declared.picking.SampledPicker.{SampledPicker}
 use Rattle.list_run.specs.Collected.{Collects}
+use Rattle.list_run.specs.Gathering.{Remembered}
 use Rattle.list_run.specs.Rules.{Rules, rules_of}
 use Rattle.list_run.specs.declared.collector.Collector.{Collector}
 use Rattle.list_run.specs.declared.list_maker.ListMaker.{ListMaker}
@@ -39,9 +39,9 @@ IsUnplanned maker told fault = plan_over maker told ≡ Err fault
 
 -- a collector behind a sample
 abbrev pub ListSample : Type 0
-ListSample = Sampled (ListMaker Facts) (Collector SampledPicker)
+ListSample = Sampled (ListMaker Remembered) (Collector SampledPicker)
 
-abbrev pub list_kind : SampleKind (ListMaker Facts) (Collector SampledPicker) Facts
+abbrev pub list_kind : SampleKind (ListMaker Remembered) (Collector SampledPicker) Remembered
 list_kind = kind_of
     (λ maker told collector. IsMade maker told collector)
     (λ maker told fault. IsUnplanned maker told fault)
@@ -49,22 +49,22 @@ list_kind = kind_of
     (λ a u mets b v. ⊤)
 
 -- the rules of a sample, as those of a subquery
-abbrev pub list_rules : SampleRules (ListMaker Facts) → Rules
+abbrev pub list_rules : SampleRules (ListMaker Remembered) → Rules
 list_rules rules = rules_of rules.limit rules.pattern rules.maker.moment.seconds (query_of rules.maker.query.now)
 
 -- the maker reads times as the sample does
-abbrev pub Fits : SampleRules (ListMaker Facts) → Type 0
+abbrev pub Fits : SampleRules (ListMaker Remembered) → Type 0
 Fits rules = rules.maker.pattern.now ≡ rules.pattern
 
 -- no record was kept
-pub record GathersNone (pattern : List Piece) (moment : ℤ) (query : Query) (gathering : Gathering (ListMaker Facts)) : Type 0 where
+pub record GathersNone (pattern : List Piece) (moment : ℤ) (query : Query) (gathering : Gathering (ListMaker Remembered)) : Type 0 where
   pub first : gathering.first ≡ None
   pub rows : gathering.rows ≡ []
   pub pattern_is : gathering.maker.pattern.now ≡ pattern
   pub moment_is : gathering.maker.moment.seconds ≡ moment
   pub query_is : query_of gathering.maker.query.now ≡ query
 
-abbrev pub IsFreshIn : {T : Type 0} → List Piece → ℤ → Query → Phase (ListMaker Facts) T → Type 0
+abbrev pub IsFreshIn : {T : Type 0} → List Piece → ℤ → Query → Phase (ListMaker Remembered) T → Type 0
 IsFreshIn pattern moment q (P.Gathering gathering) = GathersNone pattern moment q gathering
 IsFreshIn pattern moment q (P.Taking taker) = ⊥
 IsFreshIn pattern moment q (P.Refused fault) = ⊥

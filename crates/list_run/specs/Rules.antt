@@ -13,8 +13,10 @@ use Rattle.column_kinds.specs.Judged.{table_of}
 use Rattle.column_kinds.specs.Past.{Past}
 use Rattle.column_kinds.specs.Past.{told_at as told_from}
 use Rattle.sampled_run.specs.Rules.{rows_with}
+use Rattle.list_run.specs.Keeping.{kept_values}
 use Rattle.list_run.specs.Lists.{values_of}
 use Rattle.list_run.specs.declared.given.SampledValues.{SampledValues}
+use Rattle.list_run.specs.declared.keep.Keep.{Keep}
 
 -- what it is asked: from how many records kinds are judged, how times are read, the moment and the query
 pub record Rules : Type 0 where
@@ -38,9 +40,10 @@ plan_at rules past = subquery_plan_of (table_of (told_at rules past)) rules.mome
 abbrev pub kind_first : List Kind → Kind
 kind_first kinds = slice_index_or kinds 0 K.Any
 
--- the values of the plan's rows of all records, and their kind
-pub record IsGiven (rules : Rules) (past : Past) (list : SampledValues) : Type 0 where
+-- the values of the plan's rows of all records, what is kept of them, and their kind
+pub record IsGiven (keep : Keep) (rules : Rules) (past : Past) (list : SampledValues) : Type 0 where
   pub plan : Planned
   pub planned : plan_at rules past ≡ Ok plan
   pub values : list.values ≡ facts_of (values_of (rows_with rules.pattern (told_at rules past) plan past.founds))
+  pub kept : list.kept ≡ kept_values keep (values_of (rows_with rules.pattern (told_at rules past) plan past.founds))
   pub kind : list.kind ≡ kind_first plan.kinds

@@ -1,17 +1,21 @@
-// The values of a row, into a set.
+// The values of a row, gathered.
 ghost use Rattle.std.specs.Prelude.{◌≡◌, fold, OnOk};
-ghost use Rattle.in_set.specs.Facts.{with_value};
+ghost use Rattle.list_run.specs.Gathering.{remembering};
 
-use in_set::InSet;
+use crate::Gathered;
 use lp_values::{Value, ValueList};
-use std::alloc::AllocError;
+use std::alloc::{AllocError, Global};
 
-/// Moves the values of a row into a set.
-pub(crate) fn add_row(set: &mut InSet, row: &mut ValueList) -> Result<(), AllocError>
-    ensures { OnOk result (set.new ≡ fold with_value set.old row.old) }
+/// Moves the values of a row into what is gathered.
+pub(crate) fn add_row(
+    alloc: Global,
+    gathered: &mut Gathered,
+    row: &mut ValueList,
+) -> Result<(), AllocError>
+    ensures { OnOk result (gathered.new ≡ fold remembering gathered.old row.old) }
 {
     for index in 0..row.len() {
-        set.add(row.replace(index, Value::Null))?;
+        gathered.add(alloc, row.replace(index, Value::Null))?;
     }
     Ok(())
 }

@@ -3,19 +3,18 @@ ghost use Rattle.std.specs.Prelude.{◌≡◌, ◌≤◌, ◌<◌, ◌+◌, ◌^
 ghost use Rattle.log_reading.specs.Found.{rows_met};
 ghost use Rattle.list_run.specs.Collected.{Collects, collects_none, collects_more};
 
-use crate::Collector;
 use crate::adding::add_row;
-use in_set::InSet;
+use crate::{Collector, Gathered};
 use line_input::{Columns, Fields};
 use log_reading::{TakeFault, Taker};
 use lp_outside::Name;
 use query_run::Picker;
 use std::alloc::Global;
 
-impl<P: Picker + Drop> Taker<InSet> for Collector<P> {
+impl<P: Picker + Drop> Taker<Gathered> for Collector<P> {
     ghost takes = { λ a u xs b v. Collects P.picks a.picker u (rows_met xs) b.picker v };
 
-    // a set that lacks values is let go
+    // what lacks values is let go
     ghost stops = { λ a u xs b v. ⊤ };
 
     ghost stopped = { λ s. ⊥ };
@@ -26,6 +25,9 @@ impl<P: Picker + Drop> Taker<InSet> for Collector<P> {
     ghost faults = { λ u. 0 };
 
     ghost goes = { λ u v. ⊤ };
+
+    // nothing goes on
+    ghost handed_on = { λ s u. ⊤ };
 
     ghost goes_nowhere = { λ u. tt };
 
@@ -39,7 +41,7 @@ impl<P: Picker + Drop> Taker<InSet> for Collector<P> {
         columns: &Option<Columns>,
         line: &[u8],
         fields: &Fields,
-        set: &mut InSet,
+        gathered: &mut Gathered,
     ) -> Result<(), TakeFault> {
         let picked = self.picker.pick(
             alloc,
@@ -59,7 +61,7 @@ impl<P: Picker + Drop> Taker<InSet> for Collector<P> {
             }
             Ok(true) => {
                 self.taken += 1;
-                match add_row(set, &mut self.row) {
+                match add_row(alloc, gathered, &mut self.row) {
                     Ok(()) => Ok(()),
                     Err(_) => Err(TakeFault::Memory),
                 }
@@ -72,8 +74,12 @@ impl<P: Picker + Drop> Taker<InSet> for Collector<P> {
         alloc: Global,
         identity: &Name,
         columns: &Option<Columns>,
-        set: &mut InSet,
+        gathered: &mut Gathered,
     ) -> Result<(), TakeFault> {
+        Ok(())
+    }
+
+    fn hand_on(&mut self, gathered: &mut Gathered) -> Result<(), TakeFault> {
         Ok(())
     }
 

@@ -1,10 +1,10 @@
-// A taker that puts values into a set.
+// A taker that gathers values.
 ghost use Rattle.std.specs.Prelude.{◌≡◌};
 
 use lp_values::ValueList;
 use std::alloc::Global;
 
-/// Puts the values of the rows that a picker makes into a set.
+/// Gathers the values of the rows that a picker makes.
 #[derive(Drop)]
 pub struct Collector<P> {
     pub picker: P,

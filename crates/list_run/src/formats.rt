@@ -9,10 +9,11 @@ ghost use Rattle.query_types.specs.Planned.{Covers, planned_in};
 ghost use Rattle.input_tables.specs.Tables.{lines_of, columns_of, readings_of};
 ghost use Rattle.plan_run.specs.Rows.{plan_rows};
 ghost use Rattle.list_run.specs.Faults.{OnBad, OnUnplanned};
+ghost use Rattle.list_run.specs.Keeping.{kept_values};
 ghost use Rattle.list_run.specs.Lists.{values_of};
 
 use crate::running::gather_reader;
-use crate::{GivenValues, ListFault};
+use crate::{GivenValues, Keep, ListFault};
 use input_tables::TableFormat;
 use line_input::{TextLines, TextWords};
 use log_reading::{LogSource, Span};
@@ -26,6 +27,7 @@ pub fn gather_plan<L: LogSource>(
     alloc: Global,
     format: TableFormat,
     plan: Plan,
+    keep: Keep,
     waits: bool,
     logs: &mut L,
     spans: &[Span],
@@ -40,6 +42,8 @@ pub fn gather_plan<L: LogSource>(
     ensures goes_logs { L.goes logs.old logs.new }
     ensures values { IfOk result (λ given. Told (L.folder logs.new) (λ folder. AreKept (lines_of format) waits spans.now folder
         → given.values ≡ facts_of (values_of (plan_rows (readings_of format) (planned_in plan) (lines_of format) waits folder spans.now)))) }
+    ensures kept { IfOk result (λ given. Told (L.folder logs.new) (λ folder. AreKept (lines_of format) waits spans.now folder
+        → given.kept ≡ kept_values keep (values_of (plan_rows (readings_of format) (planned_in plan) (lines_of format) waits folder spans.now)))) }
     ensures bad { IfOk result (λ given. Told (L.folder logs.new) (λ folder. AreKept (lines_of format) waits spans.now folder
         → given.bad ≡ length (spans_bad (lines_of format) waits folder spans.now))) }
     ensures within { IfOk result (λ given. IsWithin most_bad given.bad) }
@@ -52,16 +56,16 @@ pub fn gather_plan<L: LogSource>(
 {
     match format {
         TableFormat::IisW3c => gather_reader(
-            alloc, &IisW3c, format, plan, waits, logs, spans, most_bad,
+            alloc, &IisW3c, format, plan, keep, waits, logs, spans, most_bad,
         ),
         TableFormat::Ncsa => gather_reader(
-            alloc, &Ncsa, format, plan, waits, logs, spans, most_bad,
+            alloc, &Ncsa, format, plan, keep, waits, logs, spans, most_bad,
         ),
         TableFormat::TextWord => gather_reader(
-            alloc, &TextWords, format, plan, waits, logs, spans, most_bad,
+            alloc, &TextWords, format, plan, keep, waits, logs, spans, most_bad,
         ),
         TableFormat::TextLine => gather_reader(
-            alloc, &TextLines, format, plan, waits, logs, spans, most_bad,
+            alloc, &TextLines, format, plan, keep, waits, logs, spans, most_bad,
         ),
     }
 }

@@ -4,7 +4,7 @@ use query_tree::Query;
 use sampled_run::Moment;
 use std::marker::PhantomData;
 
-/// Makes the collector of a subquery's values, into sets of a type `S`, over the columns that the logs tell.
+/// Makes the collector of a subquery's values, gathered in a type `S`, over the columns that the logs tell.
 #[derive(Drop)]
 pub struct ListMaker<'a, S> {
     /// How times are read.

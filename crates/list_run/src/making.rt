@@ -7,11 +7,10 @@ ghost use Rattle.column_kinds.specs.Judged.{table_of};
 ghost use Rattle.sampled_run.specs.Plans.{IsFaultOf};
 ghost use Rattle.list_run.specs.Made.{IsMade, IsUnplanned};
 
-use crate::Collector;
 use crate::list_maker::ListMaker;
+use crate::{Collector, Gathered};
 use column_kinds::{Judged, Maker, Unmade, table_of};
 use group_planning::plan_subquery;
-use in_set::InSet;
 use lp_time::Pattern;
 use query_tree::Query;
 use sampled_run::{Moment, unplanned};
@@ -43,7 +42,7 @@ fn picker_over<'a>(
     }
 }
 
-impl<'a, S> Maker<Collector<SampledPicker<'a>>, InSet> for ListMaker<'a, S> {
+impl<'a, S> Maker<Collector<SampledPicker<'a>>, Gathered> for ListMaker<'a, S> {
     ghost makes = { λ maker told collector. IsMade maker told collector };
 
     ghost refuses = { λ maker told fault. IsUnplanned maker told fault };

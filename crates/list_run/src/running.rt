@@ -10,11 +10,12 @@ ghost use Rattle.query_types.specs.Planned.{Covers, planned_in};
 ghost use Rattle.input_tables.specs.Tables.{lines_of, columns_of, readings_of};
 ghost use Rattle.plan_run.specs.Rows.{plan_rows};
 ghost use Rattle.list_run.specs.Faults.{OnBad, OnUnplanned};
+ghost use Rattle.list_run.specs.Keeping.{kept_values};
 ghost use Rattle.list_run.specs.Lists.{values_of};
 
+use crate::ending::end_list;
 use crate::fault::read_fault;
-use crate::{Collector, GivenValues, ListFault};
-use in_set::InSet;
+use crate::{Collector, Gathered, GivenValues, Keep, ListFault};
 use input_tables::TableFormat;
 use line_input::LineReader;
 use log_reading::{LogSource, Span, TookList, take_spans};
@@ -28,6 +29,7 @@ fn gather_spans<R: LineReader, L: LogSource, P: Picker + Drop>(
     alloc: Global,
     reader: &R,
     picker: P,
+    keep: Keep,
     waits: bool,
     logs: &mut L,
     spans: &[Span],
@@ -40,6 +42,8 @@ fn gather_spans<R: LineReader, L: LogSource, P: Picker + Drop>(
     ensures goes_logs { L.goes logs.old logs.new }
     ensures values { IfOk result (λ given. Told (L.folder logs.new) (λ folder. AreKept (R.format reader.now) waits spans.now folder
         → given.values ≡ facts_of (values_of (picked (P.picks picker) (spans_found (R.format reader.now) waits folder spans.now))))) }
+    ensures kept { IfOk result (λ given. Told (L.folder logs.new) (λ folder. AreKept (R.format reader.now) waits spans.now folder
+        → given.kept ≡ kept_values keep (values_of (picked (P.picks picker) (spans_found (R.format reader.now) waits folder spans.now))))) }
     ensures bad { IfOk result (λ given. Told (L.folder logs.new) (λ folder. AreKept (R.format reader.now) waits spans.now folder
         → given.bad ≡ length (spans_bad (R.format reader.now) waits folder spans.now))) }
     ensures within { IfOk result (λ given. IsWithin most_bad given.bad) }
@@ -55,7 +59,7 @@ fn gather_spans<R: LineReader, L: LogSource, P: Picker + Drop>(
     };
     let mut page = first_page(alloc, Collector::new(alloc, picker), most_bad);
     let mut took = TookList::new(alloc);
-    let mut values = InSet::new(alloc);
+    let mut gathered = Gathered::new(alloc, keep);
     match take_spans(
         alloc,
         reader,
@@ -65,12 +69,12 @@ fn gather_spans<R: LineReader, L: LogSource, P: Picker + Drop>(
         &mut chunk,
         &mut page,
         &mut took,
-        &mut values,
+        &mut gathered,
     ) {
-        Ok(()) => Ok(GivenValues {
-            values,
-            bad: page.bad,
-        }),
+        Ok(()) => {
+            let bad = page.bad;
+            end_list(alloc, gathered, bad)
+        }
         Err(fault) => Err(read_fault(fault)),
     }
 }
@@ -81,6 +85,7 @@ pub(crate) fn gather_reader<R: LineReader, L: LogSource>(
     reader: &R,
     format: TableFormat,
     plan: Plan,
+    keep: Keep,
     waits: bool,
     logs: &mut L,
     spans: &[Span],
@@ -96,6 +101,8 @@ pub(crate) fn gather_reader<R: LineReader, L: LogSource>(
     ensures goes_logs { L.goes logs.old logs.new }
     ensures values { IfOk result (λ given. Told (L.folder logs.new) (λ folder. AreKept (lines_of format) waits spans.now folder
         → given.values ≡ facts_of (values_of (plan_rows (readings_of format) (planned_in plan) (lines_of format) waits folder spans.now)))) }
+    ensures kept { IfOk result (λ given. Told (L.folder logs.new) (λ folder. AreKept (lines_of format) waits spans.now folder
+        → given.kept ≡ kept_values keep (values_of (plan_rows (readings_of format) (planned_in plan) (lines_of format) waits folder spans.now)))) }
     ensures bad { IfOk result (λ given. Told (L.folder logs.new) (λ folder. AreKept (lines_of format) waits spans.now folder
         → given.bad ≡ length (spans_bad (lines_of format) waits folder spans.now))) }
     ensures within { IfOk result (λ given. IsWithin most_bad given.bad) }
@@ -109,5 +116,5 @@ pub(crate) fn gather_reader<R: LineReader, L: LogSource>(
     let Ok(picker) = make_picker(alloc, format, plan) else {
         return Err(ListFault::Memory);
     };
-    gather_spans(alloc, reader, picker, waits, logs, spans, most_bad)
+    gather_spans(alloc, reader, picker, keep, waits, logs, spans, most_bad)
 }

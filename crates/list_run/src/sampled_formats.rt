@@ -11,7 +11,7 @@ ghost use Rattle.list_run.specs.Faults.{OnBad, OnUnplanned};
 ghost use Rattle.list_run.specs.Rules.{IsGiven, plan_at, rules_of};
 
 use crate::sampling::sample_reader;
-use crate::{ListFault, SampledValues};
+use crate::{Keep, ListFault, SampledValues};
 use delimited_input::{Delimited, DelimitedOptions};
 use log_reading::{LogSource, Span};
 use lp_time::Pattern;
@@ -27,6 +27,7 @@ pub fn gather_sampled<'a, L: LogSource>(
     pattern: &'a Pattern,
     moment: Moment,
     query: &'a Query,
+    keep: Keep,
     waits: bool,
     logs: &mut L,
     spans: &[Span],
@@ -39,7 +40,7 @@ pub fn gather_sampled<'a, L: LogSource>(
     ensures grows { OnlyGrow (L.folder logs.old) (L.folder logs.new) }
     ensures goes_logs { L.goes logs.old logs.new }
     ensures given_values { IfOk result (λ list. Told (L.folder logs.new) (λ folder. AreKept (delimited_lines options) waits spans.now folder
-        → IsGiven (rules_of limit pattern.now moment.seconds (query_of query.now)) (past_of (delimited_lines options) waits folder spans.now) list)) }
+        → IsGiven keep (rules_of limit pattern.now moment.seconds (query_of query.now)) (past_of (delimited_lines options) waits folder spans.now) list)) }
     ensures unplanned { IfErr result (OnUnplanned (λ why. Told (L.folder logs.new) (λ folder. AreKept (delimited_lines options) waits spans.now folder
         → plan_at (rules_of limit pattern.now moment.seconds (query_of query.now)) (past_of (delimited_lines options) waits folder spans.now) ≡ Err why))) }
     ensures bad { IfOk result (λ list. Told (L.folder logs.new) (λ folder. AreKept (delimited_lines options) waits spans.now folder
@@ -55,6 +56,6 @@ pub fn gather_sampled<'a, L: LogSource>(
         unreachable!();
     };
     sample_reader(
-        alloc, &reader, limit, pattern, moment, query, waits, logs, spans, most_bad,
+        alloc, &reader, limit, pattern, moment, query, keep, waits, logs, spans, most_bad,
     )
 }

@@ -12,9 +12,8 @@ ghost use Rattle.list_run.specs.Rules.{IsGiven, plan_at, rules_of};
 use crate::ending::end_sample;
 use crate::fault::read_fault;
 use crate::list_maker::ListMaker;
-use crate::{Collector, ListFault, SampledValues};
+use crate::{Collector, Gathered, Keep, ListFault, SampledValues};
 use column_kinds::{Gathering, KeptRows, Phase, Sampled};
-use in_set::InSet;
 use line_input::LineReader;
 use log_reading::{LogSource, RunFault, Span, TookList, take_spans};
 use lp_time::Pattern;
@@ -44,7 +43,7 @@ fn first_sample<'a>(
     pattern: &'a Pattern,
     moment: Moment,
     query: &'a Query,
-) -> Sampled<'a, ListMaker<'a, InSet>, Collector<SampledPicker<'a>>>
+) -> Sampled<'a, ListMaker<'a, Gathered>, Collector<SampledPicker<'a>>>
     ensures { IsFresh limit pattern.now moment.seconds (query_of query.now) result }
 {
     Sampled {
@@ -71,6 +70,7 @@ pub(crate) fn sample_reader<'a, R: LineReader, L: LogSource>(
     pattern: &'a Pattern,
     moment: Moment,
     query: &'a Query,
+    keep: Keep,
     waits: bool,
     logs: &mut L,
     spans: &[Span],
@@ -82,7 +82,7 @@ pub(crate) fn sample_reader<'a, R: LineReader, L: LogSource>(
     ensures grows { OnlyGrow (L.folder logs.old) (L.folder logs.new) }
     ensures goes_logs { L.goes logs.old logs.new }
     ensures given_values { IfOk result (λ list. Told (L.folder logs.new) (λ folder. AreKept (R.format reader.now) waits spans.now folder
-        → IsGiven (rules_of limit pattern.now moment.seconds (query_of query.now)) (past_behind (R.format reader.now) waits folder (record { first = None; founds = [] }) spans.now) list)) }
+        → IsGiven keep (rules_of limit pattern.now moment.seconds (query_of query.now)) (past_behind (R.format reader.now) waits folder (record { first = None; founds = [] }) spans.now) list)) }
     ensures unplanned { IfErr result (OnUnplanned (λ why. Told (L.folder logs.new) (λ folder. AreKept (R.format reader.now) waits spans.now folder
         → plan_at (rules_of limit pattern.now moment.seconds (query_of query.now)) (past_behind (R.format reader.now) waits folder (record { first = None; founds = [] }) spans.now) ≡ Err why))) }
     ensures bad { IfOk result (λ list. Told (L.folder logs.new) (λ folder. AreKept (R.format reader.now) waits spans.now folder
@@ -100,7 +100,7 @@ pub(crate) fn sample_reader<'a, R: LineReader, L: LogSource>(
     let sample = first_sample(alloc, limit, pattern, moment, query);
     let mut page = first_page(alloc, sample, most_bad);
     let mut took = TookList::new(alloc);
-    let mut values = InSet::new(alloc);
+    let mut gathered = Gathered::new(alloc, keep);
     match take_spans(
         alloc,
         reader,
@@ -110,11 +110,11 @@ pub(crate) fn sample_reader<'a, R: LineReader, L: LogSource>(
         &mut chunk,
         &mut page,
         &mut took,
-        &mut values,
+        &mut gathered,
     ) {
         Ok(()) => {
             let bad = page.bad;
-            end_sample(alloc, page.taker, values, bad)
+            end_sample(alloc, page.taker, gathered, bad)
         }
         Err(fault) => {
             let why = fault_in(&page.taker.phase, fault);

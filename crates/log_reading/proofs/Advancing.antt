@@ -147,6 +147,13 @@ follows_none takes format identity page w nothing = record {
       record { done = nothing; standing = at ∙ ap (standing_behind format) (sym (append-nil history)); rows = omega arith; bad = omega arith };
 }
 
+-- only the taker went on, and nothing was met
+pub follows_on : {T O : Type 0} (takes : Takes T O) (format : Format) (identity : List ℕ) (b c : Page T) (v w : O) → c.standing ≡ b.standing → c.rows ≡ b.rows → c.bad ≡ b.bad → takes b.taker v [] c.taker w → Follows takes format identity [] b c v w
+follows_on takes format identity b c v w standing rows bad nothing = record {
+  behind = λ history at.
+      record { done = nothing; standing = standing ∙ (at ∙ ap (standing_behind format) (sym (append-nil history))); rows = omega arith; bad = omega arith };
+}
+
 pub follows_trans : {T O : Type 0} (takes : Takes T O) (more : TakesMore takes) (format : Format) (identity : List ℕ) (first second : List Line) (a b c : Page T) (u v w : O)
     → Follows takes format identity first a b u v → Follows takes format identity second b c v w → Follows takes format identity (first ++ second) a c u w
 follows_trans takes more format identity first second a b c u v w f s = record {
@@ -233,6 +240,16 @@ stops_in_line {T = T} stops more format identity waits old z split u w first sto
 
 pub advances_none : {T O : Type 0} (takes : Takes T O) (format : Format) (identity : List ℕ) (waits : Bool) (page : Page T) (w : O) → takes page.taker w [] page.taker w → Advances takes format identity waits [] page page w w
 advances_none takes format identity waits page w nothing = record { lines = []; taken = λ rest. refl; place = refl; follows = follows_none takes format identity page w nothing }
+
+pub advances_on : {T O : Type 0} (takes : Takes T O) (format : Format) (identity : List ℕ) (waits : Bool) (b c : Page T) (v w : O) → c.splitter ≡ b.splitter → c.standing ≡ b.standing → c.rows ≡ b.rows → c.bad ≡ b.bad → takes b.taker v [] c.taker w → Advances takes format identity waits [] b c v w
+advances_on takes format identity waits b c v w splitter standing rows bad nothing = record {
+  lines = [];
+  taken = λ rest.
+      ap (λ (s : Split). lines_to_come waits (b.standing.lines + 1) s.place (s.left ++ rest)) (sym splitter)
+      ∙ ap (λ (t : Standing). lines_to_come waits (t.lines + 1) c.splitter.place (c.splitter.left ++ rest)) (sym standing);
+  place = ap (λ (s : Split). s.place) splitter;
+  follows = follows_on takes format identity b c v w standing rows bad nothing;
+}
 
 end_of-append : (place : ℕ) (first second : List Line) → end_of place (first ++ second) ≡ end_of (end_of place first) second
 end_of-append place [] second = refl

@@ -97,10 +97,10 @@ told_rows {T = T} takes more format waits (Some x) span old first page u v start
     let At : T → Type 0 = λ t. takes t u (rows_up_to format x span (page.splitter.place + length page.splitter.left)) page.taker v in
     subst At taker (rows_taken takes more format waits x span first page u v start nothing f last kept)
 
-pub span_ahead : {T O : Type 0} (takes : Takes T O) (goes : O → O → Type 0) (nothing : (t : T) (w : O) → takes t w [] t w) (more : TakesMore takes) (on : GoesOn goes) (format : Format) (waits : Bool) (told : Option Folder) (span : Span) (piece given_before given_now : ℕ) (old first : Page T) (u v w : O)
-    → IsStart span first → first.taker ≡ old.taker → span.from ≤ span.listed → ReadsAheadInLog takes goes format span.identity told span.name span.listed piece given_before given_now first u v → goes v w
-    → ReadsAheadInSpan takes goes format waits told span piece given_before given_now old.taker u w
-span_ahead takes goes nothing more on format waits told span piece given_before given_now old first u v w start taker order a later =
+pub span_ahead : {T O : Type 0} (takes : Takes T O) (goes : O → O → Type 0) (handed_on : T → O → Type 0) (nothing : (t : T) (w : O) → takes t w [] t w) (more : TakesMore takes) (on : GoesOn goes) (format : Format) (waits : Bool) (told : Option Folder) (span : Span) (piece given_before given_now : ℕ) (old first : Page T) (u v w : O)
+    → IsStart span first → first.taker ≡ old.taker → span.from ≤ span.listed → ReadsAheadInLog takes goes handed_on format span.identity told span.name span.listed piece given_before given_now first u v → goes v w
+    → ReadsAheadInSpan takes goes handed_on format waits told span piece given_before given_now old.taker u w
+span_ahead takes goes handed_on nothing more on format waits told span piece given_before given_now old first u v w start taker order a later =
     let given = a.given in
     let below = a.below in
     let began = start.place in
@@ -114,6 +114,7 @@ span_ahead takes goes nothing more on format waits told span piece given_before 
       taker = a.page.taker;
       out = a.out;
       taken = told_rows takes more format waits told span old first a.page u a.out start taker (nothing a.page.taker a.out) a.read a.last;
+      handed = a.handed;
       later = on a.out v w a.later later;
       given = omega arith;
       below = omega arith;
@@ -144,25 +145,26 @@ told_none takes format waits (Some x) span old w nothing = λ kept.
     subst Of (sym (no_rows format x span)) nothing
 
 -- nothing was read
-pub span_unread : {T O : Type 0} (takes : Takes T O) (goes : O → O → Type 0) (format : Format) (waits : Bool) (told : Option Folder) (span : Span) (piece given : ℕ) (old : T) (w : O) → takes old w [] old w → goes w w → span.from ≤ span.listed
-    → ReadsAheadInSpan takes goes format waits told span piece given given old w w
-span_unread takes goes format waits told span piece given old w nothing nowhere order = record {
+pub span_unread : {T O : Type 0} (takes : Takes T O) (goes : O → O → Type 0) (handed_on : T → O → Type 0) (format : Format) (waits : Bool) (told : Option Folder) (span : Span) (piece given : ℕ) (old : T) (w : O) → takes old w [] old w → goes w w → handed_on old w → span.from ≤ span.listed
+    → ReadsAheadInSpan takes goes handed_on format waits told span piece given given old w w
+span_unread takes goes handed_on format waits told span piece given old w nothing nowhere handed order = record {
   place = span.from;
   start = omega arith;
   cut = order;
   taker = old;
   out = w;
   taken = told_none takes format waits told span old w nothing;
+  handed = handed;
   later = nowhere;
   given = omega arith;
   below = omega arith;
 }
 
 -- the output went on
-pub span_ahead_later : {T O : Type 0} (takes : Takes T O) (goes : O → O → Type 0) (on : GoesOn goes) (format : Format) (waits : Bool) (told : Option Folder) (span : Span) (piece given_before given_now : ℕ) (old : T) (u v w : O)
-    → ReadsAheadInSpan takes goes format waits told span piece given_before given_now old u v → goes v w → ReadsAheadInSpan takes goes format waits told span piece given_before given_now old u w
-span_ahead_later takes goes on format waits told span piece given_before given_now old u v w a later =
-    record { place = a.place; start = a.start; cut = a.cut; taker = a.taker; out = a.out; taken = a.taken; later = on a.out v w a.later later; given = a.given; below = a.below }
+pub span_ahead_later : {T O : Type 0} (takes : Takes T O) (goes : O → O → Type 0) (handed_on : T → O → Type 0) (on : GoesOn goes) (format : Format) (waits : Bool) (told : Option Folder) (span : Span) (piece given_before given_now : ℕ) (old : T) (u v w : O)
+    → ReadsAheadInSpan takes goes handed_on format waits told span piece given_before given_now old u v → goes v w → ReadsAheadInSpan takes goes handed_on format waits told span piece given_before given_now old u w
+span_ahead_later takes goes handed_on on format waits told span piece given_before given_now old u v w a later =
+    record { place = a.place; start = a.start; cut = a.cut; taker = a.taker; out = a.out; taken = a.taken; handed = a.handed; later = on a.out v w a.later later; given = a.given; below = a.below }
 
 -- behind spans that were taken
 told_ahead : {T O : Type 0} (takes : Takes T O) (more : TakesMore takes) (format : Format) (waits : Bool) (first second : Option Folder) (spans : List Span) (i : ℕ) (span : Span) (place : ℕ) (a b : Page T) (t : T) (u v w : O) → i < length spans → span ≡ get_or spans i span
@@ -182,12 +184,12 @@ told_ahead takes more format waits (Some x) (Some y) spans i span place a b t u 
     let Done : List Met → Type 0 = λ l. takes a.taker u (l ++ rows_up_to format y span place) t w in
     subst Done (sym mets) (more _ _ _ _ _ _ _ _ so_far.done (s (kept i span lt is)))
 
-pub spans_ahead : {T O : Type 0} (takes : Takes T O) (goes : O → O → Type 0) (more : TakesMore takes) (format : Format) (waits : Bool) (first second : Option Folder) (spans : List Span) (i : ℕ) (span : Span) (piece size given_first given_before given_now : ℕ) (a b : Page T) (u v w : O)
+pub spans_ahead : {T O : Type 0} (takes : Takes T O) (goes : O → O → Type 0) (handed_on : T → O → Type 0) (more : TakesMore takes) (format : Format) (waits : Bool) (first second : Option Folder) (spans : List Span) (i : ℕ) (span : Span) (piece size given_first given_before given_now : ℕ) (a b : Page T) (u v w : O)
     → i < length spans → span ≡ get_or spans i span → OnlyGrow first second → Told first (λ folder. AllSpans (take i spans) (λ s. s.listed ≤ length (bytes_in folder s.name)))
     → Told first (λ folder. AreKept format waits (take i spans) folder → TakesSpans takes format waits folder (take i spans) a b u v)
-    → given_before ≤ given_first + spans_size (take i spans) → piece ≡ size → ReadsAheadInSpan takes goes format waits second span piece given_before given_now b.taker v w
-    → ReadsAhead takes goes format waits second spans size given_first given_now a.taker u w
-spans_ahead takes goes more format waits first second spans i span piece size given_first given_before given_now a b u v w lt is grows there f so_far same s =
+    → given_before ≤ given_first + spans_size (take i spans) → piece ≡ size → ReadsAheadInSpan takes goes handed_on format waits second span piece given_before given_now b.taker v w
+    → ReadsAhead takes goes handed_on format waits second spans size given_first given_now a.taker u w
+spans_ahead takes goes handed_on more format waits first second spans i span piece size given_first given_before given_now a b u v w lt is grows there f so_far same s =
     let given = s.given in
     let below = s.below in
     record {
@@ -201,6 +203,7 @@ spans_ahead takes goes more format waits first second spans i span piece size gi
       taker = s.taker;
       out = s.out;
       taken = told_ahead takes more format waits first second spans i span s.place a b s.taker u v s.out lt is grows there f s.taken;
+      handed = s.handed;
       later = s.later;
       given = omega arith;
       below = omega arith;

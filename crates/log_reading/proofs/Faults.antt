@@ -1,11 +1,15 @@
 -- A fact on a fault that is handed on.
-use Rattle.std.proofs.Common.{◌≡◌, ℕ, Result, Ok, Err, IfErr, IsErrAnd, sym, subst}
+use Rattle.std.proofs.Common.{◌≡◌, ℕ, Result, Ok, Err, OnOk, IfErr, IsErrAnd, sym, subst}
 use Rattle.log_reading.specs.declared.taker.LineFault.{LineFault}
 use Rattle.log_reading.specs.declared.taker.LineFault.TheVariants as L
 use Rattle.log_reading.specs.declared.span.RunFault.{RunFault}
 use Rattle.log_reading.specs.declared.span.RunFault.TheVariants as R
 use Rattle.log_reading.specs.Page.{OnBad}
 use Rattle.log_reading.specs.Spans.{BadLine, OnBadLine, bad_line}
+
+pub on_ok_map : {T E : Type 0} (P Q : Type 0) (r : Result T E) → (P → Q) → OnOk r P → OnOk r Q
+on_ok_map P Q (Ok value) h p = h p
+on_ok_map P Q (Err fault) h p = tt
 
 pub handed_on : {T E : Type 0} (r : Result T E) (fault : E) (Q : E → Type 0) → IsErrAnd r (λ given. given ≡ fault) → Q fault → IfErr r Q
 handed_on (Ok value) fault Q is q = absurd is

@@ -17,9 +17,10 @@ use Rattle.log_reading.specs.Found.{Met, met_of, log_ended}
 use Rattle.log_reading.specs.declared.span.Span.{Span}
 use Rattle.log_reading.specs.declared.span.Took.{Took}
 use Rattle.log_reading.specs.declared.page.Page.{Page}
-use Rattle.log_reading.specs.Page.{Takes, Stops, to_come, Follows, StopsIn, StopsWithin, IsTooMany, ExceedsIn, ExceedsWithin}
+use Rattle.log_reading.specs.Page.{Takes, Stops, Advances, to_come, Follows, StopsIn, StopsWithin, IsTooMany, ExceedsIn, ExceedsWithin}
 use Rattle.log_reading.specs.Spans.{HasRead, StopsReading, ExceedsReading, BadLine, bad_line, span_bad_lines, log_to_come, IsKept, TakesRows, TakesSpan, cut_of, span_found, span_rows, span_met, span_bad, EndsSpan, took_at, took_of, span_end}
-use Rattle.log_reading.proofs.Advancing.{TakesMore, StopsHere, StopsLater, StopsMore, advances_trans, advances_none, stops_trans, follows_trans, to_come-waiting, exceeds_trans}
+use Rattle.line_input.specs.Splitter.{Split}
+use Rattle.log_reading.proofs.Advancing.{TakesMore, StopsHere, StopsLater, StopsMore, advances_trans, advances_none, advances_on, stops_trans, follows_trans, to_come-waiting, exceeds_trans}
 use Rattle.log_reading.proofs.Ending.{standing_at_cut}
 use Rattle.log_reading.proofs.LastEnd.{span_ends}
 
@@ -43,6 +44,24 @@ has_read_trans takes more format identity waits first second name cut a b c u v 
       end = omega arith;
       advances = advances_trans takes more format identity waits f.bytes s.bytes a b c u v w f.advances s.advances;
     }
+
+-- only the taker went on, and nothing was met
+pub has_read_on : {T O : Type 0} (takes : Takes T O) (more : TakesMore takes) (format : Format) (identity : List ℕ) (waits : Bool) (told : Option Folder) (name : List ℕ) (cut : ℕ) (a b c : Page T) (u v w : O)
+    → c.splitter ≡ b.splitter → c.standing ≡ b.standing → c.rows ≡ b.rows → c.bad ≡ b.bad → takes b.taker v [] c.taker w
+    → HasRead takes format identity waits told name cut a b u v → HasRead takes format identity waits told name cut a c u w
+has_read_on takes more format identity waits told name cut a b c u v w splitter standing rows bad nothing f = record {
+  bytes = f.bytes;
+  piece = f.piece;
+  end = ap (λ (s : Split). s.place + length s.left) splitter ∙ f.end;
+  advances = subst (λ (piece : List ℕ). Advances takes format identity waits piece a c u w) (append-nil f.bytes)
+      (advances_trans takes more format identity waits f.bytes [] a b c u v w f.advances (advances_on takes format identity waits b c v w splitter standing rows bad nothing));
+}
+
+-- it stopped there
+pub stops_on : {T O : Type 0} (stops : Stops T O) (more : StopsMore stops) (format : Format) (identity : List ℕ) (waits : Bool) (told : Option Folder) (name : List ℕ) (cut : ℕ) (b z : Page T) (v w : O)
+    → stops b.taker v [] z.taker w → StopsReading stops format identity waits told name cut b z v w
+stops_on stops more format identity waits None name cut b z v w nothing = record { within = tt }
+stops_on stops more format identity waits (Some x) name cut b z v w nothing = record { within = record { behind = λ history at. more b.taker z.taker v w [] _ nothing } }
 
 -- it stopped within a piece that was read
 pub stops_in_piece : {T O : Type 0} (stops : Stops T O) (format : Format) (identity : List ℕ) (waits : Bool) (told : Option Folder) (name : List ℕ) (cut : ℕ) (old z : Page T) (bytes : List ℕ) (u w : O)

@@ -165,30 +165,32 @@ took_of format folder span = took_at span.identity span.from (span_end folder sp
 abbrev pub rows_up_to : Format → Folder → Span → ℕ → List Met
 rows_up_to format folder span place = let bytes = take place (bytes_in folder span.name) in met_of span.identity (records_of format bytes true span.from (length bytes))
 
--- a log was read at most one piece ahead of a page: the taker had all lines that LF ends up to where that page is
-pub record ReadsAheadInLog {T O : Type 0} (takes : Takes T O) (goes : O → O → Type 0) (format : Format) (identity : List ℕ) (told : Option Folder) (name : List ℕ) (cut piece given_before given_now : ℕ) (old : Page T) (before now : O) : Type 0 where
+-- a log was read at most one piece ahead of a page: the taker had all lines that LF ends up to where that page is, and had handed on what may go on
+pub record ReadsAheadInLog {T O : Type 0} (takes : Takes T O) (goes : O → O → Type 0) (handed_on : T → O → Type 0) (format : Format) (identity : List ℕ) (told : Option Folder) (name : List ℕ) (cut piece given_before given_now : ℕ) (old : Page T) (before now : O) : Type 0 where
   pub page : Page T
   pub out : O
   pub read : HasRead takes format identity true told name cut old page before out
   pub last : length page.splitter.left ≤ position_or_len is_lf page.splitter.left
+  pub handed : handed_on page.taker out
   pub later : goes out now
   pub given : given_now + old.splitter.place ≤ given_before + (page.splitter.place + length page.splitter.left) + piece
   pub below : given_now + old.splitter.place ≤ given_before + cut
 
--- a span was read at most one piece ahead of a place, and nothing behind its cut: the taker had the rows of all lines that LF ends up to that place
-pub record ReadsAheadInSpan {T O : Type 0} (takes : Takes T O) (goes : O → O → Type 0) (format : Format) (waits : Bool) (told : Option Folder) (span : Span) (piece given_before given_now : ℕ) (old : T) (before now : O) : Type 0 where
+-- a span was read at most one piece ahead of a place, and nothing behind its cut: the taker had the rows of all lines that LF ends up to that place, and had handed on what may go on
+pub record ReadsAheadInSpan {T O : Type 0} (takes : Takes T O) (goes : O → O → Type 0) (handed_on : T → O → Type 0) (format : Format) (waits : Bool) (told : Option Folder) (span : Span) (piece given_before given_now : ℕ) (old : T) (before now : O) : Type 0 where
   pub place : ℕ
   pub start : span.from ≤ place
   pub cut : place ≤ span.listed
   pub taker : T
   pub out : O
   pub taken : Told told (λ folder. IsKept format waits (cut_of folder span) span → takes old before (rows_up_to format folder span place) taker out)
+  pub handed : handed_on taker out
   pub later : goes out now
   pub given : given_now + span.from ≤ given_before + place + piece
   pub below : given_now + span.from ≤ given_before + span.listed
 
 -- the same of spans: the taker had all of those in front of one
-pub record ReadsAhead {T O : Type 0} (takes : Takes T O) (goes : O → O → Type 0) (format : Format) (waits : Bool) (told : Option Folder) (spans : List Span) (piece given_before given_now : ℕ) (old : T) (before now : O) : Type 0 where
+pub record ReadsAhead {T O : Type 0} (takes : Takes T O) (goes : O → O → Type 0) (handed_on : T → O → Type 0) (format : Format) (waits : Bool) (told : Option Folder) (spans : List Span) (piece given_before given_now : ℕ) (old : T) (before now : O) : Type 0 where
   pub front : List Span
   pub span : Span
   pub rest : List Span
@@ -199,6 +201,7 @@ pub record ReadsAhead {T O : Type 0} (takes : Takes T O) (goes : O → O → Typ
   pub taker : T
   pub out : O
   pub taken : Told told (λ folder. AreKept format waits spans folder → takes old before (spans_met format waits folder front ++ rows_up_to format folder span place) taker out)
+  pub handed : handed_on taker out
   pub later : goes out now
   pub given : given_now + span.from ≤ given_before + spans_size front + place + piece
   pub below : given_now + span.from ≤ given_before + spans_size front + span.listed

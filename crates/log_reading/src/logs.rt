@@ -25,7 +25,33 @@ fn one_too_many(span: &Span, row: u64) -> RunFault
     }
 }
 
-// Reads a piece of a log and takes its lines, and tells whether there was one.
+// Hands on what may go on to the output.
+fn hand_on<T: Taker<O>, O>(page: &mut Page<T>, out: &mut O) -> Result<(), RunFault>
+    ensures takes { OnOk result (T.takes page.old.taker out.old [] page.new.taker out.new) }
+    ensures stops { OnErr result (T.stops page.old.taker out.old [] page.new.taker out.new) }
+    ensures handed { OnOk result (T.handed_on page.new.taker out.new) }
+    ensures count { OnOk result (T.count page.new.taker ≡ T.count page.old.taker) }
+    ensures splitter { page.new.splitter ≡ page.old.splitter }
+    ensures standing { page.new.standing ≡ page.old.standing }
+    ensures rows { page.new.rows ≡ page.old.rows }
+    ensures bad { page.new.bad ≡ page.old.bad }
+    ensures most { page.new.most_bad ≡ page.old.most_bad }
+    ensures no_line { IfErr result (λ fault. OnBadLine fault (λ line. ⊥)) }
+    ensures no_logs { IsErrOf result RunFault.Logs → ⊥ }
+    ensures goes { T.goes out.old out.new }
+    ensures later { T.faults out.old ≤ T.faults out.new }
+    ensures output { IsErrOf result RunFault.Output → Rose (T.faults out.old) (T.faults out.new) }
+    ensures stopped { IsErrOf result RunFault.Stopped → T.stopped page.new.taker }
+{
+    match page.taker.hand_on(out) {
+        Ok(()) => Ok(()),
+        Err(TakeFault::Memory) => Err(RunFault::Memory),
+        Err(TakeFault::Failed) => Err(RunFault::Output),
+        Err(TakeFault::Stopped) => Err(RunFault::Stopped),
+    }
+}
+
+// Reads a piece of a log, takes its lines and hands on what may go on, and tells whether there was a piece.
 fn read_piece<R: LineReader, L: LogSource, T: Taker<O>, O>(
     alloc: Global,
     reader: &R,
@@ -61,6 +87,7 @@ fn read_piece<R: LineReader, L: LogSource, T: Taker<O>, O>(
     ensures given { OnOk result (L.given logs.new + (page.old.splitter.place + length page.old.splitter.left) ≡ L.given logs.old + (page.new.splitter.place + length page.new.splitter.left)) }
     ensures once { L.given logs.new ≤ L.given logs.old + length chunk.new }
     ensures given_at_most { OnErr result (L.given logs.new + (page.old.splitter.place + length page.old.splitter.left) ≤ L.given logs.old + span.now.listed) }
+    ensures handed { OnOk result (T.handed_on page.new.taker out.new) }
     ensures later_logs { L.faults logs.old ≤ L.faults logs.new }
     ensures logs { IsErrOf result RunFault.Logs → Rose (L.faults logs.old) (L.faults logs.new) }
     ensures goes { T.goes out.old out.new }
@@ -74,7 +101,10 @@ fn read_piece<R: LineReader, L: LogSource, T: Taker<O>, O>(
         Err(_) => return Err(RunFault::Logs),
     };
     match take_piece(alloc, reader, &span.identity, &chunk[..count], page, out) {
-        Ok(()) => Ok(count > 0),
+        Ok(()) => {
+            hand_on(page, out)?;
+            Ok(count > 0)
+        }
         Err(LineFault::Memory) => Err(RunFault::Memory),
         Err(LineFault::Failed) => Err(RunFault::Output),
         Err(LineFault::Stopped) => Err(RunFault::Stopped),
@@ -99,6 +129,7 @@ fn read_log<R: LineReader, L: LogSource, T: Taker<O>, O>(
     requires chunk { 0 < length chunk.old }
     requires room { HasRoom T.count page.old (span.now.listed - page.old.splitter.place + 1) }
     requires within { IsWithin page.old.most_bad page.old.bad }
+    requires handed { T.handed_on page.old.taker out.old }
     ensures grows { OnlyGrow (L.folder logs.old) (L.folder logs.new) }
     ensures goes_logs { L.goes logs.old logs.new }
     ensures read { OnOk result ((waits : Bool) → HasRead T.takes (R.format reader.now) span.now.identity waits (L.folder logs.new) span.now.name span.now.listed page.old page.new out.old out.new) }
@@ -113,7 +144,7 @@ fn read_log<R: LineReader, L: LogSource, T: Taker<O>, O>(
     ensures room { OnOk result (HasRoom T.count page.new (span.now.listed - page.new.splitter.place + 1)) }
     ensures spends { OnOk result (Spends T.count page.old page.new (span.now.listed - page.old.splitter.place)) }
     ensures given { L.given logs.new + page.old.splitter.place ≤ L.given logs.old + span.now.listed }
-    ensures ahead { ReadsAheadInLog T.takes T.goes (R.format reader.now) span.now.identity (L.folder logs.new) span.now.name span.now.listed (length chunk.old) (L.given logs.old) (L.given logs.new) page.old out.old out.new }
+    ensures ahead { ReadsAheadInLog T.takes T.goes T.handed_on (R.format reader.now) span.now.identity (L.folder logs.new) span.now.name span.now.listed (length chunk.old) (L.given logs.old) (L.given logs.new) page.old out.old out.new }
     ensures later_logs { L.faults logs.old ≤ L.faults logs.new }
     ensures logs { IsErrOf result RunFault.Logs → Rose (L.faults logs.old) (L.faults logs.new) }
     ensures goes { T.goes out.old out.new }
@@ -196,6 +227,7 @@ fn read_span<R: LineReader, L: LogSource, T: Taker<O>, O>(
     requires bad { page.old.bad + (span.now.listed - span.now.from) + 1 < 2 ^ 63 }
     requires within { IsWithin page.old.most_bad page.old.bad }
     requires taken { T.count page.old.taker + (span.now.listed - span.now.from) + 1 < 2 ^ 63 }
+    requires handed { T.handed_on page.old.taker out.old }
     ensures grows { OnlyGrow (L.folder logs.old) (L.folder logs.new) }
     ensures goes_logs { L.goes logs.old logs.new }
     ensures takes { OnOk result (Told (L.folder logs.new) (λ folder. IsKept (R.format reader.now) waits (cut_of folder span.now) span.now
@@ -214,7 +246,7 @@ fn read_span<R: LineReader, L: LogSource, T: Taker<O>, O>(
     ensures bad { OnOk result (page.new.bad ≤ page.old.bad + (span.now.listed - span.now.from) + 1) }
     ensures taken { OnOk result (T.count page.new.taker ≤ T.count page.old.taker + (span.now.listed - span.now.from) + 1) }
     ensures given { L.given logs.new + span.now.from ≤ L.given logs.old + span.now.listed }
-    ensures ahead { ReadsAheadInSpan T.takes T.goes (R.format reader.now) waits (L.folder logs.new) span.now (length chunk.old) (L.given logs.old) (L.given logs.new) page.old.taker out.old out.new }
+    ensures ahead { ReadsAheadInSpan T.takes T.goes T.handed_on (R.format reader.now) waits (L.folder logs.new) span.now (length chunk.old) (L.given logs.old) (L.given logs.new) page.old.taker out.old out.new }
     ensures later_logs { L.faults logs.old ≤ L.faults logs.new }
     ensures logs { IsErrOf result RunFault.Logs → Rose (L.faults logs.old) (L.faults logs.new) }
     ensures goes { T.goes out.old out.new }
@@ -235,7 +267,7 @@ fn read_span<R: LineReader, L: LogSource, T: Taker<O>, O>(
     }
 }
 
-// Takes the end of a span's log.
+// Takes the end of a span's log, and hands on what may go on.
 fn end_span<T: Taker<O>, O>(
     alloc: Global,
     span: &Span,
@@ -244,6 +276,7 @@ fn end_span<T: Taker<O>, O>(
 ) -> Result<(), RunFault>
     ensures takes { OnOk result (T.takes page.old.taker out.old (log_ended span.now.identity page.old.standing.columns ∷ []) page.new.taker out.new) }
     ensures stops { OnErr result (T.stops page.old.taker out.old (log_ended span.now.identity page.old.standing.columns ∷ []) page.new.taker out.new) }
+    ensures handed { OnOk result (T.handed_on page.new.taker out.new) }
     ensures count { OnOk result (T.count page.new.taker ≡ T.count page.old.taker) }
     ensures splitter { page.new.splitter ≡ page.old.splitter }
     ensures standing { page.new.standing ≡ page.old.standing }
@@ -259,7 +292,7 @@ fn end_span<T: Taker<O>, O>(
 {
     let columns = page.standing.columns();
     match page.taker.end_log(alloc, &span.identity, columns, out) {
-        Ok(()) => Ok(()),
+        Ok(()) => hand_on(page, out),
         Err(TakeFault::Memory) => Err(RunFault::Memory),
         Err(TakeFault::Failed) => Err(RunFault::Output),
         Err(TakeFault::Stopped) => Err(RunFault::Stopped),
@@ -286,6 +319,7 @@ fn take_span<R: LineReader, L: LogSource, T: Taker<O>, O>(
     requires bad { page.old.bad + (span.now.listed - span.now.from) + 1 < 2 ^ 63 }
     requires within { IsWithin page.old.most_bad page.old.bad }
     requires taken { T.count page.old.taker + (span.now.listed - span.now.from) + 1 < 2 ^ 63 }
+    requires handed { T.handed_on page.old.taker out.old }
     ensures grows { OnlyGrow (L.folder logs.old) (L.folder logs.new) }
     ensures goes_logs { L.goes logs.old logs.new }
     ensures takes { OnOk result (Told (L.folder logs.new) (λ folder. IsKept (R.format reader.now) waits (cut_of folder span.now) span.now
@@ -304,7 +338,8 @@ fn take_span<R: LineReader, L: LogSource, T: Taker<O>, O>(
     ensures bad { OnOk result (page.new.bad ≤ page.old.bad + (span.now.listed - span.now.from) + 1) }
     ensures taken { OnOk result (T.count page.new.taker ≤ T.count page.old.taker + (span.now.listed - span.now.from) + 1) }
     ensures given { L.given logs.new + span.now.from ≤ L.given logs.old + span.now.listed }
-    ensures ahead { ReadsAheadInSpan T.takes T.goes (R.format reader.now) waits (L.folder logs.new) span.now (length chunk.old) (L.given logs.old) (L.given logs.new) page.old.taker out.old out.new }
+    ensures ahead { ReadsAheadInSpan T.takes T.goes T.handed_on (R.format reader.now) waits (L.folder logs.new) span.now (length chunk.old) (L.given logs.old) (L.given logs.new) page.old.taker out.old out.new }
+    ensures handed { OnOk result (T.handed_on page.new.taker out.new) }
     ensures later_logs { L.faults logs.old ≤ L.faults logs.new }
     ensures logs { IsErrOf result RunFault.Logs → Rose (L.faults logs.old) (L.faults logs.new) }
     ensures goes { T.goes out.old out.new }
@@ -357,6 +392,7 @@ pub(crate) fn take_noted<R: LineReader, L: LogSource, T: Taker<O>, O>(
     requires bad { page.old.bad + (span.now.listed - span.now.from) + 1 < 2 ^ 63 }
     requires within { IsWithin page.old.most_bad page.old.bad }
     requires taken { T.count page.old.taker + (span.now.listed - span.now.from) + 1 < 2 ^ 63 }
+    requires handed { T.handed_on page.old.taker out.old }
     ensures grows { OnlyGrow (L.folder logs.old) (L.folder logs.new) }
     ensures goes_logs { L.goes logs.old logs.new }
     ensures takes { OnOk result (Told (L.folder logs.new) (λ folder. IsKept (R.format reader.now) waits (cut_of folder span.now) span.now
@@ -375,7 +411,8 @@ pub(crate) fn take_noted<R: LineReader, L: LogSource, T: Taker<O>, O>(
     ensures bad { OnOk result (page.new.bad ≤ page.old.bad + (span.now.listed - span.now.from) + 1) }
     ensures taken { OnOk result (T.count page.new.taker ≤ T.count page.old.taker + (span.now.listed - span.now.from) + 1) }
     ensures given { L.given logs.new + span.now.from ≤ L.given logs.old + span.now.listed }
-    ensures ahead { ReadsAheadInSpan T.takes T.goes (R.format reader.now) waits (L.folder logs.new) span.now (length chunk.old) (L.given logs.old) (L.given logs.new) page.old.taker out.old out.new }
+    ensures ahead { ReadsAheadInSpan T.takes T.goes T.handed_on (R.format reader.now) waits (L.folder logs.new) span.now (length chunk.old) (L.given logs.old) (L.given logs.new) page.old.taker out.old out.new }
+    ensures handed { OnOk result (T.handed_on page.new.taker out.new) }
     ensures later_logs { L.faults logs.old ≤ L.faults logs.new }
     ensures logs { IsErrOf result RunFault.Logs → Rose (L.faults logs.old) (L.faults logs.new) }
     ensures goes { T.goes out.old out.new }

@@ -1,5 +1,5 @@
 // Logs, one after the other, to a taker.
-ghost use Rattle.std.specs.Prelude.{◌≡◌, ◌≤◌, ◌<◌, ◌^◌, ◌+◌, ◌-◌, ◌++◌, ℕ, List, Bool, true, length, map, Option, OnOk, OnErr, IfOk, IfErr, IsErrOf};
+ghost use Rattle.std.specs.Prelude.{◌≡◌, ◌⊎◌, ◌≤◌, ◌<◌, ◌^◌, ◌+◌, ◌-◌, ◌++◌, ℕ, List, Bool, true, length, map, Option, OnOk, OnErr, IfOk, IfErr, IsErrOf};
 ghost use Rattle.lp_model.specs.Outside.{Rose, OnlyGrow, Told};
 ghost use Rattle.log_reading.specs.Page.{IsTooMany, IsWithin};
 ghost use Rattle.log_reading.specs.Spans.{AllSpans, AreReadable, IsSpan, AreKept, TakesSpans, ReadsAhead, OnBadLine, spans_met, spans_bad_lines, spans_size, took_of};
@@ -28,6 +28,7 @@ pub fn take_spans<R: LineReader, L: LogSource, T: Taker<O>, O>(
     requires bad { page.old.bad + spans_size spans.now + length spans.now < 2 ^ 63 }
     requires within { IsWithin page.old.most_bad page.old.bad }
     requires taken { T.count page.old.taker + spans_size spans.now + length spans.now < 2 ^ 63 }
+    requires handed { T.handed_on page.old.taker out.old }
     ensures grows { OnlyGrow (L.folder logs.old) (L.folder logs.new) }
     ensures goes_logs { L.goes logs.old logs.new }
     ensures takes { OnOk result (Told (L.folder logs.new) (λ folder. AreKept (R.format reader.now) waits spans.now folder
@@ -41,7 +42,7 @@ pub fn take_spans<R: LineReader, L: LogSource, T: Taker<O>, O>(
     ensures took { OnOk result (waits ≡ true → Told (L.folder logs.new) (λ folder. AreKept (R.format reader.now) true spans.now folder
         → took.new ≡ took.old ++ map (took_of (R.format reader.now) folder) spans.now)) }
     ensures given { L.given logs.new ≤ L.given logs.old + spans_size spans.now }
-    ensures ahead { OnErr result (ReadsAhead T.takes T.goes (R.format reader.now) waits (L.folder logs.new) spans.now (length chunk.old) (L.given logs.old) (L.given logs.new) page.old.taker out.old out.new) }
+    ensures ahead { (L.given logs.new ≡ L.given logs.old) ⊎ ReadsAhead T.takes T.goes T.handed_on (R.format reader.now) waits (L.folder logs.new) spans.now (length chunk.old) (L.given logs.old) (L.given logs.new) page.old.taker out.old out.new }
     ensures later_logs { L.faults logs.old ≤ L.faults logs.new }
     ensures logs { IsErrOf result RunFault.Logs → Rose (L.faults logs.old) (L.faults logs.new) }
     ensures goes { T.goes out.old out.new }

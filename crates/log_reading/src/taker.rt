@@ -53,6 +53,9 @@ pub trait Taker<O> {
     /// What the output lets stand from one moment to a later one, whether or not a row was taken.
     ghost goes: { O → O → Type 0 };
 
+    /// Nothing is kept back that may go on to the output.
+    ghost handed_on: { Self → O → Type 0 };
+
     /// Takes a row, whose fields may be parts of this line.
     fn take(
         &mut self,
@@ -84,6 +87,17 @@ pub trait Taker<O> {
     ) -> Result<(), TakeFault>
         ensures takes { OnOk result (takes self.old out.old (log_ended identity.now columns.now ∷ []) self.new out.new) }
         ensures stops { OnErr result (stops self.old out.old (log_ended identity.now columns.now ∷ []) self.new out.new) }
+        ensures count { OnOk result (count self.new ≡ count self.old) }
+        ensures goes { goes out.old out.new }
+        ensures later { faults out.old ≤ faults out.new }
+        ensures failed { IsErrOf result TakeFault.Failed → Rose (faults out.old) (faults out.new) }
+        ensures stopped { IsErrOf result TakeFault.Stopped → stopped self.new };
+
+    /// Hands on what may go on to the output: behind the lines of each piece of a log, before more is read, and behind its end.
+    fn hand_on(&mut self, out: &mut O) -> Result<(), TakeFault>
+        ensures takes { OnOk result (takes self.old out.old [] self.new out.new) }
+        ensures stops { OnErr result (stops self.old out.old [] self.new out.new) }
+        ensures handed { OnOk result (handed_on self.new out.new) }
         ensures count { OnOk result (count self.new ≡ count self.old) }
         ensures goes { goes out.old out.new }
         ensures later { faults out.old ≤ faults out.new }

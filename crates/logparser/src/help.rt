@@ -83,11 +83,9 @@ Examples
   logparser -o:CSV \"SELECT name, MUL(price, 2) AS twice FROM list.csv WHERE name LIKE 'a%'\"
   logparser -iCheckpoint:day.cp -fileMode:0 \"SELECT Text INTO errors.csv FROM app.log\"
 
-Not built yet, and answered so: subqueries.
-
 The manual is docs/manual.md in the repository; docs/examples.md answers common questions.
 
-Status: 0 whole; 1 out of memory; 2 words, clock, or not built; 3 query; 4 logs, outputs, or the
-template; 5 read fault; 6 disk fault; 7 write fault; 8 too many lines that can't be read;
+Status: 0 whole; 1 out of memory; 2 words or clock; 3 query; 4 logs, outputs, or the template;
+5 read fault; 6 disk fault; 7 write fault; 8 too many lines that can't be read;
 9 the file of -iCheckpoint is damaged.
 ";

@@ -6,16 +6,16 @@ use Rattle.grammar.specs.Trees as model
 use Rattle.lp_model.specs.Outside.{Folder, OnlyGrow, Rose}
 use Rattle.checkpoint.specs.Wholes.{whole_spans}
 use Rattle.command_words.specs.declared.spec.Spec.{Spec}
-use Rattle.execution.specs.Built.{reads_stdin}
-use Rattle.execution.specs.Executed.{IsExecuted, IsMoment, IsUntouched, Writes, rows_in}
-use Rattle.execution.specs.Executed.{HoldsFront as HoldsSpans, IsParseError as IsExceeded, IsStopped as IsStoppedIn, IsUnplaced as IsUnplacedIn, IsUnplanned as IsUnplannedIn, WritesAll as WritesSpans}
-use Rattle.execution.specs.Formats.{lines_in, log_format}
-use Rattle.execution.specs.Outputs.{asked_in, is_standard}
-use Rattle.execution.specs.Plans.{query_plan}
-use Rattle.execution.specs.Texts.{into_in}
-use Rattle.execution.specs.Faults.{IfParse, IfPlan, IfRefused}
-use Rattle.execution.specs.declared.fault.RunFault.{RunFault}
-use Rattle.execution.specs.declared.fault.RunFault.TheVariants as X
+use Rattle.checkpointed_command.specs.Built.{reads_stdin}
+use Rattle.checkpointed_command.specs.Executed.{IsExecuted, IsMoment, IsUntouched, Writes, rows_in}
+use Rattle.checkpointed_command.specs.Executed.{HoldsFront as HoldsSpans, IsParseError as IsExceeded, IsStopped as IsStoppedIn, IsUnplaced as IsUnplacedIn, IsUnplanned as IsUnplannedIn, WritesAll as WritesSpans}
+use Rattle.checkpointed_command.specs.Formats.{lines_in, log_format}
+use Rattle.checkpointed_command.specs.Outputs.{asked_in, is_standard}
+use Rattle.checkpointed_command.specs.Plans.{query_plan}
+use Rattle.checkpointed_command.specs.Texts.{into_in}
+use Rattle.checkpointed_command.specs.Faults.{IfParse, IfPlan, IfRefused}
+use Rattle.checkpointed_command.specs.RunFault.{RunFault}
+use Rattle.checkpointed_command.specs.RunFault.TheVariants as X
 use Rattle.log_reading.specs.declared.span.Span.{Span}
 use Rattle.log_reading.specs.Page.{IsTooMany, IsWithin}
 use Rattle.log_reading.specs.Spans.{BadLine, spans_bad_lines, bad_line}
@@ -32,7 +32,7 @@ use Rattle.row_output.specs.declared.fault.Refused.{Refused}
 use Rattle.row_output.specs.declared.fault.Refused.TheVariants as W
 use Rattle.log_listing.specs.declared.lengths.NameLength.{NameLength}
 use Rattle.reports.specs.declared.status.Status.{Status}
-use Rattle.reports.specs.declared.status.Status.TheVariants.{Done, Memory, Clock, Usage, Query, NotBuilt, NoSuchLog, BadName, NameClash, TooManyOutputs, TooManyLogs, Template, InputTooLong, LogsFault, SourceFault, DiskFault, SinkFault, ParseErrors, LostLog, Shrunk, InputChanged, IntoNeeded, LedgerFault}
+use Rattle.reports.specs.declared.status.Status.TheVariants.{Done, Memory, Clock, Usage, Query, NoSuchLog, BadName, NameClash, TooManyOutputs, TooManyLogs, Template, InputTooLong, LogsFault, SourceFault, DiskFault, SinkFault, ParseErrors, LostLog, Shrunk, InputChanged, IntoNeeded, LedgerFault}
 use Rattle.reports.specs.Status.{OnRefused}
 use Rattle.requests.specs.Requests.{Asks, IsRefused}
 use Rattle.requests.specs.declared.fault.RequestFault.{RequestFault}
@@ -41,7 +41,7 @@ use Rattle.requests.proofs.Growing.{asks_grown}
 use Rattle.logparser_cli.specs.Logs.{AreSpans, IsUnlisted}
 use Rattle.logparser_cli.specs.Outputs.{HasFront, HasWritten, IsUnwritten, OutputRose, World, input_world, stream_world}
 use Rattle.logparser_cli.specs.Whole.{Tells, told_statistics, IsFront, IsHalted, IsParseError, IsUnplaced, IsUnplanned, IsWhole, OnRows, WritesAll}
-use Rattle.logparser_cli.specs.Answers.{IsStopped, IsUnplannable, AnswersBuilt, AnswersInput, AnswersOf, AnswersOver, AnswersQuery, AnswersRun, IsUnasked, AnswersPlainly, NamesNoLog}
+use Rattle.logparser_cli.specs.Answers.{IsStopped, IsUnplannable, AnswersInput, AnswersOf, AnswersOver, AnswersQuery, AnswersRun, IsUnasked, AnswersPlainly}
 use Rattle.checkpointed_command.specs.Statuses.{failed_output, unasked, unplaced, stopped}
 use Rattle.logparser_cli.specs.Input.{stopped_input}
 use Rattle.standard_input.specs.Streams.{stream_files}
@@ -58,7 +58,6 @@ on_refused Memory P p = p
 on_refused (Clock at) P p = p
 on_refused (Usage fault) P p = p
 on_refused (Query fault) P p = p
-on_refused NotBuilt P p = p
 on_refused (NoSuchLog name) P p = p
 on_refused (BadName fault) P p = p
 on_refused (NameClash name) P p = p
@@ -88,7 +87,6 @@ unlisted_answers old new template spec moment q Memory is same rose = inl same
 unlisted_answers old new template spec moment q (Clock at) is same rose = absurd is
 unlisted_answers old new template spec moment q (Usage fault) is same rose = absurd is
 unlisted_answers old new template spec moment q (Query fault) is same rose = absurd is
-unlisted_answers old new template spec moment q NotBuilt is same rose = absurd is
 unlisted_answers old new template spec moment q (NoSuchLog name) is same rose = (is, same)
 unlisted_answers old new template spec moment q (BadName fault) is same rose = inl (is, same)
 unlisted_answers old new template spec moment q (NameClash name) is same rose = absurd is
@@ -255,7 +253,6 @@ run_earlier mid new before faults template spec moment q Memory grow later s = s
 run_earlier mid new before faults template spec moment q (Clock at) grow later s = absurd s
 run_earlier mid new before faults template spec moment q (Usage fault) grow later s = absurd s
 run_earlier mid new before faults template spec moment q (Query fault) grow later s = unplannable_earlier mid new before faults spec moment q fault grow s
-run_earlier mid new before faults template spec moment q NotBuilt grow later s = absurd s
 run_earlier mid new before faults template spec moment q (NoSuchLog name) grow later s = s
 run_earlier mid new before faults template spec moment q (BadName fault) grow later (inl s) = inl s
 run_earlier mid new before faults template spec moment q (BadName fault) grow later (inr s) = inr (unplaced_earlier mid new before faults template spec moment q (W.BadName fault) grow s)
@@ -318,7 +315,6 @@ untemplated_since before mid now name Memory grow s = s
 untemplated_since before mid now name (Clock at) grow s = s
 untemplated_since before mid now name (Usage fault) grow s = s
 untemplated_since before mid now name (Query fault) grow s = s
-untemplated_since before mid now name NotBuilt grow s = s
 untemplated_since before mid now name (NoSuchLog missing) grow s = s
 untemplated_since before mid now name (BadName fault) grow s = s
 untemplated_since before mid now name (NameClash clash) grow s = s
@@ -337,9 +333,9 @@ untemplated_since before mid now name (InputChanged kept given) grow s = s
 untemplated_since before mid now name IntoNeeded grow s = s
 untemplated_since before mid now name (LedgerFault part place) grow s = s
 
-built_earlier : (mid new : World) (before : Option Folder) (faults : ℕ) (spec : Spec) (moment : ℤ) (q : model.Query) (status : Status) → OnlyGrow before mid.folder → faults ≤ mid.logs_faults
-    → AnswersBuilt mid new spec moment q status → AnswersBuilt (with_logs mid before faults) new spec moment q status
-built_earlier mid new before faults spec moment q status grow later (inl none) = inl (record {
+query_earlier : (mid new : World) (before : Option Folder) (faults : ℕ) (spec : Spec) (moment : ℤ) (q : model.Query) (status : Status) → OnlyGrow before mid.folder → faults ≤ mid.logs_faults
+    → AnswersQuery mid new spec moment q status → AnswersQuery (with_logs mid before faults) new spec moment q status
+query_earlier mid new before faults spec moment q status grow later (inl none) = inl (record {
   refused = record {
     output = none.refused.output;
     name = none.refused.name;
@@ -349,29 +345,24 @@ built_earlier mid new before faults spec moment q status grow later (inl none) =
   unwritten = none.unwritten;
   rose = λ failed. rose_since faults mid.logs_faults new.logs_faults later (none.rose failed);
 })
-built_earlier mid new before faults spec moment q status grow later (inr read) = inr (record {
+query_earlier mid new before faults spec moment q status grow later (inr read) = inr (record {
   template = read.template;
   is_template = λ asked. let is = read.is_template asked in record { name = is.name; named = is.named; holds = template_since before mid.folder new.folder is.name read.template grow is.holds };
   answers = given_earlier mid new before faults read.template spec moment q status grow later read.answers;
 })
 
 -- the template isn't read
-pub unread_answers : (old new : World) (spec : Spec) (moment : ℤ) (q : model.Query) (status : Status) → IsWithoutTemplate old.folder new.folder spec q status → IsUnwritten old.held new.held → (status ≡ LogsFault → Rose old.logs_faults new.logs_faults) → AnswersBuilt old new spec moment q status
+pub unread_answers : (old new : World) (spec : Spec) (moment : ℤ) (q : model.Query) (status : Status) → IsWithoutTemplate old.folder new.folder spec q status → IsUnwritten old.held new.held → (status ≡ LogsFault → Rose old.logs_faults new.logs_faults) → AnswersQuery old new spec moment q status
 unread_answers old new spec moment q status refused same rose = inl (record { refused = refused; unwritten = same; rose = rose })
 
 -- a template was read, and the query answered
 pub read_answers : (mid new : World) (before : Option Folder) (faults : ℕ) (spec : Spec) (moment : ℤ) (q : model.Query) (template : Sections) (status : Status) → OnlyGrow before mid.folder → faults ≤ mid.logs_faults → OnlyGrow mid.folder new.folder
-    → IsTemplate before mid.folder spec q template → AnswersOver mid new template spec moment q status → AnswersBuilt (with_logs mid before faults) new spec moment q status
+    → IsTemplate before mid.folder spec q template → AnswersOver mid new template spec moment q status → AnswersQuery (with_logs mid before faults) new spec moment q status
 read_answers mid new before faults spec moment q template status grow later grew found answers = inr (record {
   template = template;
   is_template = λ asked. let is = found asked in record { name = is.name; named = is.named; holds = template_grown before mid.folder new.folder is.name template grew is.holds };
   answers = given_earlier mid new before faults template spec moment q status grow later answers;
 })
-
-query_earlier : (mid new : World) (before : Option Folder) (faults : ℕ) (spec : Spec) (moment : ℤ) (q : model.Query) (status : Status) → OnlyGrow before mid.folder → faults ≤ mid.logs_faults
-    → AnswersQuery mid new spec moment q status → AnswersQuery (with_logs mid before faults) new spec moment q status
-query_earlier mid new before faults spec moment q status grow later (inl none) = inl none
-query_earlier mid new before faults spec moment q status grow later (inr (built, answers)) = inr (built, built_earlier mid new before faults spec moment q status grow later answers)
 
 -- the words ask for a query, and the answer tells of it
 pub asked_answers : (mid new : World) (before : Option Folder) (faults : ℕ) (moment : ℤ) (words : List (List ℕ)) (spec : Spec) (q : model.Query) (status : Status) → IsMoment moment → OnlyGrow before mid.folder → faults ≤ mid.logs_faults
@@ -402,7 +393,6 @@ run_told old new err faults template spec moment q Memory refused s = s
 run_told old new err faults template spec moment q (Clock at) refused s = s
 run_told old new err faults template spec moment q (Usage fault) refused s = s
 run_told old new err faults template spec moment q (Query fault) refused s = s
-run_told old new err faults template spec moment q NotBuilt refused s = s
 run_told old new err faults template spec moment q (NoSuchLog name) refused s = s
 run_told old new err faults template spec moment q (BadName fault) refused s = s
 run_told old new err faults template spec moment q (NameClash name) refused s = s
@@ -436,14 +426,10 @@ given_told old new err faults template spec moment q status refused (inr (inl u)
 given_told old new err faults template spec moment q status refused (inr (inr r)) =
     inr (inr (record { whole = r.whole; is_filled = r.is_filled; answers = over_told (reads_stdin (names_in q)) old new err faults template spec moment r.whole status refused r.answers }))
 
-built_told : (old new : World) (err : Option (List ℕ)) (faults : ℕ) (spec : Spec) (moment : ℤ) (q : model.Query) (status : Status) → (status ≡ Done → ⊥) → AnswersBuilt old new spec moment q status → AnswersBuilt old (with_err new err faults) spec moment q status
-built_told old new err faults spec moment q status refused (inl none) = inl (record { refused = none.refused; unwritten = none.unwritten; rose = none.rose })
-built_told old new err faults spec moment q status refused (inr read) =
-    inr (record { template = read.template; is_template = read.is_template; answers = given_told old new err faults read.template spec moment q status refused read.answers })
-
 query_told : (old new : World) (err : Option (List ℕ)) (faults : ℕ) (spec : Spec) (moment : ℤ) (q : model.Query) (status : Status) → (status ≡ Done → ⊥) → AnswersQuery old new spec moment q status → AnswersQuery old (with_err new err faults) spec moment q status
-query_told old new err faults spec moment q status refused (inl none) = inl none
-query_told old new err faults spec moment q status refused (inr (built, answers)) = inr (built, built_told old new err faults spec moment q status refused answers)
+query_told old new err faults spec moment q status refused (inl none) = inl (record { refused = none.refused; unwritten = none.unwritten; rose = none.rose })
+query_told old new err faults spec moment q status refused (inr read) =
+    inr (record { template = read.template; is_template = read.is_template; answers = given_told old new err faults read.template spec moment q status refused read.answers })
 
 unasked_told : (old new : World) (err : Option (List ℕ)) (faults : ℕ) (words : List (List ℕ)) (status : Status) → IsUnasked old new words status → IsUnasked old (with_err new err faults) words status
 unasked_told old new err faults words Done s = s
@@ -451,7 +437,6 @@ unasked_told old new err faults words Memory s = s
 unasked_told old new err faults words (Clock at) s = s
 unasked_told old new err faults words (Usage fault) s = s
 unasked_told old new err faults words (Query fault) s = s
-unasked_told old new err faults words NotBuilt s = s
 unasked_told old new err faults words (NoSuchLog name) s = s
 unasked_told old new err faults words (BadName fault) s = s
 unasked_told old new err faults words (NameClash name) s = s
@@ -484,7 +469,6 @@ refused_is Memory P refused p = p
 refused_is (Clock at) P refused p = p
 refused_is (Usage fault) P refused p = p
 refused_is (Query fault) P refused p = p
-refused_is NotBuilt P refused p = p
 refused_is (NoSuchLog name) P refused p = p
 refused_is (BadName fault) P refused p = p
 refused_is (NameClash name) P refused p = p

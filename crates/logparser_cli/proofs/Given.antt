@@ -6,7 +6,7 @@ use Rattle.lp_model.specs.Outside.{Folder, OnlyGrow, bytes_in}
 use Rattle.command_words.specs.declared.spec.Spec.{Spec}
 use Rattle.command_words.specs.Words.{query_in}
 use Rattle.checkpoint.specs.Wholes.{whole_spans}
-use Rattle.execution.specs.Built.{reads_stdin}
+use Rattle.checkpointed_command.specs.Built.{reads_stdin}
 use Rattle.query_text.specs.Stdin.{names_in}
 use Rattle.log_listing.specs.Lengths.{IsLength}
 use Rattle.log_listing.specs.Lengths.{names_in as listed_names}
@@ -20,7 +20,7 @@ use Rattle.requests.proofs.Growing.{asks_grown}
 use Rattle.checkpointed_command.specs.Given.{template_files}
 use Rattle.logparser_cli.specs.Given.{ReadsLogs, ReadsQuery, ReadsWords}
 use Rattle.logparser_cli.specs.Logs.{AreSpans}
-use Rattle.subqueries.specs.Giving.{subqueries_of}
+use Rattle.checkpointed_command.specs.Giving.{subqueries_of}
 use Rattle.logparser_cli.proofs.Prepared.{none_read as none_of}
 use Rattle.logparser_cli.proofs.Wholes.{are_listed, logs_later}
 

@@ -5,6 +5,10 @@ pub mod Answering
 mod Mapping
 mod Filed
 mod Written
+mod Building
+mod Worded
 mod Keeping
 mod Templating
 pub mod Streamed
+pub use Rattle.checkpointed_command.proofs.Answering as CheckpointedCommandAnswering
+pub use Rattle.checkpointed_command.proofs.Options

@@ -11,14 +11,14 @@ use Rattle.query_run.specs.declared.executing.Counts.{Counts}
 use Rattle.query_types.specs.declared.fault.TypeFault.{TypeFault}
 use Rattle.query_types.specs.declared.table.TableColumns.{TableColumns}
 use Rattle.row_output.specs.Asked.{Asked}
-use Rattle.execution.specs.declared.formats.LogFormat.{LogFormat}
-use Rattle.execution.specs.declared.formats.LogFormat.TheVariants as F
-use Rattle.execution.specs.declared.fault.RunFault.{RunFault}
-use Rattle.execution.specs.declared.fault.RunFault.TheVariants as X
-use Rattle.execution.specs.Faults.{IfPlan}
-use Rattle.execution.specs.Formats.{lines_in}
-use Rattle.execution.specs.Plans.{PlannedQuery}
-use Rattle.execution.specs.Executed.{HoldsFront, IsExecuted, IsStopped, IsUntouched, OnTable, Writes, WritesAll, rows_in}
+use Rattle.checkpointed_command.specs.LogFormat.{LogFormat}
+use Rattle.checkpointed_command.specs.LogFormat.TheVariants as F
+use Rattle.checkpointed_command.specs.RunFault.{RunFault}
+use Rattle.checkpointed_command.specs.RunFault.TheVariants as X
+use Rattle.checkpointed_command.specs.Faults.{IfPlan}
+use Rattle.checkpointed_command.specs.Formats.{lines_in}
+use Rattle.checkpointed_command.specs.Plans.{PlannedQuery}
+use Rattle.checkpointed_command.specs.Executed.{HoldsFront, IsExecuted, IsStopped, IsUntouched, OnTable, Writes, WritesAll, rows_in}
 
 told_map : (told : Option Folder) (P Q : Folder → Type 0) → ((folder : Folder) → P folder → Q folder) → Told told P → Told told Q
 told_map None P Q so p = tt

@@ -1,33 +1,34 @@
 -- What stands of the subqueries of a query, once it is run with what they gave.
-use Rattle.std.proofs.Common.{◌≡◌, ◌∙◌, ◌⊎◌, ◌++◌, ◌∷◌, [], ℕ, ℤ, ◌≤◌, Bool, true, List, map, Option, refl, inl, inr, ap, sym, subst, append_assoc, append-nil}
+use Rattle.std.proofs.Common.{◌≡◌, ◌∙◌, ◌⊎◌, ◌++◌, ◌∷◌, [], ℕ, ℤ, List, map, Option, Some, None, refl, inl, inr, ap, sym, subst, append_assoc, append-nil}
 use Rattle.grammar.specs.Filled.{PlacedGiven, filled}
 use Rattle.grammar.specs.Trees as model
 use Rattle.grammar.specs.Trees.{Query as query}
 use Rattle.lp_model.specs.Outside.{Folder, OnlyGrow}
-use Rattle.lp_model.proofs.Growing.{OnlyGrow-trans}
+use Rattle.lp_model.proofs.Growing.{OnlyGrow-refl, OnlyGrow-trans}
 use Rattle.command_words.specs.declared.spec.Spec.{Spec}
-use Rattle.execution.specs.Built.{all_built}
-use Rattle.execution.specs.Formats.{log_format}
-use Rattle.execution.specs.Texts.{output_of}
-use Rattle.execution.specs.declared.formats.LogFormat.{LogFormat}
+use Rattle.checkpointed_command.specs.Built.{all_built}
+use Rattle.checkpointed_command.specs.Texts.{output_of}
+use Rattle.log_listing.specs.Lengths.{names_in as listed_names}
 use Rattle.log_listing.specs.Listed.{Lists}
 use Rattle.log_listing.proofs.Grown.{lists_grown}
 use Rattle.query_text.specs.Stdin.{names_in}
 use Rattle.requests.specs.Given.{ReadsOnce}
 use Rattle.requests.proofs.Given.{reads_on}
-use Rattle.subqueries.specs.declared.fault.SubqueryFault.{SubqueryFault}
-use Rattle.subqueries.specs.declared.fault.SubqueryFault.TheVariants as F
-use Rattle.subqueries.specs.Giving.{AllGive, Gives, subqueries_of}
-use Rattle.subqueries.specs.Reading.{AllRead, ReadsAll, ReadsBoth}
-use Rattle.subqueries.specs.Reading.{AreRead as AreOwn}
-use Rattle.subqueries.specs.Refusing.{IsExceeded, IsRefusedWith, IsUngivenIn, IsUnplanned, StopsBehind, StopsBy}
-use Rattle.subqueries.proofs.Wholes.{listed_earlier}
+use Rattle.checkpointed_command.specs.SubqueryFault.{SubqueryFault}
+use Rattle.checkpointed_command.specs.SubqueryFault.TheVariants as F
+use Rattle.checkpointed_command.specs.Giving.{subqueries_of}
+use Rattle.checkpointed_command.specs.SubqueriesReading.{AllRead, ReadsAll}
+use Rattle.checkpointed_command.specs.SubqueriesReading.{AreRead as AreOwn}
+use Rattle.checkpointed_command.specs.Listing.{first_own}
+use Rattle.checkpointed_command.specs.Refusing.{StopsBy}
+use Rattle.checkpointed_command.proofs.Clashing.{none_own}
+use Rattle.checkpointed_command.proofs.SubqueriesSteps.{given_between, stops_earlier}
 use Rattle.checkpointed_command.specs.Given.{template_files}
 use Rattle.logparser_cli.specs.Given.{ReadsLogs, ReadsQuery}
 use Rattle.logparser_cli.specs.Logs.{from_names}
 use Rattle.reports.specs.declared.status.Status.{Status}
 use Rattle.reports.specs.declared.status.Status.TheVariants.{LogsFault}
-use Rattle.logparser_cli.specs.Subqueries.{IsFilled, IsRefusedAs, ungiven}
+use Rattle.logparser_cli.specs.Subqueries.{IsFilled, IsPlainFault, IsRefusedAs, ungiven}
 
 -- what a query has besides its conditions stays
 
@@ -52,85 +53,11 @@ module _ {spec : Spec} {moment : ℤ} {before now : Option Folder} {q whole : mo
 
 -- what subqueries gave stands while logs grow
 
-module _ (format : LogFormat) (spec : Spec) (moment : ℤ) where
-  gives_later : (before mid now : Option Folder) (q : model.Query) (given : model.Given) → OnlyGrow mid now → Gives format spec moment before mid q given → Gives format spec moment before now q given
-  gives_later before mid now q given grow g = record {
-    seen = g.seen;
-    later = OnlyGrow-trans g.seen mid now g.later grow;
-    logs = g.logs;
-    are_listed = g.are_listed;
-    names = g.names;
-    place = g.place;
-    over = g.over;
-  }
-
-  gives_earlier : (before mid now : Option Folder) (q : model.Query) (given : model.Given) → OnlyGrow before mid → Gives format spec moment mid now q given → Gives format spec moment before now q given
-  gives_earlier before mid now q given grow g = record {
-    seen = g.seen;
-    later = g.later;
-    logs = g.logs;
-    are_listed = listed_earlier before mid g.seen q g.logs grow g.are_listed;
-    names = g.names;
-    place = g.place;
-    over = g.over;
-  }
-
-  pub all_later : (before mid now : Option Folder) (qs : List model.Query) (places : List ℕ) (givens : List PlacedGiven) → OnlyGrow mid now → AllGive format spec moment before mid qs places givens → AllGive format spec moment before now qs places givens
-  all_later before mid now [] [] [] grow give = tt
-  all_later before mid now [] [] (given ∷ givens) grow give = give
-  all_later before mid now [] (place ∷ places) givens grow give = give
-  all_later before mid now (q ∷ qs) [] givens grow give = give
-  all_later before mid now (q ∷ qs) (place ∷ places) [] grow give = give
-  all_later before mid now (q ∷ qs) (place ∷ places) (given ∷ givens) grow give =
-      (give.0, gives_later before mid now q given.given grow give.1, all_later before mid now qs places givens grow give.2)
-
-  pub all_earlier : (before mid now : Option Folder) (qs : List model.Query) (places : List ℕ) (givens : List PlacedGiven) → OnlyGrow before mid → AllGive format spec moment mid now qs places givens → AllGive format spec moment before now qs places givens
-  all_earlier before mid now [] [] [] grow give = tt
-  all_earlier before mid now [] [] (given ∷ givens) grow give = give
-  all_earlier before mid now [] (place ∷ places) givens grow give = give
-  all_earlier before mid now (q ∷ qs) [] givens grow give = give
-  all_earlier before mid now (q ∷ qs) (place ∷ places) [] grow give = give
-  all_earlier before mid now (q ∷ qs) (place ∷ places) (given ∷ givens) grow give =
-      (give.0, gives_earlier before mid now q given.given grow give.1, all_earlier before mid now qs places givens grow give.2)
-
-  why_earlier : (before mid now : Option Folder) (q : model.Query) (most : Option ℕ) (bad : ℕ) (fault : SubqueryFault) → OnlyGrow before mid → IsRefusedWith format spec moment mid now q most bad fault → IsRefusedWith format spec moment before now q most bad fault
-  why_earlier before mid now q most bad (F.BadName fault) grow why = why
-  why_earlier before mid now q most bad (F.NoSuchLog name) grow why = why
-  why_earlier before mid now q most bad F.TooManyLogs grow why = why
-  why_earlier before mid now q most bad (F.Plan fault) grow why = record { logs = why.logs; are_listed = listed_earlier before mid now q why.logs grow why.are_listed; unplanned = why.unplanned }
-  why_earlier before mid now q most bad (F.Bad log row) grow why = record { logs = why.logs; are_listed = listed_earlier before mid now q why.logs grow why.are_listed; exceeds = why.exceeds }
-  why_earlier before mid now q most bad F.Logs grow why = tt
-  why_earlier before mid now q most bad F.Memory grow why = tt
-
-  ungiven_earlier : (before mid now : Option Folder) (qs : List model.Query) (bad : ℕ) (fault : SubqueryFault) → OnlyGrow before mid → IsUngivenIn format spec moment mid now qs bad fault → IsUngivenIn format spec moment before now qs bad fault
-  ungiven_earlier before mid now qs bad fault grow u = record {
-    front = u.front;
-    refused = u.refused;
-    rest = u.rest;
-    parts = u.parts;
-    places = u.places;
-    givens = u.givens;
-    give = all_earlier before mid now u.front u.places u.givens grow u.give;
-    why = why_earlier before mid now u.refused spec.errors _ fault grow u.why;
-  }
-
-  behind_earlier : (before mid now : Option Folder) (qs : List model.Query) (bad : ℕ) (fault : SubqueryFault) → OnlyGrow before mid → StopsBehind format spec moment mid now qs bad fault → StopsBehind format spec moment before now qs bad fault
-  behind_earlier before mid now qs bad (F.BadName fault) grow u = ungiven_earlier before mid now qs bad (F.BadName fault) grow u
-  behind_earlier before mid now qs bad (F.NoSuchLog name) grow u = ungiven_earlier before mid now qs bad (F.NoSuchLog name) grow u
-  behind_earlier before mid now qs bad F.TooManyLogs grow u = ungiven_earlier before mid now qs bad F.TooManyLogs grow u
-  behind_earlier before mid now qs bad (F.Plan fault) grow u = ungiven_earlier before mid now qs bad (F.Plan fault) grow u
-  behind_earlier before mid now qs bad (F.Bad log row) grow u = ungiven_earlier before mid now qs bad (F.Bad log row) grow u
-  behind_earlier before mid now qs bad F.Logs grow u = tt
-  behind_earlier before mid now qs bad F.Memory grow u = tt
-
-pub stops_earlier : (spec : Spec) (moment : ℤ) (before mid now : Option Folder) (q : model.Query) (fault : SubqueryFault) → OnlyGrow before mid → StopsBy spec moment mid now q fault → StopsBy spec moment before now q fault
-stops_earlier spec moment before mid now q fault grow stops = behind_earlier (log_format spec q) spec moment before mid now (subqueries_of q) 0 fault grow stops
-
 pub filled_earlier : (spec : Spec) (moment : ℤ) (before mid now : Option Folder) (q whole : model.Query) → OnlyGrow before mid → IsFilled spec moment mid now q whole → IsFilled spec moment before now q whole
-filled_earlier spec moment before mid now q whole grow f = record { givens = f.givens; give = all_earlier (log_format spec q) spec moment before mid now (subqueries_of q) _ f.givens grow f.give; whole_is = f.whole_is }
+filled_earlier spec moment before mid now q whole grow f = record { givens = f.givens; lists = f.lists; give = given_between spec moment before mid now now q f.givens f.lists grow (OnlyGrow-refl now) f.give; whole_is = f.whole_is }
 
 pub filled_later : (spec : Spec) (moment : ℤ) (before mid now : Option Folder) (q whole : model.Query) → OnlyGrow mid now → IsFilled spec moment before mid q whole → IsFilled spec moment before now q whole
-filled_later spec moment before mid now q whole grow f = record { givens = f.givens; give = all_later (log_format spec q) spec moment before mid now (subqueries_of q) _ f.givens grow f.give; whole_is = f.whole_is }
+filled_later spec moment before mid now q whole grow f = record { givens = f.givens; lists = f.lists; give = given_between spec moment before before mid now q f.givens f.lists (OnlyGrow-refl before) grow f.give; whole_is = f.whole_is }
 
 -- how much is read
 
@@ -189,7 +116,24 @@ pub given_failed : (fault : SubqueryFault) → ungiven fault ≡ LogsFault → f
 given_failed (F.BadName fault) e = absurd (cc)
 given_failed (F.NoSuchLog name) e = absurd (cc)
 given_failed F.TooManyLogs e = absurd (cc)
+given_failed (F.Clash name) e = absurd (cc)
 given_failed (F.Plan fault) e = absurd (cc)
 given_failed (F.Bad log row) e = absurd (cc)
 given_failed F.Logs e = refl
 given_failed F.Memory e = absurd (cc)
+
+no_clash : (names : List (List ℕ)) (checkpoint : Option (List ℕ)) (name : List ℕ) → checkpoint ≡ None → first_own checkpoint names ≡ Some name → ⊥
+no_clash names checkpoint name plain first =
+    let some : None ≡ Some name = none_own names ∙ (ap (λ (o : Option (List ℕ)). first_own o names) (sym plain) ∙ first) in
+    cc
+
+-- a run without a checkpoint keeps no file for itself
+pub plain_stops : (spec : Spec) (moment : ℤ) (before now : Option Folder) (q : model.Query) (fault : SubqueryFault) → spec.checkpoint ≡ None → StopsBy spec moment before now q fault → IsPlainFault fault
+plain_stops spec moment before now q (F.BadName fault) plain stops = tt
+plain_stops spec moment before now q (F.NoSuchLog name) plain stops = tt
+plain_stops spec moment before now q F.TooManyLogs plain stops = tt
+plain_stops spec moment before now q (F.Clash name) plain stops = no_clash (listed_names stops.why.logs) spec.checkpoint name plain stops.why.first
+plain_stops spec moment before now q (F.Plan fault) plain stops = tt
+plain_stops spec moment before now q (F.Bad log row) plain stops = tt
+plain_stops spec moment before now q F.Logs plain stops = tt
+plain_stops spec moment before now q F.Memory plain stops = tt

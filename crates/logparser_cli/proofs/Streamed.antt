@@ -1,7 +1,7 @@
 -- What a run over standard input knows of it, from what the log that it is lets stand.
-use Rattle.std.proofs.Common.{◌≡◌, ℕ, ◌+◌, ◌^◌, ◌≤◌, Bool, true, false, List, [], ◌++◌, length, Option, Some, None, ap, sym, ◌∙◌, refl, subst, arith}
+use Rattle.std.proofs.Common.{◌≡◌, ℕ, ◌+◌, ◌^◌, Bool, true, false, List, [], ◌++◌, length, Option, Some, None, ap, sym, ◌∙◌, refl, subst, arith}
 use Rattle.std.specs.Prelude.{option_map}
-use Rattle.lp_model.specs.Outside.{Folder, Rose}
+use Rattle.lp_model.specs.Outside.{Rose}
 use Rattle.query_text.specs.Stdin.{names_in}
 use Rattle.query_tree.specs.Views.{placed_all, query_of}
 use Rattle.query_tree.specs.declared.query.Query.{Query, Query', out-Query}

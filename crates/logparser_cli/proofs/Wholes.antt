@@ -16,16 +16,16 @@ use Rattle.log_reading.specs.declared.span.Span.{Span}
 use Rattle.log_reading.specs.Spans.{AllSpans, IsSpan, AreKept}
 use Rattle.checkpoint.specs.Wholes.{whole_spans}
 use Rattle.checkpoint.proofs.Spanning.{are_spans, are_kept, told_there}
-use Rattle.execution.specs.Executed.{OnTable, told_table}
-use Rattle.execution.specs.Formats.{lines_in}
-use Rattle.execution.specs.declared.formats.LogFormat.{LogFormat}
-use Rattle.execution.specs.declared.formats.LogFormat.TheVariants as F
-use Rattle.execution.proofs.FormatLemmas.{lines_start}
+use Rattle.checkpointed_command.specs.Executed.{OnTable, told_table}
+use Rattle.checkpointed_command.specs.Formats.{lines_in}
+use Rattle.checkpointed_command.specs.LogFormat.{LogFormat}
+use Rattle.checkpointed_command.specs.LogFormat.TheVariants as F
+use Rattle.checkpointed_command.proofs.FormatLemmas.{lines_start}
 use Rattle.input_tables.specs.Tables.{table_of}
 use Rattle.lp_time.specs.declared.piece.Piece.{Piece}
 use Rattle.query_types.specs.declared.table.TableColumns.{TableColumns}
 use Rattle.reports.specs.declared.status.Status.TheVariants.{LogsFault}
-use Rattle.execution.specs.Built.{reads_stdin}
+use Rattle.checkpointed_command.specs.Built.{reads_stdin}
 use Rattle.query_text.specs.Stdin.{names_in}
 use Rattle.standard_input.specs.Streams.{input_logs}
 use Rattle.logparser_cli.specs.Logs.{AreListed, AreLogs, AreLogsOf, AreSpans, IsUnlisted, from_names, unlisted}

@@ -15,9 +15,9 @@ use Rattle.row_output.specs.Rows.{Holds, HoldsAt, Stops, StopsAt}
 use Rattle.text_output.specs.Output.{kind_of}
 use Rattle.text_output.specs.declared.target.Output.{Output}
 use Rattle.tpl_output.specs.Sections.{Sections}
-use Rattle.execution.specs.Outputs.{asked_in, files_named, forbidden_by, is_standard, is_stdout, log_names}
-use Rattle.execution.specs.Plans.{PlannedQuery}
-use Rattle.execution.specs.Texts.{into_in}
+use Rattle.checkpointed_command.specs.Outputs.{asked_in, files_named, forbidden_by, is_standard, is_stdout, log_names}
+use Rattle.checkpointed_command.specs.Plans.{PlannedQuery}
+use Rattle.checkpointed_command.specs.Texts.{into_in}
 use Rattle.logparser_cli.specs.Outputs.{AreCut, AreOut, HasFront, HasWritten, IsUnwritten, held}
 use Rattle.logparser_cli.proofs.Filed.{are_left, are_written, file_kind, names_split, seen_by}
 

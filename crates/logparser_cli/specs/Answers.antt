@@ -3,16 +3,16 @@ use Rattle.std.specs.Prelude.{◌≡◌, ◌⊎◌, ◌+◌, ◌^◌, ℕ, ℤ, 
 use Rattle.grammar.specs.Trees as model
 use Rattle.lp_model.specs.Outside.{Rose}
 use Rattle.command_words.specs.declared.spec.Spec.{Spec}
-use Rattle.execution.specs.Built.{all_built, reads_stdin}
-use Rattle.execution.specs.Executed.{IsMoment}
-use Rattle.execution.specs.Outputs.{is_standard}
-use Rattle.execution.specs.Texts.{into_in}
+use Rattle.checkpointed_command.specs.Built.{reads_stdin}
+use Rattle.checkpointed_command.specs.Executed.{IsMoment}
+use Rattle.checkpointed_command.specs.Outputs.{is_standard}
+use Rattle.checkpointed_command.specs.Texts.{into_in}
 use Rattle.log_reading.specs.Spans.{bad_line}
 use Rattle.query_text.specs.Stdin.{names_in}
 use Rattle.query_text.specs.declared.fault.QueryFault.{QueryFault}
 use Rattle.query_text.specs.declared.fault.QueryFault.TheVariants as Q
 use Rattle.reports.specs.declared.status.Status.{Status}
-use Rattle.reports.specs.declared.status.Status.TheVariants.{Done, Memory, Clock, Usage, Query, NotBuilt, NoSuchLog, BadName, NameClash, TooManyOutputs, TooManyLogs, Template, InputTooLong, LogsFault, SourceFault, DiskFault, SinkFault, ParseErrors, LostLog, Shrunk, InputChanged, IntoNeeded, LedgerFault}
+use Rattle.reports.specs.declared.status.Status.TheVariants.{Done, Memory, Clock, Usage, Query, NoSuchLog, BadName, NameClash, TooManyOutputs, TooManyLogs, Template, InputTooLong, LogsFault, SourceFault, DiskFault, SinkFault, ParseErrors, LostLog, Shrunk, InputChanged, IntoNeeded, LedgerFault}
 use Rattle.requests.specs.Requests.{Asks, IsRefused}
 use Rattle.requests.specs.declared.fault.RequestFault.TheVariants as R
 use Rattle.row_output.specs.declared.fault.Refused.TheVariants as W
@@ -47,7 +47,6 @@ AnswersRun old new template spec moment q Memory = IsStopped old new template sp
 AnswersRun old new template spec moment q (Clock at) = ⊥
 AnswersRun old new template spec moment q (Usage fault) = ⊥
 AnswersRun old new template spec moment q (Query fault) = IsUnplannable old new spec moment q fault
-AnswersRun old new template spec moment q NotBuilt = ⊥
 AnswersRun old new template spec moment q (NoSuchLog name) = IsWithoutLogs old new q (NoSuchLog name)
 AnswersRun old new template spec moment q (BadName fault) = IsWithoutLogs old new q (BadName fault) ⊎ IsUnplaced old.folder new.folder old.held new.held template spec moment q (W.BadName fault)
 AnswersRun old new template spec moment q (NameClash name) = IsUnplaced old.folder new.folder old.held new.held template spec moment q (W.NameClash name)
@@ -107,13 +106,9 @@ pub record IsRead (old new : World) (spec : Spec) (moment : ℤ) (q : model.Quer
   pub is_template : IsTemplate old.folder new.folder spec q template
   pub answers : AnswersOver old new template spec moment q status
 
--- what an answer says of a query that is built
-abbrev pub AnswersBuilt : World → World → Spec → ℤ → model.Query → Status → Type 0
-AnswersBuilt old new spec moment q status = IsUnread old new spec q status ⊎ IsRead old new spec moment q status
-
--- what an answer says of a query: that it isn't built, or what became of it
+-- what an answer says of a query: that its template isn't read, or what became of it
 abbrev pub AnswersQuery : World → World → Spec → ℤ → model.Query → Status → Type 0
-AnswersQuery old new spec moment q status = (all_built spec q ≡ false) × (status ≡ NotBuilt) × IsUnwritten old.held new.held ⊎ (all_built spec q ≡ true) × AnswersBuilt old new spec moment q status
+AnswersQuery old new spec moment q status = IsUnread old new spec q status ⊎ IsRead old new spec moment q status
 
 -- the words ask for these options and this query, of which the answer tells
 pub record Asked (moment : ℤ) (old new : World) (words : List (List ℕ)) (status : Status) : Type 0 where
@@ -129,7 +124,6 @@ IsUnasked old new words Memory = IsUnwritten old.held new.held
 IsUnasked old new words (Clock at) = ⊥
 IsUnasked old new words (Usage fault) = IsRefused old.folder new.folder words (R.Usage fault) × IsUnwritten old.held new.held
 IsUnasked old new words (Query fault) = IsRefused old.folder new.folder words (R.Query fault) × IsUnwritten old.held new.held
-IsUnasked old new words NotBuilt = ⊥
 IsUnasked old new words (NoSuchLog name) = IsRefused old.folder new.folder words (R.NoSuchLog name) × IsUnwritten old.held new.held
 IsUnasked old new words (BadName fault) = IsRefused old.folder new.folder words (R.BadName fault) × IsUnwritten old.held new.held
 IsUnasked old new words (NameClash name) = ⊥

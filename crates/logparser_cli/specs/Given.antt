@@ -4,9 +4,9 @@ use Rattle.grammar.specs.Trees as model
 use Rattle.lp_model.specs.Outside.{Folder}
 use Rattle.command_words.specs.declared.spec.Spec.{Spec}
 use Rattle.command_words.specs.Words.{query_in}
-use Rattle.subqueries.specs.Giving.{subqueries_of}
-use Rattle.subqueries.specs.Reading.{AllRead}
-use Rattle.subqueries.specs.Reading.{AreRead as AreOwn}
+use Rattle.checkpointed_command.specs.Giving.{subqueries_of}
+use Rattle.checkpointed_command.specs.SubqueriesReading.{AllRead}
+use Rattle.checkpointed_command.specs.SubqueriesReading.{AreRead as AreOwn}
 use Rattle.requests.specs.Given.{ReadsOnce, query_files}
 use Rattle.requests.specs.Requests.{Asks}
 use Rattle.checkpointed_command.specs.Given.{template_files}

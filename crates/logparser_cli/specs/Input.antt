@@ -3,9 +3,9 @@ use Rattle.std.specs.Prelude.{◌≡◌, ◌+◌, ℕ, Bool, true, false, List, 
 use Rattle.grammar.specs.Trees as model
 use Rattle.lp_model.specs.Outside.{Folder}
 use Rattle.command_words.specs.declared.spec.Spec.{Spec}
-use Rattle.execution.specs.Built.{reads_stdin}
-use Rattle.execution.specs.declared.fault.RunFault.{RunFault}
-use Rattle.execution.specs.declared.fault.RunFault.TheVariants as X
+use Rattle.checkpointed_command.specs.Built.{reads_stdin}
+use Rattle.checkpointed_command.specs.RunFault.{RunFault}
+use Rattle.checkpointed_command.specs.RunFault.TheVariants as X
 use Rattle.checkpointed_command.specs.Statuses.{stopped}
 use Rattle.logparser_cli.specs.Outputs.{Input}
 use Rattle.query_text.specs.Stdin.{names_in}

@@ -7,7 +7,7 @@ use Rattle.command_words.specs.Table.{IsAsked, checkpoint_of}
 use Rattle.command_words.specs.Usage.{AreFine}
 use Rattle.command_words.specs.Words.{query_in}
 use Rattle.command_words.specs.declared.spec.Spec.{Spec}
-use Rattle.execution.specs.Executed.{IsMoment}
+use Rattle.checkpointed_command.specs.Executed.{IsMoment}
 use Rattle.query_run.specs.declared.executing.Counts.{Counts}
 use Rattle.reports.specs.declared.status.Status.{Status}
 use Rattle.reports.specs.declared.status.Status.TheVariants as S

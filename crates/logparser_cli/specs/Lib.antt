@@ -8,3 +8,14 @@ pub mod Answers
 pub mod Input
 pub mod Given
 pub mod Kept
+pub use Rattle.checkpointed_command.specs.Asked as CheckpointedCommandAsked
+pub use Rattle.checkpointed_command.specs.Refusals
+pub use Rattle.checkpointed_command.specs.Statuses
+pub use Rattle.checkpointed_command.specs.Steps
+pub use Rattle.checkpointed_command.specs.LedgerStop
+pub use Rattle.checkpointed_command.specs.RunStop
+pub use Rattle.checkpointed_command.specs.Built
+pub use Rattle.checkpointed_command.specs.Executed
+pub use Rattle.checkpointed_command.specs.RunFault
+pub use Rattle.checkpointed_command.specs.Meaning
+pub use Rattle.checkpointed_command.specs.SubqueryFault

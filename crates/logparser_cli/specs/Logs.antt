@@ -1,21 +1,19 @@
 -- The logs that a query reads.
-use Rattle.std.specs.Prelude.{◌≡◌, ◌≤◌, ℕ, Bool, true, false, List, length, map, Option, All, ⊤}
-pub use Rattle.subqueries.specs.Listing.{AreListed, from_names}
+use Rattle.std.specs.Prelude.{◌≡◌, Bool, true, false, List, Option, ⊤}
+pub use Rattle.checkpointed_command.specs.Listing.{AreListed, from_names}
 use Rattle.grammar.specs.Trees as model
 use Rattle.lp_model.specs.Outside.{Folder}
 use Rattle.checkpoint.specs.Wholes.{whole_spans}
-use Rattle.execution.specs.Built.{reads_stdin}
+use Rattle.checkpointed_command.specs.Built.{reads_stdin}
 use Rattle.log_listing.specs.declared.lengths.NameLength.{NameLength}
 use Rattle.log_listing.specs.declared.fault.ListFault.{ListFault}
 use Rattle.log_listing.specs.declared.fault.ListFault.TheVariants as L
-use Rattle.log_listing.specs.Lengths.{IsLength}
-use Rattle.log_listing.specs.Lengths.{names_in as listed_names}
-use Rattle.log_listing.specs.Listed.{Lists, IsRefused}
+use Rattle.log_listing.specs.Listed.{IsRefused}
 use Rattle.log_reading.specs.declared.span.Span.{Span}
 use Rattle.query_text.specs.Stdin.{names_in}
 use Rattle.standard_input.specs.Streams.{input_logs}
 use Rattle.reports.specs.declared.status.Status.{Status}
-use Rattle.reports.specs.declared.status.Status.TheVariants.{Done, Memory, Clock, Usage, Query, NotBuilt, NoSuchLog, BadName, NameClash, TooManyOutputs, TooManyLogs, Template, InputTooLong, LogsFault, SourceFault, DiskFault, SinkFault, ParseErrors, LostLog, Shrunk, InputChanged, IntoNeeded, LedgerFault}
+use Rattle.reports.specs.declared.status.Status.TheVariants.{Done, Memory, Clock, Usage, Query, NoSuchLog, BadName, NameClash, TooManyOutputs, TooManyLogs, Template, InputTooLong, LogsFault, SourceFault, DiskFault, SinkFault, ParseErrors, LostLog, Shrunk, InputChanged, IntoNeeded, LedgerFault}
 
 -- these are what a query reads: the logs of its FROM names, or standard input alone
 abbrev pub AreLogsOf : Bool → Option Folder → Option Folder → model.Query → List NameLength → Type 0
@@ -38,7 +36,6 @@ IsUnlisted now q Memory = ⊤
 IsUnlisted now q (Clock at) = ⊥
 IsUnlisted now q (Usage fault) = ⊥
 IsUnlisted now q (Query fault) = ⊥
-IsUnlisted now q NotBuilt = ⊥
 IsUnlisted now q (NoSuchLog name) = IsRefused now (from_names q) (L.NoSuchLog name)
 IsUnlisted now q (BadName fault) = IsRefused now (from_names q) (L.BadName fault)
 IsUnlisted now q (NameClash name) = ⊥

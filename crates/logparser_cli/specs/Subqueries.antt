@@ -1,33 +1,36 @@
 -- What an answer says of the subqueries of a query, which are run behind the listing of its logs.
-use Rattle.std.specs.Prelude.{◌≡◌, ℤ, List, Option}
+use Rattle.std.specs.Prelude.{◌≡◌, ℤ, List, Option, ⊤}
+use Rattle.lp_values.specs.declared.value.Value.{Value}
 use Rattle.grammar.specs.Filled.{PlacedGiven, filled}
 use Rattle.grammar.specs.Trees as model
 use Rattle.lp_model.specs.Outside.{Folder, Rose}
+pub use Rattle.checkpointed_command.specs.Statuses.{ungiven}
 use Rattle.command_words.specs.declared.spec.Spec.{Spec}
-use Rattle.query_text.specs.declared.fault.QueryFault.TheVariants as Q
 use Rattle.reports.specs.declared.status.Status.{Status}
 use Rattle.reports.specs.declared.status.Status.TheVariants as S
-use Rattle.subqueries.specs.declared.fault.SubqueryFault.{SubqueryFault}
-use Rattle.subqueries.specs.declared.fault.SubqueryFault.TheVariants as F
-use Rattle.subqueries.specs.Giving.{AreGiven}
-use Rattle.subqueries.specs.Refusing.{StopsBy}
+use Rattle.checkpointed_command.specs.SubqueryFault.{SubqueryFault}
+use Rattle.checkpointed_command.specs.SubqueryFault.TheVariants as F
+use Rattle.checkpointed_command.specs.Giving.{GiveThese}
+use Rattle.checkpointed_command.specs.Refusing.{StopsBy}
 use Rattle.logparser_cli.specs.Logs.{IsUnlisted}
 use Rattle.logparser_cli.specs.Outputs.{World, IsUnwritten}
 
--- what the refusal of a subquery is
-abbrev pub ungiven : SubqueryFault → Status
-ungiven (F.BadName fault) = S.BadName fault
-ungiven (F.NoSuchLog name) = S.NoSuchLog name
-ungiven F.TooManyLogs = S.TooManyLogs
-ungiven (F.Plan fault) = S.Query (Q.Plan fault)
-ungiven (F.Bad log row) = S.ParseErrors log row
-ungiven F.Logs = S.LogsFault
-ungiven F.Memory = S.Memory
+-- without a checkpoint no log is one that the run keeps for itself
+abbrev pub IsPlainFault : SubqueryFault → Type 0
+IsPlainFault (F.BadName fault) = ⊤
+IsPlainFault (F.NoSuchLog name) = ⊤
+IsPlainFault F.TooManyLogs = ⊤
+IsPlainFault (F.Clash name) = ⊥
+IsPlainFault (F.Plan fault) = ⊤
+IsPlainFault (F.Bad log row) = ⊤
+IsPlainFault F.Logs = ⊤
+IsPlainFault F.Memory = ⊤
 
 -- a query is another one with what its subqueries gave
 pub record IsFilled (spec : Spec) (moment : ℤ) (before now : Option Folder) (q whole : model.Query) : Type 0 where
   pub givens : List PlacedGiven
-  pub give : AreGiven spec moment before now q givens
+  pub lists : List (List Value)
+  pub give : GiveThese spec moment before now q givens lists
   pub whole_is : whole ≡ filled givens q
 
 -- a subquery of a query is refused, and this is the answer

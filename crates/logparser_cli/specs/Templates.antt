@@ -4,10 +4,10 @@ use Rattle.grammar.specs.Trees as model
 use Rattle.lp_model.specs.Outside.{Folder, Told}
 use Rattle.command_words.specs.declared.formats.OutputFormat.TheVariants as O
 use Rattle.command_words.specs.declared.spec.Spec.{Spec}
-use Rattle.execution.specs.Texts.{output_of}
+use Rattle.checkpointed_command.specs.Texts.{output_of}
 use Rattle.requests.specs.Templates.{HoldsTemplate, HoldsFault}
 use Rattle.reports.specs.declared.status.Status.{Status}
-use Rattle.reports.specs.declared.status.Status.TheVariants.{Done, Memory, Clock, Usage, Query, NotBuilt, NoSuchLog, BadName, NameClash, TooManyOutputs, TooManyLogs, Template, InputTooLong, LogsFault, SourceFault, DiskFault, SinkFault, ParseErrors, LostLog, Shrunk, InputChanged, IntoNeeded, LedgerFault}
+use Rattle.reports.specs.declared.status.Status.TheVariants.{Done, Memory, Clock, Usage, Query, NoSuchLog, BadName, NameClash, TooManyOutputs, TooManyLogs, Template, InputTooLong, LogsFault, SourceFault, DiskFault, SinkFault, ParseErrors, LostLog, Shrunk, InputChanged, IntoNeeded, LedgerFault}
 use Rattle.tpl_output.specs.Sections.{Sections}
 
 -- the file that `-tpl` names holds a template of these sections
@@ -27,7 +27,6 @@ IsUntemplated before now name Memory = ⊤
 IsUntemplated before now name (Clock at) = ⊥
 IsUntemplated before now name (Usage fault) = ⊥
 IsUntemplated before now name (Query fault) = ⊥
-IsUntemplated before now name NotBuilt = ⊥
 IsUntemplated before now name (NoSuchLog missing) = (missing ≡ name) × Told now (λ folder. folder name ≡ None)
 IsUntemplated before now name (BadName fault) = ⊥
 IsUntemplated before now name (NameClash clash) = ⊥

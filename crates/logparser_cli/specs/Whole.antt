@@ -1,6 +1,5 @@
 -- What a run writes.
 use Rattle.std.specs.Prelude.{◌≡◌, ◌⊎◌, ℕ, ℤ, Bool, true, false, List, [], Option, Ok, Err}
-pub use Rattle.subqueries.specs.Listing.{OnWhole}
 use Rattle.grammar.specs.Filled.{given_bad}
 use Rattle.grammar.specs.Trees as model
 use Rattle.lp_model.specs.Outside.{Folder, Told, Gains, GainsSome, Rose}
@@ -8,13 +7,11 @@ use Rattle.lp_model.specs.Report.{statistics}
 use Rattle.lp_time.specs.declared.piece.Piece.{Piece}
 use Rattle.command_words.specs.declared.spec.Spec.{Spec}
 use Rattle.checkpoint.specs.Wholes.{whole_spans}
-use Rattle.execution.specs.Executed.{IsTyped, Writes, rows_in, told_table}
-use Rattle.execution.specs.Formats.{lines_in, log_format}
-use Rattle.execution.specs.Outputs.{asked_in}
-use Rattle.execution.specs.Plans.{PlannedQuery, query_plan}
-use Rattle.execution.specs.declared.formats.LogFormat.{LogFormat}
-use Rattle.execution.specs.declared.formats.LogFormat.TheVariants as F
-use Rattle.input_tables.specs.Tables.{table_of}
+use Rattle.checkpointed_command.specs.Executed.{IsTyped, Writes, rows_in}
+use Rattle.checkpointed_command.specs.Formats.{lines_in, log_format}
+use Rattle.checkpointed_command.specs.Outputs.{asked_in}
+use Rattle.checkpointed_command.specs.Plans.{PlannedQuery, query_plan}
+use Rattle.checkpointed_command.specs.LogFormat.{LogFormat}
 use Rattle.log_listing.specs.declared.lengths.NameLength.{NameLength}
 use Rattle.log_reading.specs.Page.{IsTooMany, IsWithin}
 use Rattle.log_reading.specs.Spans.{BadLine, spans_bad_lines}
@@ -25,11 +22,16 @@ use Rattle.query_types.specs.declared.table.TableColumns.{TableColumns}
 use Rattle.row_output.specs.Asked.{Asked}
 use Rattle.row_output.specs.Rows.{IsRefused}
 use Rattle.row_output.specs.declared.fault.Refused.{Refused}
+use Rattle.checkpointed_command.specs.Listing.{OnWhole as OnLines}
 use Rattle.tpl_output.specs.Sections.{Sections}
 use Rattle.logparser_cli.specs.Logs.{AreLogs}
 use Rattle.logparser_cli.specs.Outputs.{Held, World, IsUnwritten, HasWritten, HasFront}
 
 -- Without a checkpoint a last line without LF is a line too: no line waits, which `false` says below.
+
+-- a fact on the table of a run over whole logs
+abbrev pub OnWhole : LogFormat → List Piece → Option Folder → List NameLength → (TableColumns → Type 0) → Type 0
+OnWhole format pattern told logs P = OnLines format false pattern told logs P
 
 -- an output gains a text, or the front of it where its faults rose
 abbrev pub Tells : Option (List ℕ) → Option (List ℕ) → List ℕ → Type 0 → Type 0

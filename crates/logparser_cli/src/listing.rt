@@ -3,7 +3,7 @@ ghost use Rattle.std.specs.Prelude.{◌≡◌, ◌≤◌, false, length, IfOk, I
 ghost use Rattle.lp_model.specs.Outside.{OnlyGrow, Rose, Told, bytes_in};
 ghost use Rattle.query_tree.specs.Views.{query_of};
 ghost use Rattle.query_text.specs.Stdin.{names_in};
-ghost use Rattle.execution.specs.Built.{reads_stdin};
+ghost use Rattle.checkpointed_command.specs.Built.{reads_stdin};
 ghost use Rattle.log_reading.specs.Spans.{AllSpans, IsSpan};
 ghost use Rattle.reports.specs.declared.status.Status.TheVariants as S;
 ghost use Rattle.logparser_cli.specs.Logs.{AreSpans, IsUnlisted, unlisted};

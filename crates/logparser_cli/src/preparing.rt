@@ -1,34 +1,35 @@
-// What is done for the subqueries of a query before it is run.
-ghost use Rattle.std.specs.Prelude.{◌≡◌, ◌⊎◌, ◌≤◌, false, OnOk, IfErr, IsErrOf};
+// What is done for the subqueries of a query before it is run, without a checkpoint.
+ghost use Rattle.std.specs.Prelude.{◌≡◌, ◌⊎◌, ◌≤◌, false, None, OnOk, IfErr, IsErrOf};
 ghost use Rattle.lp_model.specs.Outside.{OnlyGrow, Rose};
 ghost use Rattle.command_words.specs.Table.{IsInRange};
 ghost use Rattle.query_tree.specs.Views.{query_of};
 ghost use Rattle.query_text.specs.Stdin.{names_in};
-ghost use Rattle.execution.specs.Built.{reads_stdin};
+ghost use Rattle.checkpointed_command.specs.Built.{reads_stdin};
 ghost use Rattle.reports.specs.declared.status.Status.TheVariants as S;
-ghost use Rattle.subqueries.specs.Giving.{subqueries_of};
-ghost use Rattle.subqueries.specs.Reading.{ReadsAll};
+ghost use Rattle.checkpointed_command.specs.Giving.{subqueries_of};
+ghost use Rattle.checkpointed_command.specs.SubqueriesReading.{ReadsAll};
 ghost use Rattle.logparser_cli.specs.Logs.{IsUnlisted};
-ghost use Rattle.logparser_cli.specs.Subqueries.{IsFilled, IsRefusedAs, ungiven};
+ghost use Rattle.logparser_cli.specs.Subqueries.{IsFilled, IsPlainFault, IsRefusedAs, ungiven};
 
 use crate::listing::find_spans;
+use checkpointed_command::{SubqueryFault, reads_stdin, run_subqueries};
 use command_words::Spec;
-use execution::reads_stdin;
 use lp_outside::Logs;
 use query_text::QueryFault;
 use query_tree::Query;
 use reports::Status;
 use std::alloc::Global;
-use subqueries::{SubqueryFault, run_subqueries};
 
-// What the refusal of a subquery is.
+// What the refusal of a subquery is, in a run that keeps no file for itself.
 fn ungiven(fault: SubqueryFault) -> Status
+    requires plain { IsPlainFault fault }
     ensures { result ≡ ungiven fault }
 {
     match fault {
         SubqueryFault::BadName(fault) => Status::BadName(fault),
         SubqueryFault::NoSuchLog(name) => Status::NoSuchLog(name),
         SubqueryFault::TooManyLogs => Status::TooManyLogs,
+        SubqueryFault::Clash(_) => unreachable!(),
         SubqueryFault::Plan(fault) => Status::Query(QueryFault::Plan(fault)),
         SubqueryFault::Bad { log, row } => Status::ParseErrors { log, row },
         SubqueryFault::Logs => Status::LogsFault,
@@ -66,6 +67,7 @@ fn give<L: Logs>(
     logs: &mut L,
 ) -> Result<(), Status>
     requires range { IsInRange spec.now }
+    requires plain { spec.now.checkpoint ≡ None }
     ensures grows { OnlyGrow (L.folder logs.old) (L.folder logs.new) }
     ensures later { L.faults logs.old ≤ L.faults logs.new }
     ensures fills { OnOk result (IsFilled spec.now moment (L.folder logs.old) (L.folder logs.new) (query_of query.old) (query_of query.new)) }
@@ -73,11 +75,11 @@ fn give<L: Logs>(
     ensures failed { IsErrOf result S.LogsFault → Rose (L.faults logs.old) (L.faults logs.new) }
     ensures read { ReadsAll (L.folder logs.new) (subqueries_of (query_of query.old)) (L.given logs.old) (L.given logs.new) }
 {
-    let givens = match run_subqueries(alloc, spec, query, moment, logs) {
-        Ok(givens) => givens,
+    let given = match run_subqueries(alloc, spec, query, moment, logs) {
+        Ok(given) => given,
         Err(fault) => return Err(ungiven(fault)),
     };
-    match query.fill(givens.as_slice()) {
+    match query.fill(given.givens.as_slice()) {
         Ok(()) => Ok(()),
         Err(_) => Err(ungiven(SubqueryFault::Memory)),
     }
@@ -92,6 +94,7 @@ pub(crate) fn prepare<L: Logs>(
     logs: &mut L,
 ) -> Result<(), Status>
     requires range { IsInRange spec.now }
+    requires plain { spec.now.checkpoint ≡ None }
     ensures grows { OnlyGrow (L.folder logs.old) (L.folder logs.new) }
     ensures later { L.faults logs.old ≤ L.faults logs.new }
     ensures fills { OnOk result (IsFilled spec.now moment (L.folder logs.old) (L.folder logs.new) (query_of query.old) (query_of query.new)) }

@@ -1,20 +1,21 @@
 // The run.
 ghost use Rattle.std.specs.Prelude.{◌≡◌, ◌≤◌, ◌++◌, ℕ, List, codes, true, false, Option, None, Some, IsSome};
+ghost use Rattle.grammar.specs.Trees as model;
 ghost use Rattle.lp_model.specs.Outside.{Folder, Rose, OnlyGrow};
 ghost use Rattle.command_words.specs.Table.{IsAsked, IsInRange, checkpoint_of};
 ghost use Rattle.command_words.specs.Usage.{AreFine};
 ghost use Rattle.command_words.specs.declared.formats.OutputFormat.TheVariants as O;
 ghost use Rattle.query_tree.specs.Views.{query_of};
 ghost use Rattle.query_text.specs.Stdin.{names_in};
-ghost use Rattle.execution.specs.Built.{all_built, reads_stdin};
-ghost use Rattle.execution.specs.Executed.{IsMoment};
-ghost use Rattle.execution.specs.Texts.{output_of, sections_in};
+ghost use Rattle.checkpointed_command.specs.Built.{all_built, reads_stdin};
+ghost use Rattle.checkpointed_command.specs.Executed.{IsMoment};
+ghost use Rattle.checkpointed_command.specs.Texts.{has_text, output_of, sections_in};
 ghost use Rattle.lp_outside.specs.NameFault.{name_fault};
 ghost use Rattle.file_stage.specs.FileTexts.{AlwaysTells};
 ghost use Rattle.checkpointed_command.specs.Given.{ReadsKept};
 ghost use Rattle.reports.specs.Messages.{message};
 ghost use Rattle.reports.specs.Status.{OnRefused};
-ghost use Rattle.logparser_cli.specs.Answers.{AnswersBuilt, AnswersInput, AnswersOf, AnswersPlainly, AnswersQuery, AnswersRun};
+ghost use Rattle.logparser_cli.specs.Answers.{AnswersInput, AnswersOf, AnswersPlainly, AnswersQuery, AnswersRun};
 ghost use Rattle.logparser_cli.specs.Kept.{Answers, AnswersLedger, ReadsLedger};
 ghost use Rattle.logparser_cli.specs.Given.{ReadsLogs, ReadsQuery, ReadsWords};
 ghost use Rattle.logparser_cli.specs.Input.{AsksNoInput, IsReadOn, stopped_input};
@@ -26,9 +27,10 @@ use crate::listing::find_spans;
 use crate::preparing::prepare;
 use crate::template::find_template;
 use crate::writing::write_rows;
-use checkpointed_command::{run_with_checkpoint, stopped, unasked};
+use checkpointed_command::{
+    RunFault, is_standard, reads_stdin, run_with_checkpoint, stopped, unasked,
+};
 use command_words::Spec;
-use execution::{RunFault, all_built, is_standard, reads_stdin};
 use lp_outside::{Disk, Logs, Name, Sink, Source};
 use lp_values::TextList;
 use query_run::Counts;
@@ -211,8 +213,8 @@ fn run_over<L: Logs, D: Disk, I: Source, S: Sink, E: Sink>(
     }
 }
 
-// Runs a query that is built, before a refusal is told.
-fn run_built<L: Logs, D: Disk, I: Source, S: Sink, E: Sink>(
+// Runs a query, before a refusal is told.
+fn run_query<L: Logs, D: Disk, I: Source, S: Sink, E: Sink>(
     alloc: Global,
     spec: &Spec,
     query: &mut Query,
@@ -232,7 +234,7 @@ fn run_built<L: Logs, D: Disk, I: Source, S: Sink, E: Sink>(
     ensures later_disk { D.faults disk.old ≤ D.faults disk.new }
     ensures later_out { S.faults out.old ≤ S.faults out.new }
     ensures later_err { E.faults err.old ≤ E.faults err.new }
-    ensures answers { AnswersBuilt
+    ensures answers { AnswersQuery
         (world (L.folder logs.old) (L.faults logs.old) (held (AlwaysTells D.state) (D.state disk.old).seen (S.written out.old)) (D.faults disk.old) (S.faults out.old) (E.written err.old) (E.faults err.old) (input_at I.left I.given I.faults input.old))
         (world (L.folder logs.new) (L.faults logs.new) (held (AlwaysTells D.state) (D.state disk.new).seen (S.written out.new)) (D.faults disk.new) (S.faults out.new) (E.written err.new) (E.faults err.new) (input_at I.left I.given I.faults input.new))
         spec.now moment (query_of query.old) result }
@@ -256,42 +258,6 @@ fn run_built<L: Logs, D: Disk, I: Source, S: Sink, E: Sink>(
     }
 }
 
-// Runs a query, before a refusal is told.
-fn run_query<L: Logs, D: Disk, I: Source, S: Sink, E: Sink>(
-    alloc: Global,
-    spec: &Spec,
-    query: &mut Query,
-    moment: i64,
-    logs: &mut L,
-    disk: &mut D,
-    input: &mut I,
-    out: &mut S,
-    err: &mut E,
-) -> Status
-    requires moment { IsMoment moment }
-    requires range { IsInRange spec.now }
-    ensures grows { OnlyGrow (L.folder logs.old) (L.folder logs.new) }
-    ensures later { L.faults logs.old ≤ L.faults logs.new }
-    ensures honest { (D.state disk.old).honest → (D.state disk.new).honest }
-    ensures later_disk { D.faults disk.old ≤ D.faults disk.new }
-    ensures later_out { S.faults out.old ≤ S.faults out.new }
-    ensures later_err { E.faults err.old ≤ E.faults err.new }
-    ensures answers { AnswersQuery
-        (world (L.folder logs.old) (L.faults logs.old) (held (AlwaysTells D.state) (D.state disk.old).seen (S.written out.old)) (D.faults disk.old) (S.faults out.old) (E.written err.old) (E.faults err.old) (input_at I.left I.given I.faults input.old))
-        (world (L.folder logs.new) (L.faults logs.new) (held (AlwaysTells D.state) (D.state disk.new).seen (S.written out.new)) (D.faults disk.new) (S.faults out.new) (E.written err.new) (E.faults err.new) (input_at I.left I.given I.faults input.new))
-        spec.now moment (query_of query.old) result }
-    ensures given { ReadsQuery (L.folder logs.new) spec.now (query_of query.old) (L.given logs.old) (L.given logs.new) }
-    ensures input { reads_stdin (names_in (query_of query.old)) ≡ false → input.new ≡ input.old }
-    ensures read { IsReadOn (input_at I.left I.given I.faults input.old) (input_at I.left I.given I.faults input.new) }
-    ensures silent { OnRefused result (err.new ≡ err.old) }
-{
-    if all_built(spec, query) {
-        run_built(alloc, spec, query, moment, logs, disk, input, out, err)
-    } else {
-        Status::NotBuilt
-    }
-}
-
 // Does what the words ask for without a checkpoint, before a refusal is told. It speaks of all words that ask for these options.
 fn run_plainly<L: Logs, D: Disk, I: Source, S: Sink, E: Sink>(
     alloc: Global,
@@ -305,6 +271,8 @@ fn run_plainly<L: Logs, D: Disk, I: Source, S: Sink, E: Sink>(
 ) -> Status
     requires moment { IsMoment moment }
     requires range { IsInRange spec.now }
+    requires plain { spec.now.checkpoint ≡ None }
+    requires texts { (q : model.Query) → has_text spec.now (output_of spec.now q) ≡ true }
     ensures answers { (words : List (List ℕ)) → AreFine words → IsAsked words spec.now → AnswersPlainly moment words
         (world (L.folder logs.old) (L.faults logs.old) (held (AlwaysTells D.state) (D.state disk.old).seen (S.written out.old)) (D.faults disk.old) (S.faults out.old) (E.written err.old) (E.faults err.old) (input_at I.left I.given I.faults input.old))
         (world (L.folder logs.new) (L.faults logs.new) (held (AlwaysTells D.state) (D.state disk.new).seen (S.written out.new)) (D.faults disk.new) (S.faults out.new) (E.written err.new) (E.faults err.new) (input_at I.left I.given I.faults input.new))
@@ -344,6 +312,7 @@ fn run_kept<L: Logs, D: Disk, E: Sink>(
     requires range { IsInRange spec.now }
     requires ledger { spec.now.checkpoint ≡ Some ledger.now }
     requires stage { name_fault (ledger.now ++ codes ".stage") ≡ None }
+    requires texts { (q : model.Query) → has_text spec.now (output_of spec.now q) ≡ true }
     ensures now { IsMoment moment }
     ensures grows { OnlyGrow (L.folder logs.old) (L.folder logs.new) }
     ensures later { L.faults logs.old ≤ L.faults logs.new }

@@ -2,8 +2,8 @@
 ghost use Rattle.std.specs.Prelude.{◌≡◌, ◌≤◌, true, IfOk, IfErr, IsErrOf, IsSome};
 ghost use Rattle.lp_model.specs.Outside.{OnlyGrow, Rose};
 ghost use Rattle.command_words.specs.declared.formats.OutputFormat.TheVariants as O;
-ghost use Rattle.execution.specs.Built.{all_built};
-ghost use Rattle.execution.specs.Texts.{output_of, sections_in};
+ghost use Rattle.checkpointed_command.specs.Built.{all_built};
+ghost use Rattle.checkpointed_command.specs.Texts.{output_of, sections_in};
 ghost use Rattle.query_tree.specs.Views.{query_of};
 ghost use Rattle.requests.specs.Given.{ReadsOnce};
 ghost use Rattle.reports.specs.declared.status.Status.TheVariants as S;

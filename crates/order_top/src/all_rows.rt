@@ -1,6 +1,6 @@
 // All rows, sorted at the end.
-ghost use Rattle.std.specs.Prelude.{◌≡◌, ◌++◌, ◌∷◌, [], List, None, false, length, IfOk, OnOk, OnErr};
-ghost use Rattle.order_top.specs.Finish.{Row, row_before, finished};
+ghost use Rattle.std.specs.Prelude.{◌≡◌, ◌++◌, ◌∷◌, [], List, None, true, false, length, IfOk, IsOk, OnOk, OnErr};
+ghost use Rattle.order_top.specs.Finish.{Row, keys_at, row_before, finished};
 ghost use Rattle.order_top.specs.Lists.{ordered};
 ghost use Rattle.order_top.specs.Ordering.{StandsFor, is_past};
 
@@ -68,6 +68,8 @@ impl AllRows {
         ensures places { self.new.places ≡ self.old.places }
         ensures stands { OnOk result ((rows : List Row) → StandsFor self.old rows → StandsFor self.new (rows ++ row ∷ [])) }
         ensures err { OnErr result (self.new ≡ self.old) }
+        // A row that goes behind as many as are wanted takes no memory, and leaves all as it is.
+        ensures past { is_past self.old.finish (keys_at self.old.finish.columns row) self.old.kept ≡ true → IsOk result × (self.new ≡ self.old) }
     {
         self.rows.push(row)?;
         Ok(())

@@ -1,5 +1,5 @@
 // The first distinct rows.
-ghost use Rattle.std.specs.Prelude.{◌≡◌, ◌≤◌, ◌++◌, ◌∷◌, ◌<◌, ◌^◌, ◌+◌, [], List, Some, true, false, length, if◌then◌else◌, IfOk, OnOk, OnErr};
+ghost use Rattle.std.specs.Prelude.{◌≡◌, ◌≤◌, ◌++◌, ◌∷◌, ◌<◌, ◌^◌, ◌+◌, [], List, Some, true, false, length, if◌then◌else◌, IfOk, IsOk, OnOk, OnErr};
 ghost use Rattle.std.specs.List.{list_any};
 ghost use Rattle.order_top.specs.Finish.{Row, same_row, keys_at, precedes, finished};
 ghost use Rattle.order_top.specs.Lists.{first_items, with_later};
@@ -111,6 +111,8 @@ impl FirstDistinct {
         ensures places { self.new.places ≤ self.old.places + 1 }
         ensures stands { OnOk result ((rows : List Row) → StandsFor self.old rows → StandsFor self.new (rows ++ row ∷ [])) }
         ensures err { OnErr result (self.new ≡ self.old) }
+        // A row that goes behind as many as are wanted takes no memory, and leaves all as it is.
+        ensures past { is_past self.old.finish (keys_at self.old.finish.columns row) self.old.kept ≡ true → IsOk result × (self.new ≡ self.old) }
     {
         if self.first.is_past_row(&row) {
             return Ok(());

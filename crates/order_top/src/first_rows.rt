@@ -1,5 +1,5 @@
 // The first rows, by rank.
-ghost use Rattle.std.specs.Prelude.{◌≡◌, ◌≤◌, ◌<◌, ◌+◌, ◌^◌, ◌++◌, ◌∷◌, [], List, Some, false, length, take, OnOk, OnErr, IfOk};
+ghost use Rattle.std.specs.Prelude.{◌≡◌, ◌≤◌, ◌<◌, ◌+◌, ◌^◌, ◌++◌, ◌∷◌, [], List, Some, false, length, take, OnOk, OnErr, IfOk, IsOk, true};
 ghost use Rattle.std.specs.BTreeMap.{insert_entry};
 ghost use Rattle.std.specs.Map.{values_of};
 ghost use Rattle.std.specs.Option.{option_to_list};
@@ -157,6 +157,8 @@ impl FirstRows {
         ensures places { self.new.places ≤ self.old.places + 1 }
         ensures stands { OnOk result ((rows : List Row) → StandsFor self.old rows → StandsFor self.new (rows ++ row ∷ [])) }
         ensures err { OnErr result (self.new ≡ self.old) }
+        // A row that goes behind as many as are wanted takes no memory, and leaves all as it is.
+        ensures past { is_past self.old.finish (keys_at self.old.finish.columns row) self.old.kept ≡ true → IsOk result × (self.new ≡ self.old) }
     {
         if self.is_past_row(&row) {
             return Ok(());

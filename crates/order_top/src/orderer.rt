@@ -1,5 +1,5 @@
 // The rows of a query on their way to its finish.
-ghost use Rattle.std.specs.Prelude.{◌≡◌, ◌≤◌, ◌<◌, ◌+◌, ◌^◌, ◌++◌, ◌∷◌, [], List, length, IfOk, OnOk, OnErr, IfSome, IsTrue};
+ghost use Rattle.std.specs.Prelude.{◌≡◌, ◌≤◌, ◌<◌, ◌+◌, ◌^◌, ◌++◌, ◌∷◌, [], List, length, IfOk, IsOk, OnOk, OnErr, IfSome, IsTrue, true};
 ghost use Rattle.order_top.specs.Finish.{Row, keys_at, finished};
 ghost use Rattle.order_top.specs.Ordering.{StandsFor, is_past};
 
@@ -66,6 +66,8 @@ impl Orderer {
         ensures places { self.new.places ≤ self.old.places + 1 }
         ensures stands { OnOk result ((rows : List Row) → StandsFor self.old rows → StandsFor self.new (rows ++ row ∷ [])) }
         ensures err { OnErr result (self.new ≡ self.old) }
+        // A row that goes behind as many as are wanted takes no memory, and leaves all as it is.
+        ensures past { is_past self.old.finish (keys_at self.old.finish.columns row) self.old.kept ≡ true → IsOk result × (self.new ≡ self.old) }
     {
         let alloc = self.alloc;
         match &mut self.store {

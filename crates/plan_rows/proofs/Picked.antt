@@ -1,5 +1,5 @@
 -- A plan of which the columns are read in two parts picks what it picks of the whole row.
-use Rattle.std.proofs.Common.{◌≡◌, ℕ, ◌+◌, ◌≤◌, Bool, true, false, List, length, get_or, Option, Some, None, inl, inr, sym, ◌∙◌, ap, arith}
+use Rattle.std.proofs.Common.{◌≡◌, ℕ, ◌+◌, ◌≤◌, Bool, true, false, List, length, get_or, Option, Some, None, is_some, inl, inr, refl, sym, ◌∙◌, ap, arith}
 use Rattle.std.proofs.lemmas.Bool.{cases_Bool, cases_lt, or_cases}
 use Rattle.std.proofs.lemmas.List.{get_or_past}
 use Rattle.lp_values.specs.declared.value.Value.{Value}
@@ -44,19 +44,24 @@ items_agree many asked rest items condition row old values all fits size parted 
   ]
 ]
 
+-- so WHERE keeps the row
+pub kept_same : (many : ℕ) (asked rest : List ℕ) (items : List Term) (condition : Option Filter) (row old values : List Value)
+    → length row ≤ many → length old ≡ many → Parted many asked rest items condition → Put asked row old values → keeps condition values ≡ keeps condition row
+kept_same many asked rest items condition row old values fits room parted put = keeps_same values row condition (asked_agree many asked rest items condition row old values fits room parted put)
+
+-- a row is given where WHERE keeps it
+pub given_kept : (kept : Bool) (row : List Value) → kept ≡ is_some (if_kept kept row)
+given_kept true row = refl
+given_kept false row = refl
+
 -- a row that WHERE drops
-pub picks_none : (many : ℕ) (asked rest : List ℕ) (items : List Term) (condition : Option Filter) (row old values : List Value)
-    → length row ≤ many → length old ≡ many → Parted many asked rest items condition → Put asked row old values → keeps condition values ≡ false
-    → None ≡ if_kept (keeps condition row) (selected_in row items)
-picks_none many asked rest items condition row old values fits room parted put kept =
-    let same = keeps_same values row condition (asked_agree many asked rest items condition row old values fits room parted put) in
-    sym (ap (λ (b : Bool). if_kept b (selected_in row items)) (sym same ∙ kept))
+pub picks_none : (kept : Bool) (row : List Value) → kept ≡ false → None ≡ if_kept kept row
+picks_none kept row dropped = sym (ap (λ (b : Bool). if_kept b row) dropped)
 
 -- a row that WHERE keeps
 pub picks_some : (many : ℕ) (asked rest : List ℕ) (items : List Term) (condition : Option Filter) (row old values all out : List Value)
-    → length row ≤ many → length old ≡ many → Parted many asked rest items condition → Put asked row old values → keeps condition values ≡ true
+    → length row ≤ many → length old ≡ many → Parted many asked rest items condition → Put asked row old values → keeps condition row ≡ true
     → Put rest row values all → out ≡ selected_in all items → Some out ≡ if_kept (keeps condition row) (selected_in row items)
 picks_some many asked rest items condition row old values all out fits room parted first kept second out_is =
-    let same = keeps_same values row condition (asked_agree many asked rest items condition row old values fits room parted first) in
     let made = selected_same all row items (items_agree many asked rest items condition row old values all fits room parted first second) in
-    ap Some (out_is ∙ made) ∙ sym (ap (λ (b : Bool). if_kept b (selected_in row items)) (sym same ∙ kept))
+    ap Some (out_is ∙ made) ∙ sym (ap (λ (b : Bool). if_kept b (selected_in row items)) kept)

@@ -1,8 +1,11 @@
 // A plan as a picker.
-ghost use Rattle.std.specs.Prelude.{◌≡◌, ◌+◌, ◌≤◌, length, option_map, IfOk};
+ghost use Rattle.std.specs.Prelude.{◌≡◌, ◌+◌, ◌≤◌, ◌<◌, ◌^◌, ◌∷◌, length, option_map, pos, IfOk, OnOk};
+ghost use Rattle.line_input.specs.Taken.{slots_of};
+ghost use Rattle.lp_values.specs.declared.value.Value.TheVariants as V;
 ghost use Rattle.query_types.specs.Conditions.{filter_of};
 ghost use Rattle.query_types.specs.Planned.{Covers};
-ghost use Rattle.plan_rows.specs.Picks.{plan_picks};
+ghost use Rattle.row_engine.specs.Rows.{keeps};
+ghost use Rattle.plan_rows.specs.Picks.{Put, fields_read, plan_picks};
 
 use crate::ReadyPlan;
 use crate::row::{make_room, read_columns};
@@ -38,8 +41,53 @@ impl PlanPicker {
     }
 }
 
+impl PlanPicker {
+    // Whether WHERE keeps a record, of which the columns that WHERE asks are read into `values`.
+    fn keeps(
+        &self,
+        alloc: Global,
+        identity: &Name,
+        number: u64,
+        line: &[u8],
+        fields: &Fields,
+        values: &mut ValueList,
+    ) -> Result<bool, AllocError>
+        requires number { number < 2 ^ 63 }
+        requires room { length values.old ≡ length self.now.ready.plan.used }
+        ensures read { OnOk result (Put self.now.ready.columns.asked (V.Text identity.now ∷ V.Int (pos number) ∷ fields_read self.now.readings (slots_of line.now fields.now) 0) values.old values.new) }
+        ensures kept { IfOk result (λ kept. kept ≡ keeps (option_map filter_of self.now.ready.plan.condition) (V.Text identity.now ∷ V.Int (pos number) ∷ fields_read self.now.readings (slots_of line.now fields.now) 0)) }
+    {
+        read_columns(
+            alloc,
+            &self.ready.columns.asked,
+            &self.readings,
+            identity,
+            number,
+            line,
+            fields,
+            values,
+        )?;
+        let is_kept = self.ready.keeps(alloc, values)?;
+        Ok(is_kept)
+    }
+}
+
 impl Picker for PlanPicker {
     ghost picks = { λ s. plan_picks s.readings s.ready.plan.items (option_map filter_of s.ready.plan.condition) };
+
+    fn gives(
+        &self,
+        alloc: Global,
+        identity: &Name,
+        number: u64,
+        _columns: &Option<Columns>,
+        line: &[u8],
+        fields: &Fields,
+        values: &mut ValueList,
+    ) -> Result<bool, AllocError> {
+        make_room(values, self.ready.plan.used.len())?;
+        self.keeps(alloc, identity, number, line, fields, values)
+    }
 
     fn pick(
         &self,
@@ -53,17 +101,7 @@ impl Picker for PlanPicker {
         row: &mut ValueList,
     ) -> Result<bool, AllocError> {
         make_room(values, self.ready.plan.used.len())?;
-        read_columns(
-            alloc,
-            &self.ready.columns.asked,
-            &self.readings,
-            identity,
-            number,
-            line,
-            fields,
-            values,
-        )?;
-        let is_kept = self.ready.keeps(alloc, values)?;
+        let is_kept = self.keeps(alloc, identity, number, line, fields, values)?;
         if !is_kept {
             return Ok(false);
         }

@@ -20,17 +20,19 @@ use Rattle.command_words.specs.Formats.{input_in, output_in}
 use Rattle.command_words.specs.Values.{switch_in, rotation_in, headers_in, separator_in, errors_in, rows_in, lines_in, mode_in, pattern_of, name_in, ledger_in}
 use Rattle.command_words.specs.Words.{given, options_in}
 use Rattle.output_formats.specs.declared.csv.Headers.TheVariants as H
-use Rattle.execution.specs.declared.formats.LogFormat.{LogFormat}
-use Rattle.execution.specs.Formats.{format_of, input_of, log_format}
-use Rattle.execution.specs.Outputs.{files_named}
-use Rattle.execution.specs.Plans.{PlannedQuery, asked_for, query_plan}
-use Rattle.execution.specs.Texts.{into_in, output_of, run_text, text_as}
+use Rattle.subqueries.specs.LogFormat.{LogFormat}
+use Rattle.subqueries.specs.Formats.{format_of, input_of, log_format}
+use Rattle.subqueries.specs.Outputs.{files_named}
+use Rattle.subqueries.specs.Plans.{PlannedQuery, asked_for, query_plan}
+use Rattle.subqueries.specs.Texts.{into_in, output_of, run_text, text_as}
 use Rattle.row_output.specs.Asked.{Asked as AskedRows, Files, RowsText, left_of, text_in}
 use Rattle.run_model.specs.Meanings.{Asked, Part, Split, Given, IsOne}
 use Rattle.tpl_output.specs.Sections.{Sections, sections_of}
 use Rattle.program_meaning.specs.Asked.{HasOptions, Asks}
 use Rattle.program_meaning.specs.Gives.{GivesOver, Gives, past_in, rows_over, splits_of, table_over}
+use Rattle.program_meaning.specs.Lists.{with_lists}
 use Rattle.program_meaning.specs.Meaning.{meaning}
+use Rattle.program_meaning.proofs.Kept.{one_filled}
 use Rattle.program_meaning.proofs.Options.{given_by_options}
 
 -- options without the query word, which is none of them
@@ -136,14 +138,15 @@ same_plan p q r a b = cc
 same_files : (p q : Files) (r : Option Files) → r ≡ Some p → r ≡ Some q → p ≡ q
 same_files p q r a b = cc
 
-pub one_given : (asked : Asked) (past : Past) (x y : Given) → GivesOver asked past x → GivesOver asked past y → x ≡ y
-one_given asked past x y a b =
+pub one_given : (asked : Asked) (past : Past) (lists : List (List Kept)) (x y : Given) → GivesOver asked past lists x → GivesOver asked past lists y → x ≡ y
+one_given asked past lists x y a b =
     let specs : bare a.spec ≡ bare b.spec = one_spec asked.words a.spec b.spec a.asks.options b.asks.options in
     let queries : a.q ≡ b.q = sym (a.asks.only b.q b.asks.query.parses) in
     let formats : log_format a.spec a.q ≡ log_format b.spec b.q = sym (format_bare a.spec (input_of a.spec a.q)) ∙ ((λ i. log_format (specs i) (queries i)) ∙ format_bare b.spec (input_of b.spec b.q)) in
     let patterns : a.spec.ts_format ≡ b.spec.ts_format = λ i. (specs i).ts_format in
-    let plans : a.plan ≡ b.plan = same_plan a.plan b.plan (query_plan (table_over (log_format a.spec a.q) a.spec.ts_format past) asked.moment a.q) a.is_planned
-    ((λ i. query_plan (table_over (formats i) (patterns i) past) asked.moment (queries i)) ∙ b.is_planned) in
+    let filled_same : with_lists a.values a.q ≡ with_lists b.values b.q = one_filled a.values b.values (sym a.are_lists.kept ∙ b.are_lists.kept) a.q ∙ ap (with_lists b.values) queries in
+    let plans : a.plan ≡ b.plan = same_plan a.plan b.plan (query_plan (table_over (log_format a.spec a.q) a.spec.ts_format past) asked.moment (with_lists a.values a.q)) a.is_planned
+    ((λ i. query_plan (table_over (formats i) (patterns i) past) asked.moment (filled_same i)) ∙ b.is_planned) in
     let names : files_named a.spec [] (into_in a.q) ≡ files_named b.spec [] (into_in b.q) = sym (files_bare a.spec (into_in a.q)) ∙ ((λ i. files_named (specs i) [] (into_in (queries i))) ∙ files_bare b.spec (into_in b.q)) in
     let files : a.files ≡ b.files = same_files a.files b.files (files_named a.spec [] (into_in a.q)) a.are_files (names ∙ b.are_files) in
     let outputs : output_of a.spec a.q ≡ output_of b.spec b.q = λ i. output_of (specs i) (queries i) in
@@ -159,4 +162,4 @@ one_given asked past x y a b =
     λ i. record { splits = splits i; rows = counts i }
 
 pub is_one : IsOne meaning
-is_one = λ asked parts lists x y a b. one_given asked (past_in parts) x y a.0 b.0
+is_one = λ asked parts lists x y a b. one_given asked (past_in parts) lists x y a b

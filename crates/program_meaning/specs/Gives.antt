@@ -1,6 +1,7 @@
 -- What a query gives over the records of logs: its outputs, each with the text of its rows.
 use Rattle.std.specs.Prelude.{◌≡◌, ℕ, true, false, List, [], ◌∷◌, length, map, flat_map, Option, Some, None, Ok}
 use Rattle.grammar.specs.Trees.{Query}
+use Rattle.ledger.specs.Written.{kept_of}
 use Rattle.ledger_model.specs.Entries.{Kept}
 use Rattle.lp_time.specs.declared.piece.Piece.{Piece}
 use Rattle.lp_values.specs.declared.value.Value.{Value}
@@ -9,13 +10,12 @@ use Rattle.column_kinds.specs.Judged.{table_of as table_with}
 use Rattle.column_kinds.specs.Past.{Past, log_with, or_first, told_at}
 use Rattle.command_words.specs.declared.formats.OutputFormat.TheVariants as O
 use Rattle.command_words.specs.declared.spec.Spec.{Spec}
-use Rattle.execution.specs.declared.formats.LogFormat.{LogFormat}
-use Rattle.execution.specs.declared.formats.LogFormat.TheVariants as F
-use Rattle.execution.specs.Built.{is_run_built}
-use Rattle.execution.specs.Formats.{log_format}
-use Rattle.execution.specs.Outputs.{files_named}
-use Rattle.execution.specs.Plans.{PlannedQuery, asked_for, query_plan, table_rows, told_rows}
-use Rattle.execution.specs.Texts.{into_in, output_of, run_text}
+use Rattle.subqueries.specs.LogFormat.{LogFormat}
+use Rattle.subqueries.specs.LogFormat.TheVariants as F
+use Rattle.subqueries.specs.Formats.{log_format}
+use Rattle.subqueries.specs.Outputs.{files_named}
+use Rattle.subqueries.specs.Plans.{PlannedQuery, asked_for, query_plan, table_rows, told_rows}
+use Rattle.subqueries.specs.Texts.{into_in, output_of, run_text}
 use Rattle.input_tables.specs.Tables.{table_of}
 use Rattle.log_reading.specs.Found.{Found, found_of}
 use Rattle.multiplex.specs.Splitting.{OutputRows, split}
@@ -23,7 +23,9 @@ use Rattle.query_types.specs.declared.table.TableColumns.{TableColumns}
 use Rattle.row_output.specs.Asked.{Asked as AskedRows, Files, OutputText, left_of, text_in}
 use Rattle.run_model.specs.Meanings.{Asked, Part, Split, Given}
 use Rattle.tpl_output.specs.Sections.{Sections, fault_of, sections_of}
+use Rattle.subqueries.specs.Giving.{subqueries_of}
 use Rattle.program_meaning.specs.Asked.{Asks}
+use Rattle.program_meaning.specs.Lists.{with_lists}
 
 -- the records of parts, joined, and the first log that has columns
 
@@ -63,20 +65,27 @@ pub record PutsOut (files : Files) (asked : AskedRows) (rows : List (List Value)
 abbrev pub HasTemplate : Spec → Query → List ℕ → Sections → Type 0
 HasTemplate spec q bytes template = output_of spec q ≡ O.Tpl → (fault_of bytes ≡ None) × (template ≡ sections_of bytes)
 
--- What is asked gives these outputs over these records: the rows of the query's plan over the table that they tell.
-pub record GivesOver (asked : Asked) (past : Past) (given : Given) : Type 0 where
+-- these are the lists of values that were kept, one for each subquery of the query
+pub record AreLists (q : Query) (lists : List (List Kept)) (values : List (List Value)) : Type 0 where
+  pub kept : lists ≡ map (map kept_of) values
+  pub each : length values ≡ length (subqueries_of q)
+
+-- What is asked gives these outputs over these records, with these lists of its subqueries: the rows of the plan that the query with the
+-- lists has over the table that the records tell.
+pub record GivesOver (asked : Asked) (past : Past) (lists : List (List Kept)) (given : Given) : Type 0 where
   pub spec : Spec
   pub q : Query
   pub asks : Asks asked spec q
-  pub built : is_run_built spec q ≡ true
+  pub values : List (List Value)
+  pub are_lists : AreLists q lists values
   pub template : Sections
   pub is_template : HasTemplate spec q asked.template template
   pub plan : PlannedQuery
-  pub is_planned : query_plan (table_over (log_format spec q) spec.ts_format past) asked.moment q ≡ Ok plan
+  pub is_planned : query_plan (table_over (log_format spec q) spec.ts_format past) asked.moment (with_lists values q) ≡ Ok plan
   pub files : Files
   pub are_files : files_named spec [] (into_in q) ≡ Some files
   pub puts : PutsOut files (asked_for (Some files) (run_text spec template asked.moment q) q plan) (rows_over (log_format spec q) spec.ts_format plan past) given
 
--- No list of a subquery is kept, since no query with one is built.
+-- over the records of each log in order
 abbrev pub Gives : Asked → List Part → List (List Kept) → Given → Type 0
-Gives asked parts lists given = GivesOver asked (past_in parts) given × (lists ≡ [])
+Gives asked parts lists given = GivesOver asked (past_in parts) lists given

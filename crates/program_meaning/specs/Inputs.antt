@@ -9,7 +9,7 @@ use Rattle.command_words.specs.declared.modes.Rotation.{Rotation}
 use Rattle.command_words.specs.declared.modes.Rotation.TheVariants as R
 use Rattle.command_words.specs.declared.spec.Spec.{Spec}
 use Rattle.delimited_input.specs.Lines.{delimited_lines}
-use Rattle.execution.specs.Formats.{input_of}
+use Rattle.subqueries.specs.Formats.{input_of}
 use Rattle.input_tables.specs.declared.format.TableFormat.TheVariants as T
 use Rattle.input_tables.specs.Tables.{lines_of}
 

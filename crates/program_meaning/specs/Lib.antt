@@ -1,4 +1,20 @@
 pub mod Inputs
 pub mod Asked
+pub mod Lists
 pub mod Gives
 pub mod Meaning
+pub use Rattle.subqueries.specs.Built
+pub use Rattle.subqueries.specs.Executed
+pub use Rattle.subqueries.specs.Faults
+pub use Rattle.subqueries.specs.Formats
+pub use Rattle.subqueries.specs.Outputs
+pub use Rattle.subqueries.specs.Plans
+pub use Rattle.subqueries.specs.Texts
+pub use Rattle.subqueries.specs.Ran
+pub use Rattle.subqueries.specs.RunFault
+pub use Rattle.subqueries.specs.LogFormat
+pub use Rattle.subqueries.specs.Giving
+pub use Rattle.subqueries.specs.Listing
+pub use Rattle.subqueries.specs.Reading as SubqueriesReading
+pub use Rattle.subqueries.specs.Refusing
+pub use Rattle.subqueries.specs.declared.fault.SubqueryFault

@@ -1,11 +1,14 @@
 -- The meaning of the program's runs.
-use Rattle.std.specs.Prelude.{◌≡◌, ◌⊎◌, ℕ, List, [], ◌∷◌, map, Some, IsSome}
+use Rattle.std.specs.Prelude.{◌≡◌, ◌⊎◌, ℕ, List, map, Some, IsSome}
 use Rattle.std.specs.Bool.{⊤}
 use Rattle.std.specs.List.{AllByRecursion}
+use Rattle.grammar.specs.Filled.{PlacedGiven, filled, given_bad}
 use Rattle.grammar.specs.Trees.{Query}
 use Rattle.lp_model.specs.Outside.{Folder}
-use Rattle.ledger_model.specs.Entries.{Entry}
+use Rattle.ledger.specs.Written.{kept_of}
+use Rattle.ledger_model.specs.Entries.{Entry, Kept}
 use Rattle.ledger_model.specs.Inputs.{input_text}
+use Rattle.lp_values.specs.declared.value.Value.{Value}
 use Rattle.command_words.specs.declared.modes.FileMode.{FileMode}
 use Rattle.command_words.specs.declared.modes.FileMode.TheVariants as M
 use Rattle.command_words.specs.declared.spec.Spec.{Spec}
@@ -15,6 +18,7 @@ use Rattle.run_model.specs.Logs.{Rotation, names, numbers}
 use Rattle.run_model.specs.Listed.{IsThereAt}
 use Rattle.run_model.specs.Meanings.{Asked, Mode, append, overwrite, ignore, Meaning}
 use Rattle.positions.specs.Spanning.{Reaches, rule_of}
+use Rattle.subqueries.specs.Giving.{GiveThese}
 use Rattle.program_meaning.specs.Asked.{HasOptions, Asks}
 use Rattle.program_meaning.specs.Gives.{Gives}
 use Rattle.program_meaning.specs.Inputs.{input_for, format_in}
@@ -58,6 +62,18 @@ pub record ReachesLogs (asked : Asked) (folder : Folder) (reached : List (List �
   pub reaches : Reaches (rule_of spec.rotation) (Some folder) (map (λ name. name.text) (names_in q)) reached
   pub there : HaveFiles (rule_of spec.rotation) folder reached
 
+-- the subqueries of what is asked gave these lists between two moments of a folder, and their logs had so many bad lines, those of each
+-- subquery once
+pub record KeepsLists (asked : Asked) (before now : Folder) (lists : List (List Kept)) (bad : ℕ) : Type 0 where
+  pub spec : Spec
+  pub q : Query
+  pub asks : Asks asked spec q
+  pub givens : List PlacedGiven
+  pub values : List (List Value)
+  pub give : GiveThese spec asked.moment (Some before) (Some now) q givens values
+  pub kept : lists ≡ map (map kept_of) values
+  pub bad_is : bad ≡ given_bad (filled givens q)
+
 abbrev pub meaning : Meaning
 meaning = record {
   are_words = AreWords;
@@ -69,5 +85,5 @@ meaning = record {
   gives = Gives;
   looks = Looks;
   reaches = ReachesLogs;
-  keeps = λ asked before now lists bad. (lists ≡ []) × (bad ≡ 0);
+  keeps = KeepsLists;
 }

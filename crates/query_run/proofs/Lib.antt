@@ -1,3 +1,4 @@
 pub mod Puts
 pub mod Reasons
 pub mod WholeRun
+pub mod ReadAhead

@@ -1,5 +1,5 @@
 -- What a writer has put, from what its outputs took.
-use Rattle.std.proofs.Common.{◌≡◌, List, [], ◌∷◌, ◌++◌, Option, Some, None, IfSome, ap, sym, ◌∙◌, subst}
+use Rattle.std.proofs.Common.{◌≡◌, true, false, true≢false, List, [], ◌∷◌, ◌++◌, Option, Some, None, IfSome, is_some, ap, refl, sym, ◌∙◌, subst}
 use Rattle.std.specs.List.{cons_option}
 use Rattle.std.proofs.lemmas.List.{append-nil}
 use Rattle.lp_values.specs.declared.value.Value.{Value}
@@ -81,3 +81,28 @@ module _ {P : Type 0} {S : Type 0} (kind : StageKind S) (picks : PicksOf P) wher
 
   pub halts_there : (a c : Writer P) (u w : S) (found : Found) → PutsRows kind [] a u c w → Halts kind picks a u (found ∷ []) c w
   halts_there a c u w found f = stops_there kind [] (picked (picks a.picker) (found ∷ [])) a c u w f
+
+  -- no row was put, and then the rows of a record
+  pub writes_behind : (a b c : Writer P) (u v w : S) (found : Found) → PutsRows kind [] a u b v → Writes kind picks b v (found ∷ []) c w → Writes kind picks a u (found ∷ []) c w
+  writes_behind a b c u v w found f s =
+      let Of : P → Type 0 = λ p. PutsRows kind (picked (picks p) (found ∷ [])) a u c w in
+      subst Of f.picker (puts_on kind [] (picked (picks b.picker) (found ∷ [])) a b c u v w f s)
+
+  -- the output counted one row more, whichever it is
+  skips : (a b : Writer P) (u : S) (o : Option (List Value)) → true ≡ is_some o → ((start : S) (rows : Rows) (row : List Value) → HasRows kind a.output start rows u → HasRows kind b.output start (rows ++ row ∷ []) u)
+      → asked_of b.output ≡ asked_of a.output → b.picker ≡ a.picker → b.refused ≡ a.refused → PutsRows kind (cons_option o []) a u b u
+  skips a b u None given has asked picker refused = absurd (true≢false given)
+  skips a b u (Some row) given has asked picker refused = record { has = λ start rows had. has start rows row had; asked = asked; picker = picker; refused = refused }
+
+  -- a record gave a row, which was counted
+  pub skips_row : (a b : Writer P) (u : S) (found : Found) → true ≡ is_some (picks a.picker found) → ((start : S) (rows : Rows) (row : List Value) → HasRows kind a.output start rows u → HasRows kind b.output start (rows ++ row ∷ []) u)
+      → asked_of b.output ≡ asked_of a.output → b.picker ≡ a.picker → b.refused ≡ a.refused → Writes kind picks a u (found ∷ []) b u
+  skips_row a b u found given has asked picker refused = skips a b u (picks a.picker found) given has asked picker refused
+
+none_given : (o : Option (List Value)) → false ≡ is_some o → None ≡ o
+none_given None given = refl
+none_given (Some row) given = absurd (true≢false (sym given))
+
+-- a record gave no row, and none was counted
+pub skips_none : {P : Type 0} {S : Type 0} (kind : StageKind S) (picks : PicksOf P) (a b : Writer P) (u : S) (found : Found) → false ≡ is_some (picks b.picker found) → PutsRows kind [] a u b u → Writes kind picks a u (found ∷ []) b u
+skips_none kind picks a b u found given f = writes_no_row kind picks a b u u found (none_given (picks b.picker found) given) f

@@ -2,3 +2,4 @@ pub mod Rows
 pub mod Faults
 pub mod Writer
 pub mod Writing
+pub mod Ahead

@@ -13,6 +13,8 @@ ghost use Rattle.log_reading.specs.declared.span.RunFault.TheVariants as R;
 ghost use Rattle.log_reading.specs.declared.taker.TakeFault.TheVariants as T;
 ghost use Rattle.query_run.specs.Faults.{OnBad, OnRefusedOutput, ended_by, stopped_at, stopped_in};
 ghost use Rattle.query_run.specs.Rows.{picked};
+ghost use Rattle.row_output.specs.Sinks.{HoldsNoPiece};
+ghost use Rattle.query_run.specs.Ahead.{GoesAhead};
 ghost use Rattle.query_run.specs.Writer.{Starts};
 
 use crate::{Picker, WriteFault, Writer};
@@ -119,6 +121,7 @@ fn open_page<P: Drop, G: Stage>(
 ) -> Result<Page<Writer<P>>, WriteFault>
     requires { IsNew output }
     ensures starts { IfOk result (λ page. Starts (kind_of G.state G.ended) output picker stage.old page.taker stage.new) }
+    ensures handed { IfOk result (λ page. HoldsNoPiece page.taker.output.sink) }
     ensures taken { IfOk result (λ page. page.taker.taken ≡ 0) }
     ensures rows { IfOk result (λ page. page.rows ≡ 0) }
     ensures bad { IfOk result (λ page. page.bad ≡ 0) }
@@ -132,7 +135,7 @@ fn open_page<P: Drop, G: Stage>(
     ensures sink { IsErrOf result WriteFault.Output → Rose (G.faults stage.old) (G.faults stage.new) }
 {
     let mut writer = Writer::new(alloc, output, picker);
-    match writer.open(stage) {
+    match writer.begin(stage) {
         Ok(()) => Ok(first_page(alloc, writer, most_bad)),
         Err(fault) => Err(stopped_at(fault, replace(&mut writer.refused, None))),
     }
@@ -185,6 +188,7 @@ fn write_page<R: LineReader, L: LogSource, P: Picker + Drop, G: Stage>(
     requires taken { page.old.taker.taken ≡ 0 }
     requires rows { page.old.rows ≡ 0 }
     requires bad { page.old.bad ≡ 0 }
+    requires handed { HoldsNoPiece page.old.taker.output.sink }
     ensures grows { OnlyGrow (L.folder logs.old) (L.folder logs.new) }
     ensures goes_logs { L.goes logs.old logs.new }
     ensures goes { G.goes stage.old stage.new }
@@ -204,6 +208,8 @@ fn write_page<R: LineReader, L: LogSource, P: Picker + Drop, G: Stage>(
     ensures took { OnOk result (waits ≡ true → Told (L.folder logs.new) (λ folder. AreKept (R.format reader.now) true spans.now folder
         → took.new ≡ took.old ++ map (took_of (R.format reader.now) folder) spans.now)) }
     ensures given { L.given logs.new ≤ L.given logs.old + spans_size spans.now }
+    ensures ahead { (output : RowOutput) (picker : P) (first : G) → Starts (kind_of G.state G.ended) output picker first page.old.taker stage.old
+        → GoesAhead (kind_of G.state G.ended) G.goes (asked_of output) (P.picks picker) (R.format reader.now) waits (L.folder logs.new) spans.now (L.given logs.old) (L.given logs.new) first stage.new }
     ensures later_logs { L.faults logs.old ≤ L.faults logs.new }
     ensures logs { IsErrOf result WriteFault.Logs → Rose (L.faults logs.old) (L.faults logs.new) }
     ensures later { G.faults stage.old ≤ G.faults stage.new }
@@ -259,6 +265,8 @@ pub fn write_spans<R: LineReader, L: LogSource, P: Picker + Drop, G: Stage>(
     ensures took { OnOk result (waits ≡ true → Told (L.folder logs.new) (λ folder. AreKept (R.format reader.now) true spans.now folder
         → took.new ≡ took.old ++ map (took_of (R.format reader.now) folder) spans.now)) }
     ensures given { L.given logs.new ≤ L.given logs.old + spans_size spans.now }
+    // Of a log no more than a piece is read while standard output lacks a piece of the text of what was read.
+    ensures ahead { GoesAhead (kind_of G.state G.ended) G.goes (asked_of output) (P.picks picker) (R.format reader.now) waits (L.folder logs.new) spans.now (L.given logs.old) (L.given logs.new) stage.old stage.new }
     ensures later_logs { L.faults logs.old ≤ L.faults logs.new }
     ensures logs { IsErrOf result WriteFault.Logs → Rose (L.faults logs.old) (L.faults logs.new) }
     ensures later { G.faults stage.old ≤ G.faults stage.new }

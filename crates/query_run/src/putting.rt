@@ -2,6 +2,7 @@
 ghost use Rattle.std.specs.Prelude.{◌≡◌, ◌≤◌, ◌<◌, ◌+◌, ◌^◌, None, OnOk, OnErr, IsErrOf, IsSome};
 ghost use Rattle.lp_model.specs.Outside.{Rose};
 ghost use Rattle.text_output.specs.Output.{kind_of};
+ghost use Rattle.row_output.specs.Sinks.{HoldsNoPiece};
 ghost use Rattle.query_run.specs.Writer.{Opens, Puts, StopsAtOnce, StopsIn, refused_by, take_fault};
 
 use crate::Writer;
@@ -51,6 +52,38 @@ impl<P: Drop> Writer<P> {
             }
             Err(fault) => Err(told(fault, &mut self.refused)),
         }
+    }
+
+    /// Hands on the whole pieces of the text on its way to standard output.
+    pub(crate) fn pass_on<G: Stage>(&mut self, stage: &mut G) -> Result<(), TakeFault>
+        ensures takes { OnOk result (Opens (kind_of G.state G.ended) self.old stage.old self.new stage.new) }
+        ensures stops { OnErr result (StopsAtOnce (kind_of G.state G.ended) self.old stage.old self.new stage.new) }
+        ensures handed { OnOk result (HoldsNoPiece self.new.output.sink) }
+        ensures taken { self.new.taken ≡ self.old.taken }
+        ensures goes { G.goes stage.old stage.new }
+        ensures later { G.faults stage.old ≤ G.faults stage.new }
+        ensures failed { IsErrOf result TakeFault.Failed → Rose (G.faults stage.old) (G.faults stage.new) }
+        ensures stopped { IsErrOf result TakeFault.Stopped → IsSome self.new.refused }
+    {
+        match self.output.hand_on(stage) {
+            Ok(()) => Ok(()),
+            Err(fault) => Err(told(fault, &mut self.refused)),
+        }
+    }
+
+    /// Opens the output of a name without stars, and hands on what stands before the first row.
+    pub fn begin<G: Stage>(&mut self, stage: &mut G) -> Result<(), TakeFault>
+        ensures takes { OnOk result (Opens (kind_of G.state G.ended) self.old stage.old self.new stage.new) }
+        ensures stops { OnErr result (StopsAtOnce (kind_of G.state G.ended) self.old stage.old self.new stage.new) }
+        ensures handed { OnOk result (HoldsNoPiece self.new.output.sink) }
+        ensures taken { self.new.taken ≡ self.old.taken }
+        ensures goes { G.goes stage.old stage.new }
+        ensures later { G.faults stage.old ≤ G.faults stage.new }
+        ensures failed { IsErrOf result TakeFault.Failed → Rose (G.faults stage.old) (G.faults stage.new) }
+        ensures stopped { IsErrOf result TakeFault.Stopped → IsSome self.new.refused }
+    {
+        self.open(stage)?;
+        self.pass_on(stage)
     }
 
     /// Puts the row at hand.

@@ -1,6 +1,6 @@
 //! The tests of queries and of the words of the command line.
 //!
-//! Tokens, clauses and options that no case of the program shows, most of them since what they ask for isn't built.
+//! Tokens, clauses and options of which a case of the program shows the answer at most, and not the tree.
 //! They stand here, so that no crate with proofs is proved once more with its tests.
 #![tactic(auto)]
 

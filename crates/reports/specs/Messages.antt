@@ -14,7 +14,7 @@ use Rattle.query_text.specs.declared.fault.QueryFault.TheVariants as query
 use Rattle.tpl_output.specs.declared.fault.TemplateFault.{TemplateFault}
 use Rattle.tpl_output.specs.declared.fault.TemplateFault.TheVariants as template
 use Rattle.reports.specs.declared.status.Status.{Status}
-use Rattle.reports.specs.declared.status.Status.TheVariants.{Done, Memory, Clock, Usage, Query, NotBuilt, NoSuchLog, BadName, NameClash, TooManyOutputs, TooManyLogs, Template, InputTooLong, LogsFault, SourceFault, DiskFault, SinkFault, ParseErrors, LostLog, Shrunk, InputChanged, IntoNeeded, LedgerFault}
+use Rattle.reports.specs.declared.status.Status.TheVariants.{Done, Memory, Clock, Usage, Query, NoSuchLog, BadName, NameClash, TooManyOutputs, TooManyLogs, Template, InputTooLong, LogsFault, SourceFault, DiskFault, SinkFault, ParseErrors, LostLog, Shrunk, InputChanged, IntoNeeded, LedgerFault}
 
 -- a number, where there is one, with what parts it from the text behind
 abbrev pub counted : Option ℕ → List ℕ
@@ -81,7 +81,6 @@ named Memory = codes "out of memory"
 named (Clock moment) = codes "clock"
 named (Usage fault) = codes "usage: word " ++ counted (Some fault.word) ++ usage_text fault.kind
 named (Query fault) = query_reason fault
-named NotBuilt = codes "not built"
 named (NoSuchLog name) = codes "input: no such log " ++ name
 named (BadName fault) = codes "input: bad name"
 named (NameClash name) = codes "input: name clash " ++ name

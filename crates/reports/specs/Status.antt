@@ -1,7 +1,7 @@
 -- Which answers are refusals, and the exit status of each.
 use Rattle.std.specs.Prelude.{ℕ, ⊤}
 use Rattle.reports.specs.declared.status.Status.{Status}
-use Rattle.reports.specs.declared.status.Status.TheVariants.{Done, Memory, Clock, Usage, Query, NotBuilt, NoSuchLog, BadName, NameClash, TooManyOutputs, TooManyLogs, Template, InputTooLong, LogsFault, SourceFault, DiskFault, SinkFault, ParseErrors, LostLog, Shrunk, InputChanged, IntoNeeded, LedgerFault}
+use Rattle.reports.specs.declared.status.Status.TheVariants.{Done, Memory, Clock, Usage, Query, NoSuchLog, BadName, NameClash, TooManyOutputs, TooManyLogs, Template, InputTooLong, LogsFault, SourceFault, DiskFault, SinkFault, ParseErrors, LostLog, Shrunk, InputChanged, IntoNeeded, LedgerFault}
 
 -- a refusal: every answer but Done
 abbrev pub OnRefused : Status → Type 0 → Type 0
@@ -15,7 +15,6 @@ code Memory = 1
 code (Clock moment) = 2
 code (Usage fault) = 2
 code (Query fault) = 3
-code NotBuilt = 2
 code (NoSuchLog name) = 4
 code (BadName fault) = 4
 code (NameClash name) = 4

@@ -93,7 +93,6 @@ pub(crate) fn named(status: &Status) -> (&str, Option<u32>, &str)
         Status::Clock(_) => ("clock", None, ""),
         Status::Usage(fault) => ("usage: word ", Some(fault.word), fault.kind.as_str()),
         Status::Query(fault) => query_reason(*fault),
-        Status::NotBuilt => ("not built", None, ""),
         Status::NoSuchLog(name) => ("input: no such log ", None, name.as_str()),
         Status::BadName(_) => ("input: bad name", None, ""),
         Status::NameClash(name) => ("input: name clash ", None, name.as_str()),

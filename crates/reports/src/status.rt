@@ -21,8 +21,6 @@ pub enum Status {
     Usage(UsageFault),
     /// The query is refused.
     Query(QueryFault),
-    /// The words ask for something that isn't built yet.
-    NotBuilt,
     /// No file has this name.
     NoSuchLog(Name),
     /// A name is no name of a file.
@@ -69,7 +67,7 @@ impl Status {
         match self {
             Status::Done => 0,
             Status::Memory => 1,
-            Status::Clock(_) | Status::Usage(_) | Status::NotBuilt => 2,
+            Status::Clock(_) | Status::Usage(_) => 2,
             Status::Query(_) | Status::IntoNeeded => 3,
             Status::NoSuchLog(_)
             | Status::BadName(_)

@@ -1,8 +1,9 @@
 -- What the calls of rows on their way come to.
-use Rattle.std.proofs.Common.{◌≡◌, ◌+◌, ◌≤◌, ℕ, List, [], ◌∷◌, ◌++◌, length, Result, Ok, Err, OnOk, OnErr, IfErr, refl, sym, ◌∙◌, ap, subst, arith, length-append}
+use Rattle.std.proofs.Common.{◌≡◌, ◌+◌, ◌≤◌, ℕ, List, [], ◌∷◌, ◌++◌, length, Result, Ok, Err, OnOk, OnErr, IfErr, IsTrue, refl, sym, ◌∙◌, ap, subst, arith, length-append}
 use Rattle.std.proofs.lemmas.List.{append-nil}
-use Rattle.order_top.specs.Finish.{Row, Finish, finished}
-use Rattle.order_top.specs.Ordering.{Ordering, StandsFor}
+use Rattle.order_top.specs.Finish.{Row, Finish, finished, keys_at}
+use Rattle.order_top.specs.Ordering.{Ordering, StandsFor, is_past}
+use Rattle.order_top.proofs.Standing.{past_stands}
 use Rattle.text_output.specs.Output.{StageKind}
 use Rattle.text_output.specs.declared.target.Output.{Output}
 use Rattle.row_output.specs.declared.fault.OutputFault.{OutputFault}
@@ -14,7 +15,7 @@ use Rattle.row_output.specs.declared.kept.RowOutput.{RowOutput}
 use Rattle.row_output.specs.declared.sink.Sink.{Sink}
 use Rattle.row_output.specs.Asked.{Asked, left_of}
 use Rattle.row_output.specs.FileRows.{OnRefused}
-use Rattle.row_output.specs.Kept.{HasKept, HasPut, HasRows, asked_of}
+use Rattle.row_output.specs.Kept.{DropsAll, HasKept, HasPut, HasRows, LetsAllGo, asked_of}
 use Rattle.row_output.specs.Rows.{Holds, HoldsAt, IsRefused, IsRefusedAt, Stops, StopsAt}
 use Rattle.row_output.specs.Sinks.{HasSinkRows, IsOpened, Purpose, files_in, purpose_of, sink_text}
 use Rattle.row_output.specs.Few.{GoOn, places_in}
@@ -160,3 +161,23 @@ module _ {S : Type 0} (kind : StageKind S) (o : RowOutput) (a b : S) where
 
 pub one_more : (put : ℕ) (rows : List Row) (row : Row) → put ≡ length rows → put + 1 ≡ length (rows ++ row ∷ [])
 one_more put rows row was = let long = length-append rows (row ∷ []) in omega (arith, was, long)
+
+-- an order without columns, past which a row with no keys goes, stands for one row more, whichever it is
+pub any_stands : (order : Finish) (ordering : Ordering) (rows : List Row) (row : Row) → ordering.finish ≡ order → order.columns ≡ [] → IsTrue (is_past ordering.finish [] ordering.kept) → StandsFor ordering rows → StandsFor ordering (rows ++ row ∷ [])
+any_stands order ordering rows row same plain past stands =
+    past_stands ordering [] past row (ap (λ (f : Finish). keys_at f.columns row) same ∙ ap (λ (columns : List ℕ). keys_at columns row) plain) rows stands
+
+-- so has an output
+kept_skips : {S : Type 0} (kind : StageKind S) (kept : Kept) (order : Finish) (s : Sink) (start : S) (rows : List Row) (row : Row) (a : S) → LetsAllGo kept order → HasKept kind kept order s start rows a → HasKept kind kept order s start (rows ++ row ∷ []) a
+kept_skips kind K.All order s start rows row a drops has = absurd drops
+kept_skips kind (K.Ordered ordering) order s start rows row a (plain, past) (same, stands, has) = (same, any_stands order ordering rows row same plain past stands, has)
+
+pub rows_skip : {S : Type 0} (kind : StageKind S) (o p : RowOutput) (start : S) (rows : List Row) (row : Row) (a : S) → DropsAll o → p.kept ≡ o.kept → p.order ≡ o.order → p.sink ≡ o.sink → p.put ≡ o.put + 1 → HasRows kind o start rows a → HasRows kind p start (rows ++ row ∷ []) a
+unfolding HasRows
+rows_skip kind o p start rows row a drops kept order sink put has =
+    let Of : Kept → Finish → Sink → Type 0 = λ k f t. HasKept kind k f t start (rows ++ row ∷ []) a in
+    let skips : Of o.kept o.order o.sink = kept_skips kind o.kept o.order o.sink start rows row a drops has.has in
+    record {
+      has = subst (λ (k : Kept). Of k p.order p.sink) (sym kept) (subst (λ (f : Finish). Of o.kept f p.sink) (sym order) (subst (λ (t : Sink). Of o.kept o.order t) (sym sink) skips));
+      count = put ∙ one_more o.put rows row has.count;
+    }

@@ -1,7 +1,7 @@
 -- How far the rows of a query have come on their way to its outputs.
-use Rattle.std.specs.Prelude.{◌≡◌, ℕ, List, [], length}
+use Rattle.std.specs.Prelude.{◌≡◌, ℕ, List, [], length, IsTrue}
 use Rattle.order_top.specs.Finish.{Row, Finish}
-use Rattle.order_top.specs.Ordering.{StandsFor}
+use Rattle.order_top.specs.Ordering.{StandsFor, is_past}
 use Rattle.text_output.specs.Output.{StageKind}
 use Rattle.row_output.specs.Asked.{Asked}
 use Rattle.row_output.specs.Few.{GoOn}
@@ -19,6 +19,15 @@ asked_of o = record { files = files_in o.sink; text = text_fn o.sink; columns = 
 -- no row is kept back
 abbrev pub KeepsNone : RowOutput → Type 0
 KeepsNone o = GoOn o.kept
+
+-- an order without columns has its n rows under TOP n: it lets each later row go, whatever the row holds
+abbrev pub LetsAllGo : Kept → Finish → Type 0
+LetsAllGo K.All order = ⊥
+LetsAllGo (K.Ordered ordering) order = (order.columns ≡ []) × IsTrue (is_past ordering.finish [] ordering.kept)
+
+-- each later row is dropped
+abbrev pub DropsAll : RowOutput → Type 0
+DropsAll o = LetsAllGo o.kept o.order
 
 -- rows went on as they came, or an order has them
 abbrev pub HasKept : {S : Type 0} → StageKind S → Kept → Finish → Sink → S → List Row → S → Type 0

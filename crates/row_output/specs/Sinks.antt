@@ -68,10 +68,15 @@ abbrev pub HasSinkRows : {S : Type 0} → StageKind S → Sink → S → List Ro
 HasSinkRows kind (S.Standard s) start rows now = HasStandardRows kind s start rows now
 HasSinkRows kind (S.Files f) start rows now = HasFileRows kind f start rows now
 
--- standard output, or the output that the last row went to, holds back less of its text than so many bytes
+-- standard output holds back less of its text than 64 KiB, or some output in a file less than a piece of a stage
 abbrev pub HoldsLittle : Sink → Type 0
 HoldsLittle (S.Standard s) = length s.text.held < 65_536
 HoldsLittle (S.Files f) = (index : ℕ) × HoldsLittleAt f.files.items index
+
+-- standard output holds back less of its text than a piece of a stage
+abbrev pub HoldsNoPiece : Sink → Type 0
+HoldsNoPiece (S.Standard s) = length s.text.held < 4_096
+HoldsNoPiece (S.Files f) = ⊤
 
 -- what a sink is for
 pub record Purpose : Type 0 where

@@ -1,17 +1,17 @@
 // The rows of a query to its outputs.
-ghost use Rattle.std.specs.Prelude.{◌≡◌, ◌≤◌, ◌<◌, ◌+◌, ◌^◌, ◌++◌, ◌∷◌, [], ℕ, List, length, OnOk, OnErr, IfOk, IfErr, IsErrOf};
+ghost use Rattle.std.specs.Prelude.{◌≡◌, ◌↔◌, ◌≤◌, ◌<◌, ◌+◌, ◌^◌, ◌++◌, ◌∷◌, [], ℕ, List, length, OnOk, OnErr, IfOk, IfErr, IsErrOf, IsTrue};
 ghost use Rattle.lp_model.specs.Outside.{Rose};
 ghost use Rattle.any_format.specs.Wanted.{IsMoment, wanted_text};
 ghost use Rattle.order_top.specs.Finish.{Row, Finish, finished};
 ghost use Rattle.text_output.specs.Output.{kind_of};
 ghost use Rattle.row_output.specs.Asked.{columns_for, left_of};
 ghost use Rattle.row_output.specs.FileRows.{OnRefused};
-ghost use Rattle.order_top.specs.Ordering.{StandsFor};
+ghost use Rattle.order_top.specs.Ordering.{StandsFor, is_past};
 ghost use Rattle.row_output.specs.Rows.{Holds, IsRefused, IsRefusedAt, Stops, StopsAt};
-ghost use Rattle.row_output.specs.Sinks.{HasSinkRows, HoldsLittle, IsOpened, IsUnplaced, files_for, files_in, purpose_of, sink_text};
+ghost use Rattle.row_output.specs.Sinks.{HasSinkRows, HoldsLittle, HoldsNoPiece, IsOpened, IsUnplaced, files_for, files_in, purpose_of, sink_text};
 ghost use Rattle.row_output.specs.Few.{GoOn, places_in};
 ghost use Rattle.row_output.specs.Orders.{IsPlain};
-ghost use Rattle.row_output.specs.Kept.{HasKept, HasRows, IsNew, IsNewKept, KeepsNone, asked_of};
+ghost use Rattle.row_output.specs.Kept.{DropsAll, HasKept, HasRows, IsNew, IsNewKept, KeepsNone, asked_of};
 
 use crate::kept::{Kept, RowOutput};
 use crate::sink::Sink;
@@ -46,6 +46,13 @@ fn kept_under(alloc: Global, order: &Order) -> Result<Kept, AllocError>
     }
 }
 
+// Whether an order lets each later row go, whatever it holds: without columns a row goes behind the n rows of TOP n.
+fn lets_all_go(order: &Order, orderer: &Orderer) -> bool
+    ensures { IsTrue result ↔ ((order.now.columns ≡ []) × IsTrue (is_past orderer.now.finish [] orderer.now.kept)) }
+{
+    order.is_plain() && orderer.would_drop(&[])
+}
+
 // Gives a row to an order, which may let it go at once.
 fn keep(
     alloc: Global,
@@ -59,7 +66,7 @@ fn keep(
     ensures stands { OnOk result (orderer.old.finish ≡ order.now → (rows : List Row) → StandsFor orderer.old rows → StandsFor orderer.new (rows ++ row.old ∷ [])) }
     ensures err { OnErr result (orderer.new ≡ orderer.old) }
 {
-    if order.is_plain() && orderer.would_drop(&[]) {
+    if lets_all_go(order, orderer) {
         return Ok(());
     }
     orderer.put(replace(row, ValueList::new(alloc)))
@@ -223,6 +230,44 @@ impl RowOutput {
         )?;
         self.put += 1;
         Ok(())
+    }
+
+    /// Hands on the whole pieces of the text on its way to standard output.
+    pub fn hand_on<G: Stage>(&mut self, stage: &mut G) -> Result<(), OutputFault>
+        ensures asked { asked_of self.new ≡ asked_of self.old }
+        ensures has { OnOk result ((start : G) (rows : List Row) → HasRows (kind_of G.state G.ended) self.old start rows stage.old → HasRows (kind_of G.state G.ended) self.new start rows stage.new) }
+        ensures stop { OnErr result ((start : G) (rows more : List Row) → HasRows (kind_of G.state G.ended) self.old start rows stage.old → Stops (kind_of G.state G.ended) (asked_of self.old) start (rows ++ more) stage.new) }
+        ensures refused { IfErr result (OnRefused (λ fault. (start : G) (rows more : List Row) → HasRows (kind_of G.state G.ended) self.old start rows stage.old → IsRefused (asked_of self.old) (rows ++ more) fault)) }
+        ensures handed { OnOk result (HoldsNoPiece self.new.sink) }
+        ensures count { self.new.put ≡ self.old.put }
+        ensures streams { KeepsNone self.old → KeepsNone self.new }
+        ensures goes { G.goes stage.old stage.new }
+        ensures later { G.faults stage.old ≤ G.faults stage.new }
+        ensures failed { IsErrOf result OutputFault.Failed → Rose (G.faults stage.old) (G.faults stage.new) }
+    {
+        self.sink.hand_on(&mut self.spare, stage)
+    }
+
+    /// Whether each later row is dropped, whatever it holds.
+    pub fn drops_all(&self) -> bool
+        ensures { IsTrue result ↔ DropsAll self.now }
+    {
+        match &self.kept {
+            Kept::All => false,
+            Kept::Ordered(orderer) => lets_all_go(&self.order, orderer),
+        }
+    }
+
+    /// Counts a row as put, which nobody made, where each is dropped. The stage stays as it is.
+    pub fn skip<G: Stage>(&mut self, stage: &G)
+        requires room { self.old.put < 2 ^ 63 }
+        requires drops { DropsAll self.old }
+        ensures asked { asked_of self.new ≡ asked_of self.old }
+        ensures has { (start : G) (rows : List Row) (row : Row) → HasRows (kind_of G.state G.ended) self.old start rows stage.now → HasRows (kind_of G.state G.ended) self.new start (rows ++ row ∷ []) stage.now }
+        ensures count { self.new.put ≡ self.old.put + 1 }
+        ensures streams { KeepsNone self.old → KeepsNone self.new }
+    {
+        self.put += 1;
     }
 
     /// Writes what an order has kept, and ends all outputs.

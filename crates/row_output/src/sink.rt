@@ -7,7 +7,7 @@ ghost use Rattle.order_top.specs.Finish.{Row};
 ghost use Rattle.text_output.specs.Output.{kind_of, GainsFront};
 ghost use Rattle.row_output.specs.Asked.{columns_for};
 ghost use Rattle.row_output.specs.Rows.{HoldsAt, IsRefusedAt, StandardHolds, StopsAt, standard_at};
-ghost use Rattle.row_output.specs.Sinks.{HoldsLittle, IsNewSink, IsOpened, IsStandard, IsUnplaced, HasSinkRows, HasStandardRows, files_for, files_in, purpose_of, sink_text};
+ghost use Rattle.row_output.specs.Sinks.{HoldsLittle, HoldsNoPiece, IsNewSink, IsOpened, IsStandard, IsUnplaced, HasSinkRows, HasStandardRows, files_for, files_in, purpose_of, sink_text};
 ghost use Rattle.row_output.specs.FileRows.{OnRefused};
 
 use crate::fault::put_fault;
@@ -125,6 +125,30 @@ impl Sink {
                 Err(fault) => Err(put_fault(fault)),
             },
             Sink::Files(files) => files.put(row, spare, stage),
+        }
+    }
+
+    /// Hands on the whole pieces of standard output's text. A file holds back less than one behind each row.
+    pub(crate) fn hand_on<G: Stage>(
+        &mut self,
+        spare: &mut Bytes,
+        stage: &mut G,
+    ) -> Result<(), OutputFault>
+        ensures purpose { purpose_of self.new ≡ purpose_of self.old }
+        ensures has { OnOk result ((start : G) (rows : List Row) → HasSinkRows (kind_of G.state G.ended) self.old start rows stage.old → HasSinkRows (kind_of G.state G.ended) self.new start rows stage.new) }
+        ensures stop { OnErr result ((start : G) (rows more : List Row) → HasSinkRows (kind_of G.state G.ended) self.old start rows stage.old → StopsAt (files_in self.old) (kind_of G.state G.ended) (sink_text self.old) start (rows ++ more) stage.new) }
+        ensures refused { IfErr result (OnRefused (λ fault. (start : G) (rows more : List Row) → HasSinkRows (kind_of G.state G.ended) self.old start rows stage.old → IsRefusedAt (files_in self.old) (rows ++ more) fault)) }
+        ensures handed { OnOk result (HoldsNoPiece self.new) }
+        ensures goes { G.goes stage.old stage.new }
+        ensures later { G.faults stage.old ≤ G.faults stage.new }
+        ensures failed { IsErrOf result OutputFault.Failed → Rose (G.faults stage.old) (G.faults stage.new) }
+    {
+        match self {
+            Sink::Standard(standard) => match standard.text.hand_on(spare, stage) {
+                Ok(()) => Ok(()),
+                Err(fault) => Err(put_fault(fault)),
+            },
+            Sink::Files(_) => Ok(()),
         }
     }
 

@@ -1,5 +1,5 @@
 // How groups take records.
-ghost use Rattle.std.specs.Prelude.{◌≡◌, ◌≤◌, ◌<◌, ◌+◌, ◌^◌, ◌++◌, ◌∷◌, [], ℕ, List, OnOk, OnErr, IsErrOf};
+ghost use Rattle.std.specs.Prelude.{◌≡◌, ◌≤◌, ◌<◌, ◌+◌, ◌^◌, ◌++◌, ◌∷◌, [], ℕ, List, ⊤, OnOk, OnErr, IsErrOf};
 ghost use Rattle.std.proofs.Common.{◌∙◌};
 ghost use Rattle.log_reading.specs.Found.{rows_met};
 ghost use Rattle.row_steps.specs.Gathered.{Gathers, gathered_at, gathers_none, gathers_more_met};
@@ -28,6 +28,9 @@ impl<P: Picker + Drop, G: Stage> Taker<G> for GroupRows<P> {
     ghost faults = { G.faults };
 
     ghost goes = { G.goes };
+
+    // nothing goes on before the end
+    ghost handed_on = { λ s u. ⊤ };
 
     ghost goes_nowhere = { G.goes_nowhere };
 
@@ -85,6 +88,10 @@ impl<P: Picker + Drop, G: Stage> Taker<G> for GroupRows<P> {
         columns: &Option<Columns>,
         stage: &mut G,
     ) -> Result<(), TakeFault> {
+        Ok(())
+    }
+
+    fn hand_on(&mut self, stage: &mut G) -> Result<(), TakeFault> {
         Ok(())
     }
 

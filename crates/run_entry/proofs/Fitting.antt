@@ -5,19 +5,22 @@ use Rattle.std.specs.List.{AllByRecursion}
 use Rattle.std.specs.Str.{IsUtf8}
 use Rattle.std.proofs.lemmas.Bool.{eqb-false, ltb-false}
 use Rattle.std.proofs.lemmas.List.{length-map}
+use Rattle.std.proofs.lemmas.List.Elements.{recursion_from_All}
 use Rattle.jiff_core.proofs.SignedLemmas.{signed_arith}
 use Rattle.lp_model.specs.Names.{has_good_parts}
-use Rattle.ledger_model.specs.Entries.{Output}
-use Rattle.ledger_model.specs.Layouts.{AllFit}
-use Rattle.ledger_model.specs.Grammar.{IsEntry, IsMoment, IsName, IsNew, output_layout, span_layout, text_field}
+use Rattle.ledger.specs.Written.{kept_of}
+use Rattle.ledger_model.specs.Entries.{Kept, Output}
+use Rattle.ledger_model.specs.Layouts.{AllFit, field}
+use Rattle.ledger_model.specs.Grammar.{IsEntry, IsKept, IsMoment, IsName, IsNew, kept_bytes, list_layout, output_layout, span_layout, text_field}
 use Rattle.lp_outside.specs.declared.name.NameFault.TheVariants.{Empty, TooLong, BadPart}
 use Rattle.command_words.specs.Table.{IsInRange}
-use Rattle.execution.specs.Executed.{IsMoment as IsRunMoment}
+use Rattle.program_meaning.specs.Executed.{IsMoment as IsRunMoment}
+use Rattle.lp_values.specs.declared.value.Value.{Value}
 use Rattle.log_reading.specs.declared.span.Took.{Took}
 use Rattle.query_run.specs.declared.executing.Counts.{Counts}
 use Rattle.text_output.specs.declared.target.Output.{Output as Written}
 use Rattle.run_entry.specs.Entries.{Request, entry_for, kept_output, kept_span}
-use Rattle.run_entry.specs.Forms.{AreOutputs, HasForm, IsFileName, IsNewName, IsOutput, IsTook}
+use Rattle.run_entry.specs.Forms.{AreKeptLists, AreOutputs, HasForm, IsFileName, IsKeptList, IsKeptValue, IsNewName, IsOutput, IsTook}
 use Rattle.run_entry.proofs.Telling.{input_short, is_input}
 
 -- names
@@ -59,6 +62,18 @@ spans_fit : (before : List _) (took : List Took) → AllByRecursion IsTook took 
 spans_fit before [] all = tt
 spans_fit before (one ∷ more) all = (span_fits one all.0, spans_fit (before ++ kept_span one ∷ []) more all.1)
 
+-- lists
+values_fit : (before : List Kept) (values : List Value) → AllByRecursion IsKeptValue values → AllFit (λ (some : List Kept). field IsKept kept_bytes) before (map kept_of values)
+values_fit before [] all = tt
+values_fit before (value ∷ values) all = (all.0, values_fit (before ++ kept_of value ∷ []) values all.1)
+
+list_fits : (list : List Value) → IsKeptList list → list_layout.Fits (map kept_of list)
+list_fits list is = (omega (arith, length-map list kept_of, is.few), values_fit [] list (recursion_from_All IsKeptValue list is.values))
+
+lists_fit : (before : List (List Kept)) (lists : List (List Value)) → AllByRecursion IsKeptList lists → AllFit (λ (some : List (List Kept)). list_layout) before (map (map kept_of) lists)
+lists_fit before [] all = tt
+lists_fit before (list ∷ lists) all = (list_fits list all.0, lists_fit (before ++ map kept_of list ∷ []) lists all.1)
+
 -- outputs, each with a name that those before it don't have
 
 new_more : (before : List Output) (one : Output) (name : List ℕ) → IsNew before name → one.name ≢ name → IsNew (before ++ one ∷ []) name
@@ -92,15 +107,15 @@ all_new (output ∷ outputs) = (tt, all_new outputs)
 moment_fits : (moment : ℤ) → IsRunMoment moment → IsMoment moment
 moment_fits moment is = let before = is.1 in (is.0, omega (arith, signed_arith))
 
-pub entry_fits : (request : Request) (took : List Took) (outputs : List Written) (staged : ℕ) (counts : Counts) → IsInRange request.spec → IsRunMoment request.moment → HasForm request took outputs staged counts → IsEntry (entry_for request took outputs staged counts)
-entry_fits request took outputs staged counts range moment has =
+pub entry_fits : (request : Request) (lists : List (List Value)) (took : List Took) (outputs : List Written) (staged : ℕ) (counts : Counts) → IsInRange request.spec → IsRunMoment request.moment → HasForm request lists took outputs staged counts → IsEntry (entry_for request lists took outputs staged counts)
+entry_fits request lists took outputs staged counts range moment has =
     let asked = has.request_fits in record {
       fits = (
         (refl, (moment_fits request.moment moment, (input_short request.spec request.q, is_input request.spec request.q range))),
         (
           ((asked.few_words, words_fit [] request.spec.words asked.words asked.short_words), ((omega (arith, asked.short_text), asked.text), (omega (arith, asked.short_template), tt))),
           (
-            ((omega (arith, length-map took kept_span, has.few_spans), spans_fit [] took has.spans), (omega arith, tt)),
+            ((omega (arith, length-map took kept_span, has.few_spans), spans_fit [] took has.spans), (omega (arith, length-map lists (map kept_of), has.kept.few), lists_fit [] lists (recursion_from_All IsKeptList lists has.kept.each))),
             (
               has.staged,
               (

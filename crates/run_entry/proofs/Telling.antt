@@ -11,7 +11,7 @@ use Rattle.command_words.specs.declared.spec.Spec.{Spec}
 use Rattle.command_words.specs.Formats.{input_name}
 use Rattle.command_words.specs.Separators.{IsSeparator as IsByte}
 use Rattle.command_words.specs.Table.{IsInRange}
-use Rattle.execution.specs.Formats.{format_of, input_of, lines_in, log_format}
+use Rattle.program_meaning.specs.Formats.{format_of, input_of, lines_in, log_format}
 use Rattle.program_meaning.specs.Inputs.{format_as, separator_as, is_numbers, input_for, separator_in, front_of, lines_as, format_in}
 
 -- the words of formats

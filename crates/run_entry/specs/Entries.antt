@@ -1,9 +1,11 @@
 -- What an entry has of a run.
-use Rattle.std.specs.Prelude.{ℕ, ℤ, List, [], map}
+use Rattle.std.specs.Prelude.{ℕ, ℤ, List, map}
 use Rattle.grammar.specs.Trees.{Query}
+use Rattle.ledger.specs.Written.{kept_of}
 use Rattle.ledger_model.specs.Entries.{Entry, Output, Span}
 use Rattle.ledger_model.specs.Inputs.{input_text}
 use Rattle.ledger_model.specs.Standings.{standing_layout}
+use Rattle.lp_values.specs.declared.value.Value.{Value}
 use Rattle.command_words.specs.declared.spec.Spec.{Spec}
 use Rattle.log_reading.specs.declared.span.Took.{Took}
 use Rattle.text_output.specs.declared.target.Output.{Output as Written}
@@ -18,7 +20,7 @@ kept_span took = record { identity = took.identity; from = took.from; to = took.
 abbrev pub kept_output : Written → Output
 kept_output output = record { name = output.name; base = output.base; size = output.mark.length; last = output.mark.last }
 
--- what a run was asked: its options, its query, the query's text, the template's bytes, and the moment
+-- what a run was asked: its options, its query as it stands, the query's text, the template's bytes, and the moment
 pub record Request : Type 0 where
   pub spec : Spec
   pub q : Query
@@ -26,9 +28,9 @@ pub record Request : Type 0 where
   pub template : List ℕ
   pub moment : ℤ
 
--- the entry of a run that took this of its logs, wrote these outputs and so many bytes of the stage
-abbrev pub entry_for : Request → List Took → List Written → ℕ → Counts → Entry
-entry_for request took outputs staged counts = record {
+-- the entry of a run whose subqueries gave these lists, that took this of its logs, wrote these outputs and so many bytes of the stage
+abbrev pub entry_for : Request → List (List Value) → List Took → List Written → ℕ → Counts → Entry
+entry_for request lists took outputs staged counts = record {
   form = 1;
   moment = request.moment;
   input = input_text (input_for request.spec request.q);
@@ -36,7 +38,7 @@ entry_for request took outputs staged counts = record {
   query = request.text;
   template = request.template;
   spans = map kept_span took;
-  lists = [];
+  lists = map (map kept_of) lists;
   staged = staged;
   outputs = map kept_output outputs;
   processed = counts.processed;

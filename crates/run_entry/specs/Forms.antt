@@ -1,10 +1,13 @@
 -- When the entry of a run may be written.
-use Rattle.std.specs.Prelude.{◌≡◌, ◌≢◌, ℕ, ◌+◌, ◌<◌, ◌≤◌, ◌^◌, List, [], ◌∷◌, length, None}
+use Rattle.std.specs.Prelude.{◌≡◌, ◌≢◌, ℕ, ◌+◌, ◌<◌, ◌≤◌, ◌^◌, List, [], ◌∷◌, length, All, None}
 use Rattle.std.specs.Bool.{⊤}
 use Rattle.std.specs.List.{AllByRecursion}
 use Rattle.std.specs.Str.{IsUtf8}
+use Rattle.ledger.specs.Written.{kept_of}
+use Rattle.ledger_model.specs.Grammar.{IsKept}
 use Rattle.ledger_model.specs.Standings.{standing_layout}
 use Rattle.lp_outside.specs.NameFault.{name_fault}
+use Rattle.lp_values.specs.declared.value.Value.{Value}
 use Rattle.log_reading.specs.declared.span.Took.{Took}
 use Rattle.query_run.specs.declared.executing.Counts.{Counts}
 use Rattle.text_output.specs.declared.target.Output.{Output as Written}
@@ -38,6 +41,20 @@ abbrev pub AreOutputs : List Written → Type 0
 AreOutputs [] = ⊤
 AreOutputs (output ∷ outputs) = IsOutput output × IsNewName output.name outputs × AreOutputs outputs
 
+-- a value that an entry may keep
+abbrev pub IsKeptValue : Value → Type 0
+IsKeptValue value = IsKept (kept_of value)
+
+-- and a list of them
+pub record IsKeptList (list : List Value) : Type 0 where
+  pub few : length list < 2 ^ 64
+  pub values : All IsKeptValue list
+
+-- the lists of all subqueries
+pub record AreKeptLists (lists : List (List Value)) : Type 0 where
+  pub few : length lists < 2 ^ 32
+  pub each : All IsKeptList lists
+
 -- what was asked has its form
 pub record IsRequest (request : Request) : Type 0 where
   pub words : AllByRecursion IsUtf8 request.spec.words
@@ -53,10 +70,11 @@ pub record AreCounts (counts : Counts) : Type 0 where
   pub output : counts.output < 2 ^ 64
   pub bad : counts.bad < 2 ^ 64
 
-pub record HasForm (request : Request) (took : List Took) (written : List Written) (bytes : ℕ) (numbers : Counts) : Type 0 where
+pub record HasForm (request : Request) (lists : List (List Value)) (took : List Took) (written : List Written) (bytes : ℕ) (numbers : Counts) : Type 0 where
   pub request_fits : IsRequest request
   pub spans : AllByRecursion IsTook took
   pub few_spans : length took ≤ 100_000
+  pub kept : AreKeptLists lists
   pub outputs : AreOutputs written
   pub few_outputs : length written ≤ 10_000
   pub staged : bytes < 2 ^ 64

@@ -1,2 +1,22 @@
 pub mod Entries
 pub mod Forms
+pub use Rattle.program_meaning.specs.Built
+pub use Rattle.program_meaning.specs.Executed
+pub use Rattle.program_meaning.specs.Faults
+pub use Rattle.program_meaning.specs.Formats
+pub use Rattle.program_meaning.specs.Outputs
+pub use Rattle.program_meaning.specs.Plans
+pub use Rattle.program_meaning.specs.Texts
+pub use Rattle.program_meaning.specs.Ran
+pub use Rattle.program_meaning.specs.RunFault
+pub use Rattle.program_meaning.specs.LogFormat
+pub use Rattle.program_meaning.specs.Asked as ProgramMeaningAsked
+pub use Rattle.program_meaning.specs.Gives
+pub use Rattle.program_meaning.specs.Inputs
+pub use Rattle.program_meaning.specs.Lists
+pub use Rattle.program_meaning.specs.Meaning
+pub use Rattle.program_meaning.specs.Giving
+pub use Rattle.program_meaning.specs.Listing
+pub use Rattle.program_meaning.specs.SubqueriesReading
+pub use Rattle.program_meaning.specs.Refusing
+pub use Rattle.program_meaning.specs.SubqueryFault

@@ -7,9 +7,9 @@ ghost use Rattle.run_entry.specs.Entries.{entry_for, kept_output, kept_span};
 
 use crate::input_text;
 use command_words::Spec;
-use ledger::{Entry, EntrySpan, EntrySpanList, ListValues, OutputList};
+use ledger::{Entry, EntrySpan, EntrySpanList, OutputList};
 use log_reading::Took;
-use lp_values::{Bytes, Text, copy_texts};
+use lp_values::{Bytes, RowList, Text, copy_texts};
 use query_run::Counts;
 use query_tree::Query;
 use std::alloc::{AllocError, Global};
@@ -65,7 +65,7 @@ fn kept_outputs(alloc: Global, outputs: &[Output]) -> Result<OutputList, AllocEr
     Ok(kept)
 }
 
-/// The entry of a run: what it was asked, what it took of its logs, and what it wrote.
+/// The entry of a run: what it was asked, the lists that its subqueries gave, what it took of its logs, and what it wrote.
 pub fn entry_of_run(
     alloc: Global,
     spec: &Spec,
@@ -73,13 +73,14 @@ pub fn entry_of_run(
     text: Text,
     template: Bytes,
     moment: i64,
+    lists: RowList,
     took: &[Took],
     outputs: &[Output],
     staged: u64,
     counts: &Counts,
 ) -> Result<Entry, AllocError>
     requires range { IsInRange spec.now }
-    ensures { IfOk result (λ entry. entry_of entry ≡ entry_for (record { spec = spec.now; q = query_of query.now; text = text; template = template; moment = moment }) took.now outputs.now staged counts.now) }
+    ensures { IfOk result (λ entry. entry_of entry ≡ entry_for (record { spec = spec.now; q = query_of query.now; text = text; template = template; moment = moment }) lists took.now outputs.now staged counts.now) }
 {
     Ok(Entry {
         form: FORM,
@@ -89,7 +90,7 @@ pub fn entry_of_run(
         query: text,
         template,
         spans: kept_spans(alloc, took)?,
-        lists: ListValues::new(alloc),
+        lists,
         staged,
         outputs: kept_outputs(alloc, outputs)?,
         processed: counts.processed,

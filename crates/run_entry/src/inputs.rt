@@ -7,9 +7,9 @@ ghost use Rattle.program_meaning.specs.Inputs.{format_as, input_for, is_numbers,
 ghost use Rattle.query_tree.specs.Views.{query_of};
 
 use command_words::{InputFormat, Rotation, Spec};
-use execution::input_of;
 use ledger::InputText;
 use lp_values::Text;
+use program_meaning::input_of;
 use query_tree::Query;
 use std::alloc::{AllocError, Global};
 

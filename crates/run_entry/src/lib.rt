@@ -11,3 +11,6 @@ mod laws;
 pub use entries::entry_of_run;
 pub use inputs::input_text;
 pub use laws::{entries_have_their_form, input_texts_tell_their_format};
+pub use program_meaning::{
+    Ran, RunFault, SubqueryFault, execute, is_standard, output_of, reads_stdin, run_subqueries,
+};

@@ -1,5 +1,5 @@
 // How a grouped query takes records.
-ghost use Rattle.std.specs.Prelude.{IsSome};
+ghost use Rattle.std.specs.Prelude.{IsSome, ⊤};
 ghost use Rattle.log_reading.specs.Found.{rows_met};
 ghost use Rattle.text_output.specs.Output.{kind_of};
 ghost use Rattle.sampled_groups.specs.Taking.{StopsGroups, TakesGroups, more_taken, none_taken, stops_behind, stops_there};
@@ -23,6 +23,9 @@ impl<'a, G: Stage> Taker<G> for GroupTaker<'a> {
     ghost faults = { G.faults };
 
     ghost goes = { G.goes };
+
+    // nothing goes on before the end
+    ghost handed_on = { λ s u. ⊤ };
 
     ghost goes_nowhere = { G.goes_nowhere };
 
@@ -51,6 +54,10 @@ impl<'a, G: Stage> Taker<G> for GroupTaker<'a> {
         stage: &mut G,
     ) -> Result<(), TakeFault> {
         self.rows.end_log(alloc, identity, columns, stage)
+    }
+
+    fn hand_on(&mut self, stage: &mut G) -> Result<(), TakeFault> {
+        Ok(())
     }
 
     ghost takes_none = { λ s w. none_taken (kind_of G.state G.ended) s w };

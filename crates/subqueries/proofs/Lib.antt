@@ -1,8 +1,11 @@
 pub mod Wholes
-pub mod Given
+pub mod Gave
 pub mod Valued
 pub mod Read
 pub mod Parts
+pub mod Clashing
 pub mod Found
 pub mod Split
 pub mod Steps
+pub use Rattle.execution.proofs.FormatLemmas
+pub use Rattle.list_run.proofs.Alike

@@ -1,6 +1,6 @@
 -- The logs that FROM names list, as spans.
-use Rattle.std.proofs.Common.{◌≡◌, ℕ, ◌<◌, ◌≤◌, List, length, get_or, map, All, false, Option, Some, None, refl, sym, subst, arith}
-use Rattle.std.proofs.lemmas.List.Elements.{All-weaker}
+use Rattle.std.proofs.Common.{◌≡◌, ℕ, ◌<◌, ◌≤◌, Bool, List, length, get_or, map, All, Option, Some, None, refl, sym, subst, arith}
+use Rattle.std.proofs.lemmas.List.Elements.{All-map, All-weaker}
 use Rattle.grammar.specs.Trees as model
 use Rattle.lp_model.specs.Outside.{Folder, OnlyGrow, Told, bytes_in}
 use Rattle.lp_model.proofs.Pieces.{length_grown}
@@ -11,9 +11,10 @@ use Rattle.log_listing.specs.Lengths.{names_in as listed_names}
 use Rattle.log_listing.proofs.Grown.{lists_grown}
 use Rattle.log_listing.proofs.LengthLemmas.{length_later}
 use Rattle.log_reading.specs.declared.span.Span.{Span}
-use Rattle.log_reading.specs.Spans.{AllSpans, IsSpan, AreKept}
-use Rattle.checkpoint.specs.Wholes.{whole_spans}
-use Rattle.checkpoint.proofs.Spanning.{are_spans, are_kept, told_there}
+use Rattle.log_reading.specs.Spans.{AllSpans, IsKept, IsSpan, AreKept, cut_of}
+use Rattle.log_reading.proofs.Starting.{kept_from_start}
+use Rattle.checkpoint.specs.Wholes.{whole_span, whole_spans}
+use Rattle.checkpoint.proofs.Spanning.{are_spans, told_there}
 use Rattle.execution.specs.Executed.{OnTable, told_table}
 use Rattle.execution.specs.Formats.{lines_in}
 use Rattle.execution.specs.declared.formats.LogFormat.{LogFormat}
@@ -45,25 +46,28 @@ there_of before now logs spans wholes lengths =
     (told_there now logs (most_told now logs (λ k d here. (lengths k d here).most)))
 
 -- whole logs begin as they were kept
-kept_of : (format : LogFormat) (folder : Folder) (logs : List NameLength) (spans : List Span) → spans ≡ whole_spans logs → AreKept (lines_in format) false spans folder
-kept_of format folder logs spans wholes =
-    subst (λ (s : List Span). AreKept (lines_in format) false s folder) (sym wholes) (are_kept (lines_in format) folder logs (lines_start format))
+kept_of : (format : LogFormat) (waits : Bool) (folder : Folder) (logs : List NameLength) (spans : List Span) → spans ≡ whole_spans logs → AreKept (lines_in format) waits spans folder
+kept_of format waits folder logs spans wholes =
+    let Is : Span → Type 0 = λ span. IsKept (lines_in format) waits (cut_of folder span) span in
+    let each : All (λ (log : NameLength). Is (whole_span log)) logs = λ k d here. kept_from_start (lines_in format) waits (cut_of folder (whole_span (get_or logs k d))) (whole_span (get_or logs k d)) (lines_start format) refl refl in
+    let all : AllSpans (whole_spans logs) Is = λ k s here is. subst Is (sym is) (All-map Is whole_span logs each k s here) in
+    subst (λ (s : List Span). AreKept (lines_in format) waits s folder) (sym wholes) all
 
 -- what holds of spans that begin as their logs were kept holds of whole logs
-pub whole_told : (told : Option Folder) (format : LogFormat) (logs : List NameLength) (spans : List Span) (P : List Span → Folder → Type 0) → spans ≡ whole_spans logs
-    → Told told (λ folder. AreKept (lines_in format) false spans folder → P spans folder) → Told told (P (whole_spans logs))
-whole_told None format logs spans P wholes h = tt
-whole_told (Some folder) format logs spans P wholes h =
-    subst (λ (s : List Span). P s folder) wholes (h (kept_of format folder logs spans wholes))
+pub whole_told : (told : Option Folder) (format : LogFormat) (waits : Bool) (logs : List NameLength) (spans : List Span) (P : List Span → Folder → Type 0) → spans ≡ whole_spans logs
+    → Told told (λ folder. AreKept (lines_in format) waits spans folder → P spans folder) → Told told (P (whole_spans logs))
+whole_told None format waits logs spans P wholes h = tt
+whole_told (Some folder) format waits logs spans P wholes h =
+    subst (λ (s : List Span). P s folder) wholes (h (kept_of format waits folder logs spans wholes))
 
 -- the same of the table of a run
-pub on_whole : (told : Option Folder) (format : LogFormat) (pattern : List Piece) (logs : List NameLength) (spans : List Span) (P Q : TableColumns → Type 0) → spans ≡ whole_spans logs
-    → ((table : TableColumns) → P table → Q table) → OnTable format false pattern told spans P → OnWhole format pattern told logs Q
-on_whole told (F.Tabled format) pattern logs spans P Q wholes so h = so (table_of format) h
-on_whole None (F.Sampled options limit) pattern logs spans P Q wholes so h = tt
-on_whole (Some folder) (F.Sampled options limit) pattern logs spans P Q wholes so h =
-    subst (λ (s : List Span). Q (told_table options false limit pattern folder s)) wholes
-    (so (told_table options false limit pattern folder spans) (h (kept_of (F.Sampled options limit) folder logs spans wholes)))
+pub on_whole : (told : Option Folder) (format : LogFormat) (waits : Bool) (pattern : List Piece) (logs : List NameLength) (spans : List Span) (P Q : TableColumns → Type 0) → spans ≡ whole_spans logs
+    → ((table : TableColumns) → P table → Q table) → OnTable format waits pattern told spans P → OnWhole format waits pattern told logs Q
+on_whole told (F.Tabled format) waits pattern logs spans P Q wholes so h = so (table_of format) h
+on_whole None (F.Sampled options limit) waits pattern logs spans P Q wholes so h = tt
+on_whole (Some folder) (F.Sampled options limit) waits pattern logs spans P Q wholes so h =
+    subst (λ (s : List Span). Q (told_table options waits limit pattern folder s)) wholes
+    (so (told_table options waits limit pattern folder spans) (h (kept_of (F.Sampled options limit) waits folder logs spans wholes)))
 
 least_earlier : (before mid : Option Folder) (log : NameLength) → OnlyGrow before mid → Told mid (λ files. length (bytes_in files log.name) ≤ log.length) → Told before (λ files. length (bytes_in files log.name) ≤ log.length)
 least_earlier None mid log grow least = tt

@@ -3,3 +3,14 @@ pub mod Valuing
 pub mod Giving
 pub mod Refusing
 pub mod Reading
+pub use Rattle.execution.specs.Built
+pub use Rattle.execution.specs.Executed
+pub use Rattle.execution.specs.Faults
+pub use Rattle.execution.specs.Formats
+pub use Rattle.execution.specs.Outputs
+pub use Rattle.execution.specs.Plans
+pub use Rattle.execution.specs.Texts
+pub use Rattle.execution.specs.declared.fault.Ran
+pub use Rattle.execution.specs.declared.fault.RunFault
+pub use Rattle.execution.specs.declared.formats.LogFormat
+pub use Rattle.list_run.specs.declared.keep.Keep

@@ -1,8 +1,9 @@
 -- Why a subquery of a query gives nothing.
-use Rattle.std.specs.Prelude.{◌≡◌, ◌+◌, ℕ, ℤ, false, List, ◌∷◌, ◌++◌, Option, Some, None, Err, ⊤}
-use Rattle.grammar.specs.Filled.{PlacedGiven}
+use Rattle.std.specs.Prelude.{◌≡◌, ◌+◌, ℕ, ℤ, List, ◌∷◌, ◌++◌, Option, Some, None, Err, ⊤}
+use Rattle.grammar.specs.Filled.{PlacedGiven, asked_places}
 use Rattle.grammar.specs.Trees.{Query}
 use Rattle.lp_model.specs.Outside.{Folder, Told}
+use Rattle.lp_values.specs.declared.value.Value.{Value}
 use Rattle.command_words.specs.declared.spec.Spec.{Spec}
 use Rattle.checkpoint.specs.Wholes.{whole_spans}
 use Rattle.execution.specs.declared.formats.LogFormat.{LogFormat}
@@ -13,6 +14,7 @@ use Rattle.list_run.specs.declared.fault.ListFault.TheVariants as R
 use Rattle.log_listing.specs.declared.fault.ListFault.{ListFault}
 use Rattle.log_listing.specs.declared.fault.ListFault.TheVariants as L
 use Rattle.log_listing.specs.declared.lengths.NameLength.{NameLength}
+use Rattle.log_listing.specs.Lengths.{names_in as listed_names}
 use Rattle.log_listing.specs.Listed.{IsRefused}
 use Rattle.log_reading.specs.Page.{IsTooMany}
 use Rattle.log_reading.specs.Spans.{BadLine, bad_line, spans_bad_lines}
@@ -20,57 +22,70 @@ use Rattle.query_types.specs.declared.fault.TypeFault.{TypeFault}
 use Rattle.subqueries.specs.declared.fault.SubqueryFault.{SubqueryFault}
 use Rattle.subqueries.specs.declared.fault.SubqueryFault.TheVariants as F
 use Rattle.subqueries.specs.Giving.{AllGive, bad_of, subqueries_of}
-use Rattle.subqueries.specs.Listing.{AreListed, OnWhole, from_names}
+use Rattle.subqueries.specs.Listing.{AreListed, OnWhole, first_own, from_names, lines_wait}
+
+-- a log of it is one that the run keeps for itself: this is the first of them
+pub record IsClash (spec : Spec) (before now : Option Folder) (q : Query) (name : List ℕ) : Type 0 where
+  pub logs : List NameLength
+  pub are_listed : AreListed before now q logs
+  pub first : first_own spec.checkpoint (listed_names logs) ≡ Some name
 
 -- it has no plan over the table of its logs, by this fault
 pub record IsUnplanned (format : LogFormat) (spec : Spec) (moment : ℤ) (before now : Option Folder) (q : Query) (fault : TypeFault) : Type 0 where
   pub logs : List NameLength
   pub are_listed : AreListed before now q logs
-  pub unplanned : OnWhole format spec.ts_format now logs (λ table. subquery_plan_of table moment q ≡ Err fault)
+  pub free : first_own spec.checkpoint (listed_names logs) ≡ None
+  pub unplanned : OnWhole format (lines_wait spec) spec.ts_format now logs (λ table. subquery_plan_of table moment q ≡ Err fault)
 
 -- of the bad lines of its logs, in order, with so many before them, this is the first that is one too many
-pub record IsExceeded (format : LogFormat) (before now : Option Folder) (q : Query) (most : Option ℕ) (bad : ℕ) (line : BadLine) : Type 0 where
+pub record IsExceeded (format : LogFormat) (spec : Spec) (before now : Option Folder) (q : Query) (most : Option ℕ) (bad : ℕ) (line : BadLine) : Type 0 where
   pub logs : List NameLength
   pub are_listed : AreListed before now q logs
-  pub exceeds : Told now (λ folder. IsTooMany most bad (spans_bad_lines (lines_in format) false folder (whole_spans logs)) line)
+  pub free : first_own spec.checkpoint (listed_names logs) ≡ None
+  pub exceeds : Told now (λ folder. IsTooMany most bad (spans_bad_lines (lines_in format) (lines_wait spec) folder (whole_spans logs)) line)
 
 -- why a subquery is refused, of whose logs so many bad lines more are one too many behind so many
 abbrev pub IsRefusedWith : LogFormat → Spec → ℤ → Option Folder → Option Folder → Query → Option ℕ → ℕ → SubqueryFault → Type 0
 IsRefusedWith format spec moment before now q most bad (F.BadName fault) = IsRefused now (from_names q) (L.BadName fault)
 IsRefusedWith format spec moment before now q most bad (F.NoSuchLog name) = IsRefused now (from_names q) (L.NoSuchLog name)
 IsRefusedWith format spec moment before now q most bad F.TooManyLogs = IsRefused now (from_names q) L.TooManyLogs
+IsRefusedWith format spec moment before now q most bad (F.Clash name) = IsClash spec before now q name
 IsRefusedWith format spec moment before now q most bad (F.Plan fault) = IsUnplanned format spec moment before now q fault
-IsRefusedWith format spec moment before now q most bad (F.Bad log row) = IsExceeded format before now q most bad (bad_line log row)
+IsRefusedWith format spec moment before now q most bad (F.Bad log row) = IsExceeded format spec before now q most bad (bad_line log row)
 IsRefusedWith format spec moment before now q most bad F.Logs = ⊤
 IsRefusedWith format spec moment before now q most bad F.Memory = ⊤
 
 abbrev pub IsRefusedOne : LogFormat → Spec → ℤ → Option Folder → Option Folder → Query → Option ℕ → SubqueryFault → Type 0
 IsRefusedOne format spec moment before now q most fault = IsRefusedWith format spec moment before now q most 0 fault
 
--- of queries, behind so many bad lines, those before one gave these, and that one is refused
-pub record IsUngivenIn (format : LogFormat) (spec : Spec) (moment : ℤ) (before now : Option Folder) (qs : List Query) (bad : ℕ) (fault : SubqueryFault) : Type 0 where
+-- of queries, each with its place, behind so many bad lines, those before one gave these, and that one is refused
+pub record IsUngivenIn (format : LogFormat) (spec : Spec) (moment : ℤ) (before now : Option Folder) (qs : List Query) (places : List ℕ) (bad : ℕ) (fault : SubqueryFault) : Type 0 where
   pub front : List Query
   pub refused : Query
   pub rest : List Query
   pub parts : qs ≡ front ++ refused ∷ rest
-  pub places : List ℕ
+  pub asked : List ℕ
+  pub others : List ℕ
+  pub placed : places ≡ asked ++ others
   pub givens : List PlacedGiven
-  pub give : AllGive format spec moment before now front places givens
+  pub lists : List (List Value)
+  pub give : AllGive format spec moment before now front asked givens lists
   pub why : IsRefusedWith format spec moment before now refused spec.errors (bad + bad_of givens) fault
 
 -- why all stops there: one is refused, a call of the logs failed, or memory was refused
-abbrev pub StopsBehind : LogFormat → Spec → ℤ → Option Folder → Option Folder → List Query → ℕ → SubqueryFault → Type 0
-StopsBehind format spec moment before now qs bad F.Logs = ⊤
-StopsBehind format spec moment before now qs bad F.Memory = ⊤
-StopsBehind format spec moment before now qs bad (F.BadName fault) = IsUngivenIn format spec moment before now qs bad (F.BadName fault)
-StopsBehind format spec moment before now qs bad (F.NoSuchLog name) = IsUngivenIn format spec moment before now qs bad (F.NoSuchLog name)
-StopsBehind format spec moment before now qs bad F.TooManyLogs = IsUngivenIn format spec moment before now qs bad F.TooManyLogs
-StopsBehind format spec moment before now qs bad (F.Plan fault) = IsUngivenIn format spec moment before now qs bad (F.Plan fault)
-StopsBehind format spec moment before now qs bad (F.Bad log row) = IsUngivenIn format spec moment before now qs bad (F.Bad log row)
+abbrev pub StopsBehind : LogFormat → Spec → ℤ → Option Folder → Option Folder → List Query → List ℕ → ℕ → SubqueryFault → Type 0
+StopsBehind format spec moment before now qs places bad F.Logs = ⊤
+StopsBehind format spec moment before now qs places bad F.Memory = ⊤
+StopsBehind format spec moment before now qs places bad (F.BadName fault) = IsUngivenIn format spec moment before now qs places bad (F.BadName fault)
+StopsBehind format spec moment before now qs places bad (F.NoSuchLog name) = IsUngivenIn format spec moment before now qs places bad (F.NoSuchLog name)
+StopsBehind format spec moment before now qs places bad F.TooManyLogs = IsUngivenIn format spec moment before now qs places bad F.TooManyLogs
+StopsBehind format spec moment before now qs places bad (F.Clash name) = IsUngivenIn format spec moment before now qs places bad (F.Clash name)
+StopsBehind format spec moment before now qs places bad (F.Plan fault) = IsUngivenIn format spec moment before now qs places bad (F.Plan fault)
+StopsBehind format spec moment before now qs places bad (F.Bad log row) = IsUngivenIn format spec moment before now qs places bad (F.Bad log row)
 
 -- of the subqueries of a query
 abbrev pub StopsBy : Spec → ℤ → Option Folder → Option Folder → Query → SubqueryFault → Type 0
-StopsBy spec moment before now q fault = StopsBehind (log_format spec q) spec moment before now (subqueries_of q) 0 fault
+StopsBy spec moment before now q fault = StopsBehind (log_format spec q) spec moment before now (subqueries_of q) (asked_places q) 0 fault
 
 -- how many bad lines there may be behind so many, if not any number
 abbrev pub IsLeft : Option ℕ → ℕ → Option ℕ → Type 0

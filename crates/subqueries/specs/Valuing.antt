@@ -1,5 +1,5 @@
 -- The values of a subquery's expression over spans.
-use Rattle.std.specs.Prelude.{◌≡◌, ℤ, false, List, length, Option, Ok, ⊤}
+use Rattle.std.specs.Prelude.{◌≡◌, ℤ, Bool, List, length, Option, Ok, ⊤}
 use Rattle.grammar.specs.Trees.{Query}
 use Rattle.lp_model.specs.Outside.{Folder, Told}
 use Rattle.lp_time.specs.declared.piece.Piece.{Piece}
@@ -14,6 +14,8 @@ use Rattle.in_set.specs.Facts.{facts_of}
 use Rattle.list_run.specs.declared.fault.ListFault.{ListFault}
 use Rattle.list_run.specs.declared.fault.ListFault.TheVariants as L
 use Rattle.list_run.specs.declared.given.SampledValues.{SampledValues}
+use Rattle.list_run.specs.declared.keep.Keep.{Keep}
+use Rattle.list_run.specs.Keeping.{kept_values}
 use Rattle.list_run.specs.Lists.{values_of}
 use Rattle.list_run.specs.Rules.{kind_first}
 use Rattle.log_reading.specs.declared.span.Span.{Span}
@@ -28,17 +30,18 @@ abbrev pub HasSeparator : LogFormat → Type 0
 HasSeparator (F.Tabled format) = ⊤
 HasSeparator (F.Sampled options limit) = ¬ IsRefused options.separator
 
--- the values of a plan's rows of all records, and the bad lines
-pub record HasValues (format : LogFormat) (pattern : List Piece) (plan : Planned) (list : SampledValues) (spans : List Span) (folder : Folder) : Type 0 where
-  pub values : list.values ≡ facts_of (values_of (rows_in format false pattern (of_rows plan) folder spans))
-  pub bad : list.bad ≡ length (spans_bad (lines_in format) false folder spans)
+-- the values of a plan's rows of all records, what is kept of them, and the bad lines
+pub record HasValues (format : LogFormat) (waits : Bool) (keep : Keep) (pattern : List Piece) (plan : Planned) (list : SampledValues) (spans : List Span) (folder : Folder) : Type 0 where
+  pub values : list.values ≡ facts_of (values_of (rows_in format waits pattern (of_rows plan) folder spans))
+  pub kept : list.kept ≡ kept_values keep (values_of (rows_in format waits pattern (of_rows plan) folder spans))
+  pub bad : list.bad ≡ length (spans_bad (lines_in format) waits folder spans)
 
 -- those of the subquery's plan over a table
-pub record GivesValues (format : LogFormat) (pattern : List Piece) (told : Option Folder) (moment : ℤ) (q : Query) (list : SampledValues) (spans : List Span) (table : TableColumns) : Type 0 where
+pub record GivesValues (format : LogFormat) (waits : Bool) (keep : Keep) (pattern : List Piece) (told : Option Folder) (moment : ℤ) (q : Query) (list : SampledValues) (spans : List Span) (table : TableColumns) : Type 0 where
   pub plan : Planned
   pub is_planned : subquery_plan_of table moment q ≡ Ok plan
   pub kind : list.kind ≡ kind_first plan.kinds
-  pub has : Told told (λ folder. AreKept (lines_in format) false spans folder → HasValues format pattern plan list spans folder)
+  pub has : Told told (λ folder. AreKept (lines_in format) waits spans folder → HasValues format waits keep pattern plan list spans folder)
 
 -- why a plan isn't made
 abbrev pub unplanned : TypeFault → ListFault

@@ -11,6 +11,8 @@ pub enum SubqueryFault {
     NoSuchLog(Name),
     /// The names list more than 100,000 logs.
     TooManyLogs,
+    /// A log is the ledger or the stage of the run's checkpoint.
+    Clash(Name),
     /// The subquery doesn't fit the columns of its logs.
     Plan(TypeFault),
     /// A bad line is one too many: the log's name, and the line's number.

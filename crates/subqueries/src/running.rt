@@ -1,21 +1,24 @@
 // All subqueries of a query, one after the other.
-ghost use Rattle.std.specs.Prelude.{◌≡◌, ◌≤◌, List, [], ◌∷◌, map, IfOk, IfErr, IfSome, IsErrOf, OnOk};
+ghost use Rattle.std.specs.Prelude.{◌≡◌, ◌≤◌, ◌++◌, ℕ, List, [], ◌∷◌, codes, map, None, IfOk, IfErr, IfSome, IsErrOf, OnOk};
+ghost use Rattle.grammar.specs.Filled.{asked_places};
 ghost use Rattle.grammar.specs.Trees as model;
 ghost use Rattle.lp_model.specs.Outside.{OnlyGrow, Rose};
+ghost use Rattle.lp_outside.specs.NameFault.{name_fault};
 ghost use Rattle.command_words.specs.Table.{IsInRange};
 ghost use Rattle.query_tree.specs.Views.{placed_given, query_of};
-ghost use Rattle.subqueries.specs.Giving.{AddsGiven, AddsOne, AreGiven, subqueries_of};
+ghost use Rattle.subqueries.specs.Giving.{AddsGiven, AddsOne, GiveThese, subqueries_of};
 ghost use Rattle.subqueries.specs.Refusing.{IsLeft, StopsBehind, StopsBy};
 ghost use Rattle.subqueries.specs.Reading.{ReadsAll, ReadsOne};
 ghost use Rattle.subqueries.specs.Valuing.{HasSeparator};
 
-use crate::SubqueryFault;
 use crate::giving::give_one;
+use crate::{SubqueryFault, SubqueryValues};
 use command_words::Spec;
 use execution::{LogFormat, log_format};
 use lp_outside::Logs;
-use query_tree::{GivenList, PlacedGiven, Query};
-use std::alloc::Global;
+use lp_values::ValueList;
+use query_tree::{PlacedGiven, Query};
+use std::alloc::{AllocError, Global};
 
 // How many bad lines there may be behind so many, if not any number; none where there are too many already.
 fn most_left(errors: Option<u32>, bad: u64) -> Option<Option<u64>>
@@ -30,6 +33,19 @@ fn most_left(errors: Option<u32>, bad: u64) -> Option<Option<u64>>
     }
 }
 
+// Adds what one gave, and the list that is kept of it.
+fn add_one(
+    values: &mut SubqueryValues,
+    given: PlacedGiven,
+    list: ValueList,
+) -> Result<(), AllocError>
+    ensures givens { OnOk result (values.new.givens ≡ values.old.givens ++ given ∷ []) }
+    ensures lists { OnOk result (values.new.lists ≡ values.old.lists ++ list ∷ []) }
+{
+    values.givens.push(given)?;
+    values.lists.push(list)
+}
+
 // Adds what a query gives for a place, behind so many bad lines, and answers how many there are then.
 fn give_next<L: Logs>(
     alloc: Global,
@@ -40,28 +56,29 @@ fn give_next<L: Logs>(
     moment: i64,
     logs: &mut L,
     bad: u64,
-    givens: &mut GivenList,
+    values: &mut SubqueryValues,
 ) -> Result<u64, SubqueryFault>
     requires separator { HasSeparator format }
+    requires stage { IfSome spec.now.checkpoint (λ ledger. name_fault (ledger ++ codes ".stage") ≡ None) }
     ensures grows { OnlyGrow (L.folder logs.old) (L.folder logs.new) }
     ensures later { L.faults logs.old ≤ L.faults logs.new }
-    ensures gives { IfOk result (AddsOne format spec.now moment (L.folder logs.old) (L.folder logs.new) (query_of query.now) place (map placed_given givens.old) (map placed_given givens.new) bad) }
-    ensures stops { IfErr result (λ fault. (behind : List model.Query) → StopsBehind format spec.now moment (L.folder logs.old) (L.folder logs.new) (query_of query.now ∷ behind) bad fault) }
+    ensures gives { IfOk result (AddsOne format spec.now moment (L.folder logs.old) (L.folder logs.new) (query_of query.now) place (map placed_given values.old.givens) (map placed_given values.new.givens) values.old.lists values.new.lists bad) }
+    ensures stops { IfErr result (λ fault. (behind : List model.Query) (places : List ℕ) → StopsBehind format spec.now moment (L.folder logs.old) (L.folder logs.new) (query_of query.now ∷ behind) places bad fault) }
     ensures failed { IsErrOf result SubqueryFault.Logs → Rose (L.faults logs.old) (L.faults logs.new) }
     ensures read { ReadsOne (L.folder logs.new) (query_of query.now) (L.given logs.old) (L.given logs.new) }
 {
     let Some(most) = most_left(spec.errors, bad) else {
         return Err(SubqueryFault::Memory);
     };
-    let given = match give_one(alloc, spec, format, query, moment, logs, most) {
-        Ok(given) => given,
+    let (given, list) = match give_one(alloc, spec, format, query, moment, logs, most) {
+        Ok(one) => one,
         Err(fault) => return Err(fault),
     };
     let Some(bad) = bad.checked_add(given.bad) else {
         drop(given);
         return Err(SubqueryFault::Memory);
     };
-    match givens.push(PlacedGiven { at: place, given }) {
+    match add_one(values, PlacedGiven { at: place, given }, list) {
         Ok(()) => Ok(bad),
         Err(_) => Err(SubqueryFault::Memory),
     }
@@ -88,13 +105,14 @@ fn give_all<L: Logs>(
     moment: i64,
     logs: &mut L,
     bad: u64,
-    givens: &mut GivenList,
+    values: &mut SubqueryValues,
 ) -> Result<(), SubqueryFault>
     requires separator { HasSeparator format }
+    requires stage { IfSome spec.now.checkpoint (λ ledger. name_fault (ledger ++ codes ".stage") ≡ None) }
     ensures grows { OnlyGrow (L.folder logs.old) (L.folder logs.new) }
     ensures later { L.faults logs.old ≤ L.faults logs.new }
-    ensures gives { OnOk result (AddsGiven format spec.now moment (L.folder logs.old) (L.folder logs.new) (map query_of queries.now) places.now (map placed_given givens.old) (map placed_given givens.new)) }
-    ensures stops { IfErr result (StopsBehind format spec.now moment (L.folder logs.old) (L.folder logs.new) (map query_of queries.now) bad) }
+    ensures gives { OnOk result (AddsGiven format spec.now moment (L.folder logs.old) (L.folder logs.new) (map query_of queries.now) places.now (map placed_given values.old.givens) (map placed_given values.new.givens) values.old.lists values.new.lists) }
+    ensures stops { IfErr result (StopsBehind format spec.now moment (L.folder logs.old) (L.folder logs.new) (map query_of queries.now) places.now bad) }
     ensures failed { IsErrOf result SubqueryFault.Logs → Rose (L.faults logs.old) (L.faults logs.new) }
     ensures read { ReadsAll (L.folder logs.new) (map query_of queries.now) (L.given logs.old) (L.given logs.new) }
 {
@@ -105,28 +123,29 @@ fn give_all<L: Logs>(
         return Err(SubqueryFault::Memory);
     };
     match give_next(
-        alloc, spec, format, query, *place, moment, logs, bad, givens,
+        alloc, spec, format, query, *place, moment, logs, bad, values,
     ) {
         Ok(bad) => give_all(
-            alloc, spec, format, queries, places, moment, logs, bad, givens,
+            alloc, spec, format, queries, places, moment, logs, bad, values,
         ),
         Err(fault) => Err(fault),
     }
 }
 
 /// Runs the subqueries of a query in the order of the text, each over its own logs, whole, in the format in which the query's are
-/// read: what each gives, for the IN that asks it. Their bad lines count together.
+/// read: what each gives, for the IN that asks it, and with a checkpoint the list that is kept of it. Their bad lines count together.
 pub fn run_subqueries<L: Logs>(
     alloc: Global,
     spec: &Spec,
     query: &Query,
     moment: i64,
     logs: &mut L,
-) -> Result<GivenList, SubqueryFault>
+) -> Result<SubqueryValues, SubqueryFault>
     requires range { IsInRange spec.now }
+    requires stage { IfSome spec.now.checkpoint (λ ledger. name_fault (ledger ++ codes ".stage") ≡ None) }
     ensures grows { OnlyGrow (L.folder logs.old) (L.folder logs.new) }
     ensures later { L.faults logs.old ≤ L.faults logs.new }
-    ensures gives { IfOk result (λ givens. AreGiven spec.now moment (L.folder logs.old) (L.folder logs.new) (query_of query.now) (map placed_given givens)) }
+    ensures gives { IfOk result (λ given. GiveThese spec.now moment (L.folder logs.old) (L.folder logs.new) (query_of query.now) (map placed_given given.givens) given.lists) }
     ensures stops { IfErr result (StopsBy spec.now moment (L.folder logs.old) (L.folder logs.new) (query_of query.now)) }
     ensures failed { IsErrOf result SubqueryFault.Logs → Rose (L.faults logs.old) (L.faults logs.new) }
     ensures read { ReadsAll (L.folder logs.new) (subqueries_of (query_of query.now)) (L.given logs.old) (L.given logs.new) }
@@ -134,7 +153,7 @@ pub fn run_subqueries<L: Logs>(
     let Ok(places) = query.asked_places(alloc) else {
         return Err(SubqueryFault::Memory);
     };
-    let mut givens = GivenList::new(alloc);
+    let mut values = SubqueryValues::new(alloc);
     match give_all(
         alloc,
         spec,
@@ -144,9 +163,9 @@ pub fn run_subqueries<L: Logs>(
         moment,
         logs,
         0,
-        &mut givens,
+        &mut values,
     ) {
-        Ok(()) => Ok(givens),
+        Ok(()) => Ok(values),
         Err(fault) => Err(fault),
     }
 }

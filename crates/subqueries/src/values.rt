@@ -1,5 +1,5 @@
 // The values of a subquery's expression.
-ghost use Rattle.std.specs.Prelude.{◌≡◌, ◌≤◌, ◌+◌, length, false, IfOk, IfErr, IsErrOf, Err};
+ghost use Rattle.std.specs.Prelude.{◌≡◌, ◌≤◌, ◌+◌, length, IfOk, IfErr, IsErrOf, Err};
 ghost use Rattle.lp_model.specs.Outside.{OnlyGrow, Rose, Told};
 ghost use Rattle.query_tree.specs.Views.{query_of};
 ghost use Rattle.execution.specs.Executed.{OnTable};
@@ -16,7 +16,7 @@ use checkpoint::Spans;
 use execution::LogFormat;
 use group_planning::plan_subquery;
 use input_tables::{TableFormat, table_of};
-use list_run::{ListFault, SampledValues, gather_plan, gather_sampled};
+use list_run::{Keep, ListFault, SampledValues, gather_plan, gather_sampled};
 use log_reading::LogSource;
 use lp_time::Pattern;
 use lp_values::Kind;
@@ -52,6 +52,8 @@ fn give_tabled<L: LogSource>(
     pattern: &Pattern,
     query: &Query,
     moment: i64,
+    waits: bool,
+    keep: Keep,
     logs: &mut L,
     spans: &Spans,
     most_bad: Option<u64>,
@@ -60,11 +62,11 @@ fn give_tabled<L: LogSource>(
     requires spans { AllSpans spans.now IsSpan }
     requires readable { AreReadable L.folder L.ready logs.old spans.now }
     ensures grows { OnlyGrow (L.folder logs.old) (L.folder logs.new) }
-    ensures values { IfOk result (λ list. OnTable (F.Tabled format) false pattern.now (L.folder logs.new) spans.now (GivesValues (F.Tabled format) pattern.now (L.folder logs.new) moment (query_of query.now) list spans.now)) }
-    ensures unplanned { IfErr result (OnUnplanned (λ fault. OnTable (F.Tabled format) false pattern.now (L.folder logs.new) spans.now (λ table. subquery_plan_of table moment (query_of query.now) ≡ Err fault))) }
+    ensures values { IfOk result (λ list. OnTable (F.Tabled format) waits pattern.now (L.folder logs.new) spans.now (GivesValues (F.Tabled format) waits keep pattern.now (L.folder logs.new) moment (query_of query.now) list spans.now)) }
+    ensures unplanned { IfErr result (OnUnplanned (λ fault. OnTable (F.Tabled format) waits pattern.now (L.folder logs.new) spans.now (λ table. subquery_plan_of table moment (query_of query.now) ≡ Err fault))) }
     ensures within { IfOk result (λ list. IsWithin most_bad list.bad) }
-    ensures too_many { IfErr result (OnBad (λ line. Told (L.folder logs.new) (λ folder. AreKept (lines_in (F.Tabled format)) false spans.now folder
-        → IsTooMany most_bad 0 (spans_bad_lines (lines_in (F.Tabled format)) false folder spans.now) line))) }
+    ensures too_many { IfErr result (OnBad (λ line. Told (L.folder logs.new) (λ folder. AreKept (lines_in (F.Tabled format)) waits spans.now folder
+        → IsTooMany most_bad 0 (spans_bad_lines (lines_in (F.Tabled format)) waits folder spans.now) line))) }
     ensures given { L.given logs.new ≤ L.given logs.old + spans_size spans.now }
     ensures later_logs { L.faults logs.old ≤ L.faults logs.new }
     ensures logs { IsErrOf result ListFault.Logs → Rose (L.faults logs.old) (L.faults logs.new) }
@@ -77,23 +79,35 @@ fn give_tabled<L: LogSource>(
         Err(fault) => return Err(unplanned(fault)),
     };
     let kind = kind_first(&plan.kinds);
-    match gather_plan(alloc, format, plan, false, logs, spans.as_slice(), most_bad) {
+    match gather_plan(
+        alloc,
+        format,
+        plan,
+        keep,
+        waits,
+        logs,
+        spans.as_slice(),
+        most_bad,
+    ) {
         Ok(given) => Ok(SampledValues {
             kind,
             values: given.values,
+            kept: given.kept,
             bad: given.bad,
         }),
         Err(fault) => Err(fault),
     }
 }
 
-/// The values of a subquery's expression in the records of spans, which are read in a format; a last line without LF is taken too.
+/// The values of a subquery's expression in the records of spans, which are read in a format; what is to be kept of them in order is kept.
 pub(crate) fn give_values<L: LogSource>(
     alloc: Global,
     format: LogFormat,
     pattern: &Pattern,
     query: &Query,
     moment: i64,
+    waits: bool,
+    keep: Keep,
     logs: &mut L,
     spans: &Spans,
     most_bad: Option<u64>,
@@ -103,18 +117,18 @@ pub(crate) fn give_values<L: LogSource>(
     requires spans { AllSpans spans.now IsSpan }
     requires readable { AreReadable L.folder L.ready logs.old spans.now }
     ensures grows { OnlyGrow (L.folder logs.old) (L.folder logs.new) }
-    ensures values { IfOk result (λ list. OnTable format false pattern.now (L.folder logs.new) spans.now (GivesValues format pattern.now (L.folder logs.new) moment (query_of query.now) list spans.now)) }
-    ensures unplanned { IfErr result (OnUnplanned (λ fault. OnTable format false pattern.now (L.folder logs.new) spans.now (λ table. subquery_plan_of table moment (query_of query.now) ≡ Err fault))) }
+    ensures values { IfOk result (λ list. OnTable format waits pattern.now (L.folder logs.new) spans.now (GivesValues format waits keep pattern.now (L.folder logs.new) moment (query_of query.now) list spans.now)) }
+    ensures unplanned { IfErr result (OnUnplanned (λ fault. OnTable format waits pattern.now (L.folder logs.new) spans.now (λ table. subquery_plan_of table moment (query_of query.now) ≡ Err fault))) }
     ensures within { IfOk result (λ list. IsWithin most_bad list.bad) }
-    ensures too_many { IfErr result (OnBad (λ line. Told (L.folder logs.new) (λ folder. AreKept (lines_in format) false spans.now folder
-        → IsTooMany most_bad 0 (spans_bad_lines (lines_in format) false folder spans.now) line))) }
+    ensures too_many { IfErr result (OnBad (λ line. Told (L.folder logs.new) (λ folder. AreKept (lines_in format) waits spans.now folder
+        → IsTooMany most_bad 0 (spans_bad_lines (lines_in format) waits folder spans.now) line))) }
     ensures given { L.given logs.new ≤ L.given logs.old + spans_size spans.now }
     ensures later_logs { L.faults logs.old ≤ L.faults logs.new }
     ensures logs { IsErrOf result ListFault.Logs → Rose (L.faults logs.old) (L.faults logs.new) }
 {
     match format {
         LogFormat::Tabled(format) => give_tabled(
-            alloc, format, pattern, query, moment, logs, spans, most_bad,
+            alloc, format, pattern, query, moment, waits, keep, logs, spans, most_bad,
         ),
         LogFormat::Sampled(options, limit) => gather_sampled(
             alloc,
@@ -123,7 +137,8 @@ pub(crate) fn give_values<L: LogSource>(
             pattern,
             Moment { seconds: moment },
             query,
-            false,
+            keep,
+            waits,
             logs,
             spans.as_slice(),
             most_bad,

@@ -1,5 +1,5 @@
 -- Bytes on their way to an output.
-use Rattle.std.proofs.Common.{◌≡◌, ℕ, List, [], ◌++◌, take, drop, sym, ◌∙◌, ap, append_assoc, subst, take-append-drop}
+use Rattle.std.proofs.Common.{Result, Ok, Err, OnOk, ◌≡◌, ℕ, List, [], ◌++◌, take, drop, sym, ◌∙◌, ap, append_assoc, subst, take-append-drop}
 use Rattle.lp_model.proofs.Growing.{append-nil}
 use Rattle.text_output.specs.Output.{StageKind, OutputAt, GainsText, GainsFront, MovesText, IsUnderWay}
 use Rattle.text_output.specs.Gaining.{gains_nothing, gains_trans, front_all, front_later, front_front}
@@ -11,6 +11,11 @@ UnderWay_step Old New start a b before between after added appended (moved, gain
     let same : (done ++ before) ++ added ≡ (done ++ moved) ++ after =
     append_assoc done before added ∙ (ap (λ t. done ++ t) (sym appended ∙ parts) ∙ sym (append_assoc done moved after)) in
     (done ++ moved, gains_trans start a b done moved front gains, subst New same (step (done ++ before) text))
+
+-- some of the buffer was moved
+pub UnderWay_move : {S : Type 0} {kind : StageKind S} (HasText : List ℕ → Type 0) (start a b : OutputAt kind) (before after : List ℕ) → MovesText a b before after → IsUnderWay HasText start a before → IsUnderWay HasText start b after
+UnderWay_move HasText start a b before after (moved, gains, parts) (done, front, text) =
+    (done ++ moved, gains_trans start a b done moved front gains, subst HasText (ap (λ t. done ++ t) parts ∙ sym (append_assoc done moved after)) text)
 
 -- what stands before the rows
 pub UnderWay_start : {S : Type 0} {kind : StageKind S} (HasText : List ℕ → Type 0) (start : OutputAt kind) (buffer : List ℕ) → HasText buffer → IsUnderWay HasText start start buffer
@@ -41,3 +46,7 @@ pub all_take : {S : Type 0} {kind : StageKind S} (a b : OutputAt kind) (count : 
 all_take a b count text front is_front all =
     let Of : List ℕ → Type 0 = λ t. GainsFront a b.stage t in
     subst Of (take-append-drop count text) (front_all a b (take count text) (drop count text) (subst (λ (t : List ℕ). GainsText a b t) is_front all))
+
+pub on_ok_map : {T E : Type 0} (P Q : Type 0) (r : Result T E) → (P → Q) → OnOk r P → OnOk r Q
+on_ok_map P Q (Ok value) h p = h p
+on_ok_map P Q (Err fault) h p = tt

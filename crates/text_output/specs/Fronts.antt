@@ -37,3 +37,11 @@ front_failed text has_text begins old new fresh names rows row more start a b be
     ap (text old fresh names) (sym (append_assoc rows (row ∷ []) more)) ∙ (ap (λ t. t fresh names ((rows ++ row ∷ []) ++ more)) (sym format)
     ∙ (whole.1 ∙ ap (λ t. t ++ whole.0) here)) in
     subst (λ (t : List ℕ). GainsFront start b t) (sym same) (front_front start b (done ++ mid) whole.0 (front_later start a b done mid gains some))
+
+-- some of what was held was written
+pub front_moved : {F : Type 0} {S : Type 0} {kind : StageKind S} (text : TextOf F) (has_text : HasTextOf F) (begins : BeginsOf text has_text)
+    (shape : F) (fresh : Bool) (names : List (List ℕ)) (rows more : List (List Value)) (start a : OutputAt kind) (b : S) (before : List ℕ)
+    → IsUnderWay (has_text shape fresh names rows) start a before → GainsFront a b before → GainsFront start b (text shape fresh names (rows ++ more))
+front_moved text has_text begins shape fresh names rows more start a b before (done, gains, so_far) some =
+    let whole = begins shape fresh names rows more (done ++ before) so_far in
+    subst (λ (t : List ℕ). GainsFront start b t) (sym whole.1) (front_front start b (done ++ before) whole.0 (front_later start a b done before gains some))

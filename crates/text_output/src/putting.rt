@@ -8,8 +8,8 @@ use lp_outside::Stage;
 use lp_values::{Bytes, bytes_from, bytes_to};
 use std::mem::swap;
 
-// A stage takes pieces of a multiple of so many bytes.
-const PIECE: usize = 4096;
+/// A stage takes pieces of a multiple of so many bytes.
+pub(crate) const PIECE: usize = 4096;
 
 // Puts the whole pieces that a buffer holds, and keeps the rest, for which there is a second buffer.
 fn put_pieces<G: Stage>(

@@ -4,7 +4,7 @@ ghost use Rattle.lp_model.specs.Outside.{Rose};
 ghost use Rattle.lp_values.specs.declared.value.Value.{Value};
 ghost use Rattle.text_output.specs.Output.{kind_of, placed_at, reached, OutputAt, GainsText, GainsFront, MovesText, IsUnderWay, Spares};
 
-use crate::putting::put_full;
+use crate::putting::{PIECE, put_full};
 use crate::{Output, PutFault, Target};
 use lp_outside::Stage;
 use lp_values::{Bytes, TextList, ValueList};
@@ -73,6 +73,25 @@ impl<F: Shape + Drop> TextOutput<F> {
         };
         put_full(&mut self.target, &mut self.held, full, spare, stage)?;
         Ok(())
+    }
+
+    /// Puts the whole pieces that are held.
+    pub fn hand_on<G: Stage>(&mut self, spare: &mut Bytes, stage: &mut G) -> Result<(), PutFault>
+        ensures goes { G.goes stage.old stage.new }
+        ensures text { OnOk result ((fresh : Bool) (names : List (List ℕ)) (rows : List (List Value)) (start : OutputAt (kind_of G.state G.ended))
+            → IsUnderWay (F.has_text self.old.shape fresh names rows) start (reached (kind_of G.state G.ended) self.old.target stage.old) self.old.held
+            → IsUnderWay (F.has_text self.new.shape fresh names rows) start (reached (kind_of G.state G.ended) self.new.target stage.new) self.new.held) }
+        ensures front { OnErr result ((fresh : Bool) (names : List (List ℕ)) (rows more : List (List Value)) (start : OutputAt (kind_of G.state G.ended))
+            → IsUnderWay (F.has_text self.old.shape fresh names rows) start (reached (kind_of G.state G.ended) self.old.target stage.old) self.old.held
+            → GainsFront start stage.new (F.text self.old.shape fresh names (rows ++ more))) }
+        ensures shape { self.new.shape ≡ self.old.shape }
+        ensures small { OnOk result (length self.new.held < 4096) }
+        ensures spares { Spares (kind_of G.state G.ended) self.old.target.output self.old.target.name self.old.target.base stage.old stage.new }
+        ensures output { (self.new.target.output ≡ self.old.target.output) × (self.new.target.name ≡ self.old.target.name) × (self.new.target.base ≡ self.old.target.base) }
+        ensures later { G.faults stage.old ≤ G.faults stage.new }
+        ensures failed { IsErrOf result PutFault.Failed → Rose (G.faults stage.old) (G.faults stage.new) }
+    {
+        put_full(&mut self.target, &mut self.held, PIECE, spare, stage)
     }
 
     /// Puts what stands behind the rows, and all that is held, and ends the output.

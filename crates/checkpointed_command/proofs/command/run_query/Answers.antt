@@ -2,7 +2,7 @@ use Rattle.std.proofs.Common.{FitsSigned, w64, ◌++◌, sym, refl, subst, inl, 
 use Rattle.std.specs.Prelude.{codes}
 use Rattle.std.proofs.lemmas.Int.{to_z-of_z}
 use Rattle.lp_model.proofs.Growing.{OnlyGrow-trans}
-use Rattle.execution.specs.Texts.{sections_in}
+use Rattle.checkpointed_run.specs.Texts.{sections_in}
 use Rattle.query_tree.specs.Views.{query_of}
 use Rattle.requests.specs.Given.{query_files}
 use Rattle.requests.proofs.Given.{reads_on}

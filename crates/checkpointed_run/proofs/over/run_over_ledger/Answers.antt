@@ -1,8 +1,10 @@
-use Rattle.std.proofs.Common.{Ok, Err, FitsSigned, sym, ◌∙◌, w64}
+use Rattle.std.proofs.Common.{ℕ, Ok, Err, FitsSigned, inr, subst, sym, ◌∙◌, w64}
 use Rattle.std.proofs.lemmas.Int.{to_z-of_z}
 use Rattle.lp_model.proofs.Growing.{OnlyGrow-refl, OnlyGrow-trans}
-use Rattle.execution.specs.Texts.{sections_in}
+use Rattle.run_entry.specs.Texts.{sections_in}
+use Rattle.log_reading.specs.Spans.{spans_size}
 use Rattle.query_tree.specs.Views.{query_of}
+use Rattle.checkpointed_run.specs.Reading.{ReadsThen}
 use Rattle.checkpointed_run.specs.Staged.{request_of}
 use Rattle.checkpointed_run.specs.declared.over.LedgerStop.TheVariants as L
 use Rattle.checkpointed_run.proofs.Causes.{damage_rested, none_loaded}
@@ -67,7 +69,42 @@ returns-in-Ok-run_over_spans-clause-ran g c =
       free = sym c.clash_in.ensures ∙ c.in_default.is;
       started = stages.started;
       staged = runs.committed.comes.staged;
-      took = stages.took;
-      outputs = stages.outputs;
-      carried = stages.carried;
+      took = stages.run.took;
+      outputs = stages.run.outputs;
+      givens = stages.givens;
+      lists = stages.lists;
+      give = stages.give;
+      carried = stages.run.carried;
+    }
+
+pub returns-in-Ok-run_over_spans-clause-given : goal.returns-in-Ok-run_over_spans-clause-given
+returns-in-Ok-run_over_spans-clause-given g c = inr (record {
+  listed = g.L.Logs.folder c.spans_over.new.logs;
+  grows = c.run_over_spans.ensures.grows;
+  spans = c.in-Ok.spans;
+  has = c.in-Ok.ensures.spans;
+  free = sym c.clash_in.ensures ∙ c.in_default.is;
+  most = subst (λ (start : ℕ). ReadsThen (g.L.Logs.folder c.run_over_spans.new.logs) (query_of c.args.query.now) (spans_size c.in-Ok.spans) start (g.L.Logs.given c.run_over_spans.new.logs)) c.spans_over.ensures.given c.run_over_spans.ensures.given;
+})
+
+pub returns-clause-given : goal.returns-clause-given
+returns-clause-given g c = inr (record {
+  listed = g.L.Logs.folder c.spans_over.new.logs;
+  grows = c.run_over_spans.ensures.grows;
+  spans = c.in-Ok.spans;
+  has = c.in-Ok.ensures.spans;
+  free = sym c.clash_in.ensures ∙ c.in_default.is;
+  most = subst (λ (start : ℕ). ReadsThen (g.L.Logs.folder c.run_over_spans.new.logs) (query_of c.args.query.now) (spans_size c.in-Ok.spans) start (g.L.Logs.given c.run_over_spans.new.logs)) c.spans_over.ensures.given c.run_over_spans.ensures.given;
+})
+
+pub returns-clause-refused : goal.returns-clause-refused
+returns-clause-refused g c =
+    let range : FitsSigned w64 c.args.moment = c.ranges.moment in
+    record {
+      listed = g.L.Logs.folder c.spans_over.new.logs;
+      grows = c.run_over_spans.ensures.grows;
+      spans = c.in-Ok.spans;
+      has = c.in-Ok.ensures.spans;
+      free = sym c.clash_in.ensures ∙ c.in_default.is;
+      stops = simp to_z-of_z at c.in-Err-run_over_spans.ensures.refused;
     }

@@ -1,10 +1,8 @@
-use Rattle.std.proofs.Common.{[], ◌∷◌, ◌++◌, FitsSigned, w64}
+use Rattle.std.proofs.Common.{[], ◌∷◌, ◌++◌, refl, arith, FitsSigned, w64}
 use Rattle.std.proofs.lemmas.Int.{to_z-of_z}
 use Rattle.ledger.specs.Written.{entry_of}
-use Rattle.execution.specs.Texts.{sections_in}
-use Rattle.query_tree.specs.Views.{query_of}
-use Rattle.checkpointed_run.specs.Staged.{request_of}
-use Rattle.checkpointed_run.proofs.Causes.{damage_is, none_told, refused_for}
+use Rattle.checkpointed_run.proofs.Causes.{damage_is, none_told, not_damaged, reason_earlier}
+use Rattle.checkpointed_run.proofs.Subqueries.{reads_nothing}
 use Rattle.commit.proofs.Composing.{either_on, goes_keeps, preserves_on, same_on, settles_on}
 use Rattle.checkpointed_run.proofs.running.commit_run.Goals as goal
 
@@ -93,8 +91,22 @@ returns-in-Err-clause-undamaged g c = λ is told can. none_told c.in-Err.fault (
 pub returns-in-Err-clause-damaged : goal.returns-in-Err-clause-damaged
 returns-in-Err-clause-damaged g c = damage_is (g.D.Disk.state c.args.commit.now.disk.now) c.args.commit.now.files.ledger c.args.commit.now.files.stage c.in-Err.fault c.in-Err.ensures.fault
 
+pub returns-in-Err-clause-given : goal.returns-in-Err-clause-given
+returns-in-Err-clause-given g c = reads_nothing _ _ _ _ _ refl
+
 pub returns-in-Err-stage_run-clause-refused : goal.returns-in-Err-stage_run-clause-refused
 returns-in-Err-stage_run-clause-refused g c =
     let range : FitsSigned w64 c.args.moment = c.ranges.moment in
-    refused_for (request_of c.args.spec.now (query_of c.args.query.now) c.args.text c.args.bytes c.args.moment) (sections_in (λ t. t.value) c.args.template) _ _ c.in-Err-stage_run.fault
-    (simp to_z-of_z at c.in-Err-stage_run.ensures.refused) (simp to_z-of_z at c.in-Err-stage_run.ensures.plan) (simp to_z-of_z at c.in-Err-stage_run.ensures.parse)
+    simp to_z-of_z at c.in-Err-stage_run.ensures.refused
+
+pub returns-in-Err-stage_run-clause-behind : goal.returns-in-Err-stage_run-clause-behind
+returns-in-Err-stage_run-clause-behind g c = λ is. absurd (c.in-Err-stage_run.ensures.before is)
+
+pub returns-in-Err-stage_run-clause-undamaged : goal.returns-in-Err-stage_run-clause-undamaged
+returns-in-Err-stage_run-clause-undamaged g c = λ is told can. c.in-Err-stage_run.ensures.undamaged told
+
+pub returns-in-Err-stage_run-clause-damaged : goal.returns-in-Err-stage_run-clause-damaged
+returns-in-Err-stage_run-clause-damaged g c = not_damaged (g.D.Disk.state c.args.commit.now.disk.now) c.args.commit.now.files.ledger c.args.commit.now.files.stage c.in-Err-stage_run.stop c.in-Err-stage_run.ensures.undamaged
+
+pub returns-in-Err-stage_run-clause-reason : goal.returns-in-Err-stage_run-clause-reason
+returns-in-Err-stage_run-clause-reason g c = reason_earlier _ _ _ c.in-Err-stage_run.stop (λ rose. omega (arith, rose, c.settle.ensures.reason.later)) c.in-Err-stage_run.ensures.reason

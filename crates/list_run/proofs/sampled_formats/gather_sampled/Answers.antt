@@ -22,8 +22,8 @@ returns-clause-given_values g c =
     let spans = c.args.spans.now in
     let asked = rules_of c.args.limit c.args.pattern.now c.args.moment.seconds (query_of c.args.query.now) in
     let Of : DelimitedOptions → Type 0 = λ options. IfOk c.sample_reader.result (λ list. Told told (λ folder. AreKept (delimited_lines options) c.args.waits spans folder
-    → IsGiven asked (past_behind (delimited_lines options) c.args.waits folder nothing spans) list)) in
-    IfOk-weaker c.sample_reader.result _ _ (λ list given. told_behind asked (delimited_lines c.args.options) c.args.waits told spans (delimited_sets_once c.args.options) (λ past. IsGiven asked past list) given)
+    → IsGiven c.args.keep asked (past_behind (delimited_lines options) c.args.waits folder nothing spans) list)) in
+    IfOk-weaker c.sample_reader.result _ _ (λ list given. told_behind c.args.keep asked (delimited_lines c.args.options) c.args.waits told spans (delimited_sets_once c.args.options) (λ past. IsGiven c.args.keep asked past list) given)
     (subst Of c.in-Ok.ensures.ok c.sample_reader.ensures.given_values)
 
 pub returns-clause-unplanned : goal.returns-clause-unplanned
@@ -35,7 +35,7 @@ returns-clause-unplanned g c =
     → plan_at asked (past_behind (delimited_lines options) c.args.waits folder nothing spans) ≡ Err why))) in
     let Is : TypeFault → Type 0 = λ why. Told told (λ folder. AreKept (delimited_lines c.args.options) c.args.waits spans folder → plan_at asked (past_of (delimited_lines c.args.options) c.args.waits folder spans) ≡ Err why) in
     IfErr-weaker c.sample_reader.result _ _ (λ fault un. unplanned_so fault _ Is
-    (λ why so. told_behind asked (delimited_lines c.args.options) c.args.waits told spans (delimited_sets_once c.args.options) (λ past. plan_at asked past ≡ Err why) so) un)
+    (λ why so. told_behind c.args.keep asked (delimited_lines c.args.options) c.args.waits told spans (delimited_sets_once c.args.options) (λ past. plan_at asked past ≡ Err why) so) un)
     (subst Of c.in-Ok.ensures.ok c.sample_reader.ensures.unplanned)
 
 pub returns-clause-bad : goal.returns-clause-bad

@@ -53,10 +53,10 @@ returns-in-Ok-take_spans-clause-given_values g c =
     let format = g.R.LineReader.format c.args.reader.now in
     let told = g.L.LogSource.folder c.take_spans.new.logs in
     let fresh = subst (IsFresh c.args.limit c.args.pattern.now c.args.moment.seconds (query_of c.args.query.now)) (sym c.first_page-page.ensures.taker) c.first_sample-sample.ensures in
-    let begins = fresh_begins c.args.limit c.args.pattern.now c.args.moment.seconds (query_of c.args.query.now) c.first_page-page.result.taker fresh in
-    let taken = samples_spans list_kind format c.args.waits told c.args.spans.now c.first_page-page.result c.take_spans.new.page c.new-values.result c.take_spans.new.out c.in-Ok-take_spans.ensures.takes in
+    let begins = fresh_begins c.args.keep c.args.limit c.args.pattern.now c.args.moment.seconds (query_of c.args.query.now) c.first_page-page.result.taker fresh in
+    let taken = samples_spans list_kind format c.args.waits told c.args.spans.now c.first_page-page.result c.take_spans.new.page c.new-gathered.result c.take_spans.new.out c.in-Ok-take_spans.ensures.takes in
     IfOk-weaker c.end_sample.result _ _ (λ list given.
-    at_end asked format c.args.waits told c.args.spans.now (λ rules past. IsGiven rules past list) c.first_page-page.result c.take_spans.new.page c.new-values.result c.take_spans.new.out c.new-values.ensures.none begins taken given) c.end_sample.ensures.given
+    at_end c.args.keep asked format c.args.waits told c.args.spans.now (λ rules past. IsGiven c.args.keep rules past list) c.first_page-page.result c.take_spans.new.page c.new-gathered.result c.take_spans.new.out c.new-gathered.ensures begins taken (given c.args.keep)) c.end_sample.ensures.given
 
 pub returns-in-Ok-take_spans-clause-unplanned : goal.returns-in-Ok-take_spans-clause-unplanned
 returns-in-Ok-take_spans-clause-unplanned g c =
@@ -64,16 +64,16 @@ returns-in-Ok-take_spans-clause-unplanned g c =
     let format = g.R.LineReader.format c.args.reader.now in
     let told = g.L.LogSource.folder c.take_spans.new.logs in
     let fresh = subst (IsFresh c.args.limit c.args.pattern.now c.args.moment.seconds (query_of c.args.query.now)) (sym c.first_page-page.ensures.taker) c.first_sample-sample.ensures in
-    let begins = fresh_begins c.args.limit c.args.pattern.now c.args.moment.seconds (query_of c.args.query.now) c.first_page-page.result.taker fresh in
-    let taken = samples_spans list_kind format c.args.waits told c.args.spans.now c.first_page-page.result c.take_spans.new.page c.new-values.result c.take_spans.new.out c.in-Ok-take_spans.ensures.takes in
+    let begins = fresh_begins c.args.keep c.args.limit c.args.pattern.now c.args.moment.seconds (query_of c.args.query.now) c.first_page-page.result.taker fresh in
+    let taken = samples_spans list_kind format c.args.waits told c.args.spans.now c.first_page-page.result c.take_spans.new.page c.new-gathered.result c.take_spans.new.out c.in-Ok-take_spans.ensures.takes in
     IfErr-weaker c.end_sample.result _ _ (λ fault un.
     unplanned_so fault _ (λ why. Told told (λ folder. AreKept format c.args.waits c.args.spans.now folder → plan_at asked (past_behind format c.args.waits folder nothing c.args.spans.now) ≡ Err why))
-    (λ why so. at_end asked format c.args.waits told c.args.spans.now (λ rules past. plan_at rules past ≡ Err why) c.first_page-page.result c.take_spans.new.page c.new-values.result c.take_spans.new.out c.new-values.ensures.none begins taken so) un) c.end_sample.ensures.unplanned
+    (λ why so. at_end c.args.keep asked format c.args.waits told c.args.spans.now (λ rules past. plan_at rules past ≡ Err why) c.first_page-page.result c.take_spans.new.page c.new-gathered.result c.take_spans.new.out c.new-gathered.ensures begins taken (so c.args.keep)) un) c.end_sample.ensures.unplanned
 
 pub returns-in-Ok-take_spans-clause-bad : goal.returns-in-Ok-take_spans-clause-bad
 returns-in-Ok-take_spans-clause-bad g c =
     IfOk-weaker c.end_sample.result _ _ (λ list same.
-    bad_taken _ (g.R.LineReader.format c.args.reader.now) c.args.waits (g.L.LogSource.folder c.take_spans.new.logs) c.args.spans.now c.first_page-page.result c.take_spans.new.page c.new-values.result c.take_spans.new.out
+    bad_taken _ (g.R.LineReader.format c.args.reader.now) c.args.waits (g.L.LogSource.folder c.take_spans.new.logs) c.args.spans.now c.first_page-page.result c.take_spans.new.page c.new-gathered.result c.take_spans.new.out
     list.bad same c.first_page-page.ensures.bad c.in-Ok-take_spans.ensures.takes) c.end_sample.ensures.bad
 
 pub returns-in-Ok-take_spans-clause-within : goal.returns-in-Ok-take_spans-clause-within
@@ -97,11 +97,11 @@ returns-clause-unplanned g c =
     let format = g.R.LineReader.format c.args.reader.now in
     let told = g.L.LogSource.folder c.take_spans.new.logs in
     let fresh = subst (IsFresh c.args.limit c.args.pattern.now c.args.moment.seconds (query_of c.args.query.now)) (sym c.first_page-page.ensures.taker) c.first_sample-sample.ensures in
-    let begins = fresh_begins c.args.limit c.args.pattern.now c.args.moment.seconds (query_of c.args.query.now) c.first_page-page.result.taker fresh in
+    let begins = fresh_begins c.args.keep c.args.limit c.args.pattern.now c.args.moment.seconds (query_of c.args.query.now) c.first_page-page.result.taker fresh in
     let Is : TypeFault → Type 0 = λ why. Told told (λ folder. AreKept format c.args.waits c.args.spans.now folder → plan_at asked (past_behind format c.args.waits folder nothing c.args.spans.now) ≡ Err why) in
     subst (OnUnplanned Is) (sym c.fault_in-why.ensures)
-    (unplanned_reading asked format c.args.waits told c.args.spans.now c.first_page-page.result c.take_spans.new.page c.new-values.result c.take_spans.new.out c.in-Err.fault c.new-values.ensures.none begins
-    (halts_spans list_kind format c.args.waits told c.args.spans.now c.first_page-page.result.taker c.take_spans.new.page.taker c.new-values.result c.take_spans.new.out c.in-Err.ensures.stops))
+    (unplanned_reading c.args.keep asked format c.args.waits told c.args.spans.now c.first_page-page.result c.take_spans.new.page c.new-gathered.result c.take_spans.new.out c.in-Err.fault c.new-gathered.ensures begins
+    (halts_spans list_kind format c.args.waits told c.args.spans.now c.first_page-page.result.taker c.take_spans.new.page.taker c.new-gathered.result c.take_spans.new.out c.in-Err.ensures.stops))
 
 pub returns-clause-too_many : goal.returns-clause-too_many
 returns-clause-too_many g c =

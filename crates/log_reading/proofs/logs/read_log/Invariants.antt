@@ -17,6 +17,7 @@ invariant-log g l = record {
   read : (waits : Bool) → HasRead g.T.Taker.takes (g.R.LineReader.format l.reader) l.span.identity waits (g.L.LogSource.folder l.logs) l.span.name l.span.listed l.initial.page l.page l.initial.out l.out;
   fits : l.page.splitter.place + length l.page.splitter.left ≤ l.span.listed;
   last : length l.page.splitter.left ≤ position_or_len is_lf l.page.splitter.left;
+  handed : g.T.Taker.handed_on l.page.taker l.out;
   within : IsWithin l.page.most_bad l.page.bad;
   most : l.page.most_bad ≡ l.initial.page.most_bad;
   room : HasRoom g.T.Taker.count l.page (l.span.listed - l.page.splitter.place + 1);

@@ -154,14 +154,14 @@ pub returns-in_default-clause-ahead : goal.returns-in_default-clause-ahead
 returns-in_default-clause-ahead g c =
     let page = c.args.page.now in
     let w = c.args.out.now in
-    span_unread g.T.Taker.takes g.T.Taker.goes (g.R.LineReader.format c.args.reader.now) c.args.waits _ c.args.span.now _ _ page.taker w (g.met.T.Taker.takes_none page.taker w) (g.met.T.Taker.goes_nowhere w) c.requires.start
+    span_unread g.T.Taker.takes g.T.Taker.goes g.T.Taker.handed_on (g.R.LineReader.format c.args.reader.now) c.args.waits _ c.args.span.now _ _ page.taker w (g.met.T.Taker.takes_none page.taker w) (g.met.T.Taker.goes_nowhere w) c.requires.handed c.requires.start
 
 pub returns-in_err-read_log-clause-ahead : goal.returns-in_err-read_log-clause-ahead
 returns-in_err-read_log-clause-ahead g c =
     let first = c.start_log.new.page in
     let began = c.in-Ok.ensures in
     let start : IsStart c.args.span.now first = record { place = began.place; left = began.left; standing = began.standing } in
-    span_ahead g.T.Taker.takes g.T.Taker.goes g.met.T.Taker.takes_none g.met.T.Taker.takes_more g.met.T.Taker.goes_on (g.R.LineReader.format c.args.reader.now) c.args.waits _ c.args.span.now _ _ _ c.args.page.now first _ _ _
+    span_ahead g.T.Taker.takes g.T.Taker.goes g.T.Taker.handed_on g.met.T.Taker.takes_none g.met.T.Taker.takes_more g.met.T.Taker.goes_on (g.R.LineReader.format c.args.reader.now) c.args.waits _ c.args.span.now _ _ _ c.args.page.now first _ _ _
     start began.taker c.requires.start c.in_err-read_log.ensures.ahead (g.met.T.Taker.goes_nowhere _)
 
 pub returns-in-Ok-finish_log-clause-ahead : goal.returns-in-Ok-finish_log-clause-ahead
@@ -169,7 +169,7 @@ returns-in-Ok-finish_log-clause-ahead g c =
     let first = c.start_log.new.page in
     let began = c.in-Ok.ensures in
     let start : IsStart c.args.span.now first = record { place = began.place; left = began.left; standing = began.standing } in
-    span_ahead g.T.Taker.takes g.T.Taker.goes g.met.T.Taker.takes_none g.met.T.Taker.takes_more g.met.T.Taker.goes_on (g.R.LineReader.format c.args.reader.now) c.args.waits _ c.args.span.now _ _ _ c.args.page.now first _ _ _
+    span_ahead g.T.Taker.takes g.T.Taker.goes g.T.Taker.handed_on g.met.T.Taker.takes_none g.met.T.Taker.takes_more g.met.T.Taker.goes_on (g.R.LineReader.format c.args.reader.now) c.args.waits _ c.args.span.now _ _ _ c.args.page.now first _ _ _
     start began.taker c.requires.start c.in_ok-read_log.ensures.ahead c.in-Ok-finish_log.ensures.goes
 
 pub returns-in-Err-Memory-clause-ahead : goal.returns-in-Err-Memory-clause-ahead
@@ -177,7 +177,7 @@ returns-in-Err-Memory-clause-ahead g c =
     let first = c.start_log.new.page in
     let began = c.in-Ok.ensures in
     let start : IsStart c.args.span.now first = record { place = began.place; left = began.left; standing = began.standing } in
-    span_ahead g.T.Taker.takes g.T.Taker.goes g.met.T.Taker.takes_none g.met.T.Taker.takes_more g.met.T.Taker.goes_on (g.R.LineReader.format c.args.reader.now) c.args.waits _ c.args.span.now _ _ _ c.args.page.now first _ _ _
+    span_ahead g.T.Taker.takes g.T.Taker.goes g.T.Taker.handed_on g.met.T.Taker.takes_none g.met.T.Taker.takes_more g.met.T.Taker.goes_on (g.R.LineReader.format c.args.reader.now) c.args.waits _ c.args.span.now _ _ _ c.args.page.now first _ _ _
     start began.taker c.requires.start c.in_ok-read_log.ensures.ahead c.in-Err-Memory.ensures.goes
 
 pub returns-in-Err-Failed-clause-ahead : goal.returns-in-Err-Failed-clause-ahead
@@ -185,7 +185,7 @@ returns-in-Err-Failed-clause-ahead g c =
     let first = c.start_log.new.page in
     let began = c.in-Ok.ensures in
     let start : IsStart c.args.span.now first = record { place = began.place; left = began.left; standing = began.standing } in
-    span_ahead g.T.Taker.takes g.T.Taker.goes g.met.T.Taker.takes_none g.met.T.Taker.takes_more g.met.T.Taker.goes_on (g.R.LineReader.format c.args.reader.now) c.args.waits _ c.args.span.now _ _ _ c.args.page.now first _ _ _
+    span_ahead g.T.Taker.takes g.T.Taker.goes g.T.Taker.handed_on g.met.T.Taker.takes_none g.met.T.Taker.takes_more g.met.T.Taker.goes_on (g.R.LineReader.format c.args.reader.now) c.args.waits _ c.args.span.now _ _ _ c.args.page.now first _ _ _
     start began.taker c.requires.start c.in_ok-read_log.ensures.ahead c.in-Err-Failed.ensures.goes
 
 pub returns-in-Err-Stopped-clause-ahead : goal.returns-in-Err-Stopped-clause-ahead
@@ -193,7 +193,7 @@ returns-in-Err-Stopped-clause-ahead g c =
     let first = c.start_log.new.page in
     let began = c.in-Ok.ensures in
     let start : IsStart c.args.span.now first = record { place = began.place; left = began.left; standing = began.standing } in
-    span_ahead g.T.Taker.takes g.T.Taker.goes g.met.T.Taker.takes_none g.met.T.Taker.takes_more g.met.T.Taker.goes_on (g.R.LineReader.format c.args.reader.now) c.args.waits _ c.args.span.now _ _ _ c.args.page.now first _ _ _
+    span_ahead g.T.Taker.takes g.T.Taker.goes g.T.Taker.handed_on g.met.T.Taker.takes_none g.met.T.Taker.takes_more g.met.T.Taker.goes_on (g.R.LineReader.format c.args.reader.now) c.args.waits _ c.args.span.now _ _ _ c.args.page.now first _ _ _
     start began.taker c.requires.start c.in_ok-read_log.ensures.ahead c.in-Err-Stopped.ensures.goes
 
 pub returns-in-Err-Bad-clause-ahead : goal.returns-in-Err-Bad-clause-ahead
@@ -201,5 +201,5 @@ returns-in-Err-Bad-clause-ahead g c =
     let first = c.start_log.new.page in
     let began = c.in-Ok.ensures in
     let start : IsStart c.args.span.now first = record { place = began.place; left = began.left; standing = began.standing } in
-    span_ahead g.T.Taker.takes g.T.Taker.goes g.met.T.Taker.takes_none g.met.T.Taker.takes_more g.met.T.Taker.goes_on (g.R.LineReader.format c.args.reader.now) c.args.waits _ c.args.span.now _ _ _ c.args.page.now first _ _ _
+    span_ahead g.T.Taker.takes g.T.Taker.goes g.T.Taker.handed_on g.met.T.Taker.takes_none g.met.T.Taker.takes_more g.met.T.Taker.goes_on (g.R.LineReader.format c.args.reader.now) c.args.waits _ c.args.span.now _ _ _ c.args.page.now first _ _ _
     start began.taker c.requires.start c.in_ok-read_log.ensures.ahead c.in-Err-Bad.ensures.goes

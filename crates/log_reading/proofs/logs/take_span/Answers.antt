@@ -25,8 +25,8 @@ returns-clause-takes g c =
 
 pub returns-in_err-end_span-clause-ahead : goal.returns-in_err-end_span-clause-ahead
 returns-in_err-end_span-clause-ahead g c =
-    span_ahead_later g.T.Taker.takes g.T.Taker.goes g.met.T.Taker.goes_on (g.R.LineReader.format c.args.reader.now) c.args.waits _ c.args.span.now _ _ _ c.args.page.now.taker _ _ _ c.in_ok-read_span.ensures.ahead c.in_err-end_span.ensures.goes
+    span_ahead_later g.T.Taker.takes g.T.Taker.goes g.T.Taker.handed_on g.met.T.Taker.goes_on (g.R.LineReader.format c.args.reader.now) c.args.waits _ c.args.span.now _ _ _ c.args.page.now.taker _ _ _ c.in_ok-read_span.ensures.ahead c.in_err-end_span.ensures.goes
 
 pub returns-clause-ahead : goal.returns-clause-ahead
 returns-clause-ahead g c =
-    span_ahead_later g.T.Taker.takes g.T.Taker.goes g.met.T.Taker.goes_on (g.R.LineReader.format c.args.reader.now) c.args.waits _ c.args.span.now _ _ _ c.args.page.now.taker _ _ _ c.in_ok-read_span.ensures.ahead c.in_ok-end_span.ensures.goes
+    span_ahead_later g.T.Taker.takes g.T.Taker.goes g.T.Taker.handed_on g.met.T.Taker.goes_on (g.R.LineReader.format c.args.reader.now) c.args.waits _ c.args.span.now _ _ _ c.args.page.now.taker _ _ _ c.in_ok-read_span.ensures.ahead c.in_ok-end_span.ensures.goes

@@ -1,4 +1,4 @@
-use Rattle.std.proofs.Common.{◌∙◌, arith}
+use Rattle.std.proofs.Common.{◌∙◌, arith, inr}
 use Rattle.lp_model.proofs.Growing.{OnlyGrow-trans}
 use Rattle.lp_model.proofs.Results.{on_err}
 use Rattle.log_reading.proofs.SpansTaken.{spans_more, spans_stopped, spans_exceeded, size_more, took_more}
@@ -40,6 +40,9 @@ loop-span-preserved g c =
           here.grows (readable_there g.L.LogSource.folder g.L.LogSource.ready _ c.args.spans.now c.loop-span.span-index c.loop-span-test.true so_far.readable) so_far.takes here.takes;
       took = λ waits. took_more (g.R.LineReader.format c.args.reader.now) _ _ c.args.spans.now c.loop-span.span-index c.span-item.result c.args.took.now _ _ c.loop-span-test.true c.span-item.is
           here.grows (readable_there g.L.LogSource.folder g.L.LogSource.ready _ c.args.spans.now c.loop-span.span-index c.loop-span-test.true so_far.readable) (so_far.took waits) (here.took waits);
+      handed = here.handed;
+      ahead = inr (spans_ahead g.T.Taker.takes g.T.Taker.goes g.T.Taker.handed_on g.met.T.Taker.takes_more (g.R.LineReader.format c.args.reader.now) c.args.waits _ _ c.args.spans.now c.loop-span.span-index c.span-item.result _ _ _ _ _ c.args.page.now c.loop-span.page _ _ _
+          c.loop-span-test.true c.span-item.is here.grows (readable_there g.L.LogSource.folder g.L.LogSource.ready _ c.args.spans.now c.loop-span.span-index c.loop-span-test.true so_far.readable) so_far.takes so_far.given c.loop-span.auto.chunk here.ahead);
       within = here.within;
       most = here.most ∙ so_far.most;
       rows = omega arith;
@@ -64,8 +67,8 @@ returns-in_err-take_noted-clause-too_many g c =
     here.too_many)
 
 pub returns-in_err-take_noted-clause-ahead : goal.returns-in_err-take_noted-clause-ahead
-returns-in_err-take_noted-clause-ahead g c = on_err _ c.from_residual.result (
+returns-in_err-take_noted-clause-ahead g c = inr (
     let so_far = c.loop-span.invariant in
     let here = c.in_err-take_noted.ensures in
-    spans_ahead g.T.Taker.takes g.T.Taker.goes g.met.T.Taker.takes_more (g.R.LineReader.format c.args.reader.now) c.args.waits _ _ c.args.spans.now c.loop-span.span-index c.span-item.result _ _ _ _ _ c.args.page.now c.loop-span.page _ _ _
+    spans_ahead g.T.Taker.takes g.T.Taker.goes g.T.Taker.handed_on g.met.T.Taker.takes_more (g.R.LineReader.format c.args.reader.now) c.args.waits _ _ c.args.spans.now c.loop-span.span-index c.span-item.result _ _ _ _ _ c.args.page.now c.loop-span.page _ _ _
     c.loop-span-test.true c.span-item.is here.grows (readable_there g.L.LogSource.folder g.L.LogSource.ready _ c.args.spans.now c.loop-span.span-index c.loop-span-test.true so_far.readable) so_far.takes so_far.given c.loop-span.auto.chunk here.ahead)

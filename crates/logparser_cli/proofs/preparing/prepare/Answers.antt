@@ -1,8 +1,8 @@
-use Rattle.std.proofs.Common.{◌≡◌, ◌⊎◌, [], ℕ, arith, inl, inr, subst, FitsSigned, w64}
+use Rattle.std.proofs.Common.{◌⊎◌, [], ℕ, arith, inl, inr, subst, FitsSigned, w64}
 use Rattle.std.proofs.lemmas.Int.{to_z-of_z}
 use Rattle.column_kinds.proofs.Answered.{if_err, on_ok}
-use Rattle.subqueries.specs.Giving.{subqueries_of}
-use Rattle.subqueries.specs.Reading.{ReadsAll}
+use Rattle.checkpointed_command.specs.Giving.{subqueries_of}
+use Rattle.checkpointed_command.specs.SubqueriesReading.{ReadsAll}
 use Rattle.requests.proofs.Given.{reads_none}
 use Rattle.query_tree.specs.Views.{query_of}
 use Rattle.reports.specs.declared.status.Status.{Status}

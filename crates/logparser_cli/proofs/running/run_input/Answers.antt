@@ -1,11 +1,11 @@
-use Rattle.std.proofs.Common.{rules, ◌≡◌, ℕ, Bool, true, false, Err, Option, inl, inr, ap, refl, sym, ◌∙◌, subst, arith, FitsSigned, w64}
+use Rattle.std.proofs.Common.{◌≡◌, Bool, Err, Option, inl, ap, sym, ◌∙◌, subst, FitsSigned, w64}
 use Rattle.std.proofs.lemmas.Int.{to_z-of_z}
 use Rattle.query_tree.specs.Views.{query_of}
 use Rattle.lp_model.specs.Outside.{Folder, Rose}
 use Rattle.lp_model.proofs.Growing.{OnlyGrow-refl}
 use Rattle.reports.specs.declared.status.Status.{Status}
 use Rattle.reports.specs.declared.status.Status.TheVariants.{Done}
-use Rattle.execution.specs.Texts.{sections_in}
+use Rattle.checkpointed_command.specs.Texts.{sections_in}
 use Rattle.file_stage.specs.FileTexts.{AlwaysTells}
 use Rattle.tpl_output.specs.Sections.{Sections}
 use Rattle.standard_input.specs.Streams.{faults_of, folder_of}

@@ -2,7 +2,7 @@ use Rattle.std.proofs.Common.{Bool, Err, inl, ap, sym, subst, arith, FitsSigned,
 use Rattle.std.proofs.lemmas.Int.{to_z-of_z}
 use Rattle.query_tree.specs.Views.{query_of}
 use Rattle.reports.specs.declared.status.Status.{Status}
-use Rattle.execution.specs.Texts.{sections_in}
+use Rattle.checkpointed_command.specs.Texts.{sections_in}
 use Rattle.file_stage.specs.FileTexts.{AlwaysTells}
 use Rattle.tpl_output.specs.Sections.{Sections}
 use Rattle.logparser_cli.specs.Answers.{AnswersRun}

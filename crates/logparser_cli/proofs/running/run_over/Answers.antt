@@ -2,8 +2,8 @@ use Rattle.std.proofs.Common.{◌≡◌, Bool, true, false, ap, sym, ◌∙◌, 
 use Rattle.std.proofs.lemmas.Int.{to_z-of_z}
 use Rattle.query_text.specs.Stdin.{names_in}
 use Rattle.query_tree.specs.Views.{query_of}
-use Rattle.execution.specs.Built.{reads_stdin}
-use Rattle.execution.specs.Texts.{sections_in}
+use Rattle.checkpointed_command.specs.Built.{reads_stdin}
+use Rattle.checkpointed_command.specs.Texts.{sections_in}
 use Rattle.tpl_output.specs.Sections.{Sections}
 use Rattle.file_stage.specs.FileTexts.{AlwaysTells}
 use Rattle.logparser_cli.specs.Answers.{AnswersOf}

@@ -10,9 +10,13 @@ use Rattle.requests.proofs.Growing.{asks_grown}
 use Rattle.logparser_cli.specs.Answers.{AnswersPlainly}
 use Rattle.logparser_cli.specs.Outputs.{World, held, input_at, world}
 use Rattle.logparser_cli.proofs.Answering.{asked_answers, unasked_answers}
+use Rattle.logparser_cli.proofs.Building.{built_plainly}
 use Rattle.logparser_cli.proofs.Keeping.{asks_by, refused_by}
 use Rattle.logparser_cli.proofs.Given.{query_then_rest}
 use Rattle.logparser_cli.proofs.running.run_plainly.Goals as goal
+
+pub run_query-status-requires-clause-built : goal.run_query-status-requires-clause-built
+run_query-status-requires-clause-built g c = built_plainly c.args.spec.now (query_of c.in-Ok.field-0.query) c.requires.plain (c.requires.texts (query_of c.in-Ok.field-0.query))
 
 pub returns-in-Ok-clause-answers : goal.returns-in-Ok-clause-answers
 returns-in-Ok-clause-answers g c = λ words fine options.

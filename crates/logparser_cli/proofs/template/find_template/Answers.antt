@@ -1,6 +1,6 @@
 use Rattle.std.proofs.Common.{◌≡◌, Err, Result, ap, refl, sym, ◌∙◌}
 use Rattle.reports.specs.declared.status.Status.{Status}
-use Rattle.execution.specs.Texts.{sections_in}
+use Rattle.checkpointed_command.specs.Texts.{sections_in}
 use Rattle.query_tree.specs.Views.{query_of}
 use Rattle.logparser_cli.proofs.Templating.{logs_untemplated, template_of, without_template}
 use Rattle.logparser_cli.proofs.template.find_template.Goals as goal

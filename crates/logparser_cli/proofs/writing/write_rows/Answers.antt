@@ -2,11 +2,11 @@ use Rattle.std.proofs.Common.{rules, ◌≡◌, ◌∙◌, true, false, sym, ref
 use Rattle.std.proofs.lemmas.Int.{to_z-of_z}
 use Rattle.file_stage.specs.FileTexts.{AlwaysTells}
 use Rattle.query_tree.specs.Views.{query_of}
-use Rattle.execution.specs.Formats.{log_format}
-use Rattle.execution.specs.declared.fault.Ran.{Ran}
-use Rattle.execution.specs.declared.fault.RunFault.{RunFault}
-use Rattle.execution.specs.Outputs.{asked_in, is_standard}
-use Rattle.execution.specs.Texts.{into_in, sections_in}
+use Rattle.checkpointed_command.specs.Formats.{log_format}
+use Rattle.checkpointed_command.specs.Ran.{Ran}
+use Rattle.checkpointed_command.specs.RunFault.{RunFault}
+use Rattle.checkpointed_command.specs.Outputs.{asked_in, is_standard}
+use Rattle.checkpointed_command.specs.Texts.{into_in, sections_in}
 use Rattle.logparser_cli.specs.Outputs.{HasFront, HasWritten, IsUnwritten, held}
 use Rattle.logparser_cli.proofs.Mapping.{executed_map, if_ok_map, on_err_map, stopped_map}
 use Rattle.logparser_cli.proofs.Written.{files_cut, files_unwritten, files_written, goes_to_files, output_cut, output_written}

@@ -16,18 +16,18 @@ pub returns-in-Ok-clause-starts : goal.returns-in-Ok-clause-starts
 returns-in-Ok-clause-starts g c =
     let kind = kind_of g.G.Stage.state g.G.Stage.ended in
     let made = c.new-writer.ensures in
-    starts_as kind c.args.output c.args.picker c.args.stage.now c.open.new.self c.first_page.result.taker c.open.new.stage c.first_page.ensures.taker
-    (starts_open kind c.args.output c.args.picker c.args.stage.now c.new-writer.result c.open.new.self c.args.stage.now c.open.new.stage
+    starts_as kind c.args.output c.args.picker c.args.stage.now c.begin.new.self c.first_page.result.taker c.begin.new.stage c.first_page.ensures.taker
+    (starts_open kind c.args.output c.args.picker c.args.stage.now c.new-writer.result c.begin.new.self c.args.stage.now c.begin.new.stage
     (starts_new kind c.args.output c.args.picker c.args.stage.now c.new-writer.result c.requires made.output made.picker made.refused) c.in-Ok.ensures.takes)
 
 pub returns-in-Ok-clause-taken : goal.returns-in-Ok-clause-taken
-returns-in-Ok-clause-taken g c = ap (λ w. w.taken) c.first_page.ensures.taker ∙ (c.open.ensures.taken ∙ c.new-writer.ensures.taken)
+returns-in-Ok-clause-taken g c = ap (λ w. w.taken) c.first_page.ensures.taker ∙ (c.begin.ensures.taken ∙ c.new-writer.ensures.taken)
 
 pub returns-in-Err-clause-stops : goal.returns-in-Err-clause-stops
 returns-in-Err-clause-stops g c = λ rows.
     let kind = kind_of g.G.Stage.state g.G.Stage.ended in
     let made = c.new-writer.ensures in
-    stop_at_once kind c.args.output c.args.picker c.args.stage.now c.new-writer.result c.open.new.self c.args.stage.now c.open.new.stage rows
+    stop_at_once kind c.args.output c.args.picker c.args.stage.now c.new-writer.result c.begin.new.self c.args.stage.now c.begin.new.stage rows
     (starts_new kind c.args.output c.args.picker c.args.stage.now c.new-writer.result c.requires made.output made.picker made.refused) c.in-Err.ensures.stops
 
 pub returns-in-Err-clause-refused : goal.returns-in-Err-clause-refused
@@ -36,7 +36,7 @@ returns-in-Err-clause-refused g c =
     let made = c.new-writer.ensures in
     let Q : Refused → Type 0 = λ why. (rows : _) → IsRefused (asked_of c.args.output) rows why in
     subst (OnRefusedOutput Q) (sym c.stopped_at.ensures) (refused_at c.in-Err.fault c.replace.result Q
-    (refused_at_once kind c.args.output c.args.picker c.args.stage.now c.new-writer.result c.open.new.self c.args.stage.now c.open.new.stage c.replace.result c.replace.ensures.value
+    (refused_at_once kind c.args.output c.args.picker c.args.stage.now c.new-writer.result c.begin.new.self c.args.stage.now c.begin.new.stage c.replace.result c.replace.ensures.value
     (starts_new kind c.args.output c.args.picker c.args.stage.now c.new-writer.result c.requires made.output made.picker made.refused) c.in-Err.ensures.stops))
 
 pub returns-in-Err-clause-good : goal.returns-in-Err-clause-good

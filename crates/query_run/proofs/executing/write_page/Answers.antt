@@ -1,4 +1,4 @@
-use Rattle.std.proofs.Common.{◌≡◌, ℕ, List, length, Err, Option, IsSome, IfSome, ap, sym, ◌∙◌, subst}
+use Rattle.std.proofs.Common.{◌≡◌, ℕ, List, length, Err, Option, IsSome, IfSome, inl, refl, ap, sym, ◌∙◌, subst}
 use Rattle.std.proofs.lemmas.Result.{IfOk-weaker, IfErr-weaker, on_err_weaker}
 use Rattle.lp_model.specs.Outside.{Folder, Told}
 use Rattle.lp_model.proofs.Growing.{OnlyGrow-refl}
@@ -16,6 +16,7 @@ use Rattle.query_run.specs.Rows.{picked}
 use Rattle.query_run.specs.declared.fault.WriteFault.TheVariants as W
 use Rattle.query_run.proofs.Reasons.{bad_in, bad_so, logs_in, refused_in, refused_so}
 use Rattle.query_run.proofs.WholeRun.{told_all, stop_there, stops_in, refused_in_spans, ends_with, rows_taken, bad_taken}
+use Rattle.query_run.proofs.ReadAhead.{goes_ahead}
 use Rattle.query_run.proofs.executing.write_page.Goals as goal
 
 pub returns-in_default-clause-grows : goal.returns-in_default-clause-grows
@@ -127,3 +128,16 @@ pub returns-in-Ok-take_spans-clause-within : goal.returns-in-Ok-take_spans-claus
 returns-in-Ok-take_spans-clause-within g c =
     IfOk-weaker c.end_page.result _ _ (λ written same.
     subst (λ (bad : ℕ). IsWithin c.args.page.now.most_bad bad) (sym same) (subst (λ (most : Option ℕ). IsWithin most c.take_spans.new.page.bad) c.take_spans.ensures.most c.in-Ok-take_spans.ensures.within)) c.end_page.ensures.bad
+
+pub returns-in_default-clause-ahead : goal.returns-in_default-clause-ahead
+returns-in_default-clause-ahead g c = λ output picker first s. inl refl
+
+pub returns-clause-ahead : goal.returns-clause-ahead
+returns-clause-ahead g c = λ output picker first s.
+    goes_ahead (kind_of g.G.Stage.state g.G.Stage.ended) g.G.Stage.goes g.P.Picker.picks output picker first c.args.stage.now c.take_spans.new.out c.take_spans.new.out (g.R.LineReader.format c.args.reader.now) c.args.waits (g.L.LogSource.folder c.take_spans.new.logs) c.args.spans.now _ _ _ c.args.page.now.taker
+    (ap length c.deref_mut.ensures.value ∙ c.in-Ok.ensures) (λ v later. later) s c.take_spans.ensures.ahead
+
+pub returns-in-Ok-take_spans-clause-ahead : goal.returns-in-Ok-take_spans-clause-ahead
+returns-in-Ok-take_spans-clause-ahead g c = λ output picker first s.
+    goes_ahead (kind_of g.G.Stage.state g.G.Stage.ended) g.G.Stage.goes g.P.Picker.picks output picker first c.args.stage.now c.take_spans.new.out c.end_page.new.stage (g.R.LineReader.format c.args.reader.now) c.args.waits (g.L.LogSource.folder c.take_spans.new.logs) c.args.spans.now _ _ _ c.args.page.now.taker
+    (ap length c.deref_mut.ensures.value ∙ c.in-Ok.ensures) (λ v later. g.met.G.Stage.goes_on v c.take_spans.new.out c.end_page.new.stage later c.end_page.ensures.goes) s c.take_spans.ensures.ahead

@@ -1,4 +1,4 @@
-use Rattle.std.proofs.Common.{ℕ, List, Option, IfErr, subst}
+use Rattle.std.proofs.Common.{inl, refl, ℕ, List, Option, IfErr, subst}
 use Rattle.std.proofs.lemmas.Result.{IfOk-weaker, IfErr-weaker, on_err_weaker}
 use Rattle.lp_model.specs.Outside.{Folder, Told}
 use Rattle.lp_model.proofs.Growing.{OnlyGrow-refl}
@@ -65,3 +65,9 @@ returns-clause-too_many g c =
     let told = g.L.LogSource.folder c.write_page-written.new.logs in
     let Of : Option ℕ → BadLine → Type 0 = λ most line. Told told (λ folder. AreKept format c.args.waits c.args.spans.now folder → IsTooMany most 0 (spans_bad_lines format c.args.waits folder c.args.spans.now) line) in
     subst (λ (most : Option ℕ). IfErr c.write_page-written.result (OnBad (Of most))) c.in_ok-page.ensures.most c.write_page-written.ensures.too_many
+
+pub returns-in_err-page-clause-ahead : goal.returns-in_err-page-clause-ahead
+returns-in_err-page-clause-ahead g c = inl refl
+
+pub returns-clause-ahead : goal.returns-clause-ahead
+returns-clause-ahead g c = c.write_page-written.ensures.ahead c.args.output c.args.picker c.args.stage.now c.in_ok-page.ensures.starts

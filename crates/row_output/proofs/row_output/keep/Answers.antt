@@ -1,9 +1,8 @@
-use Rattle.std.proofs.Common.{List, ℕ, refl, ◌∙◌, ap}
-use Rattle.order_top.specs.Finish.{Finish, Row, keys_at}
+use Rattle.std.proofs.Common.{refl}
+use Rattle.row_output.proofs.KeptCalls.{any_stands}
 use Rattle.row_output.proofs.row_output.keep.Goals as goal
 
-pub returns-then-would_drop-clause-stands : goal.returns-then-would_drop-clause-stands
-returns-then-would_drop-clause-stands c = λ same rows stands.
-    let plain = c.if-is_plain.ensures.0 refl in
-    let none = ap (λ (f : Finish). keys_at f.columns c.args.row.now) same ∙ ap (λ (columns : List ℕ). keys_at columns c.args.row.now) plain in
-    c.if-would_drop.ensures.left_out refl c.args.row.now none rows stands
+pub returns-then-lets_all_go-clause-stands : goal.returns-then-lets_all_go-clause-stands
+returns-then-lets_all_go-clause-stands c = λ same rows stands.
+    let past = c.if-lets_all_go.ensures.0 refl in
+    any_stands c.args.order.now c.args.orderer.now rows c.args.row.now same past.0 past.1 stands

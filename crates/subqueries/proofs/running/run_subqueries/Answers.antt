@@ -14,14 +14,14 @@ returns-in_default-clause-read g c =
     let given = g.L.Logs.given c.args.logs.now in
     all_none (g.L.Logs.folder c.args.logs.now) (subqueries_of (query_of c.args.query.now)) given given (omega arith)
 
-pub give_all-requires : goal.give_all-requires
-give_all-requires g c = record { separator = has_separator c.args.spec.now (query_of c.args.query.now) c.log_format.result c.log_format.ensures c.requires.range }
+pub give_all-requires-clause-separator : goal.give_all-requires-clause-separator
+give_all-requires-clause-separator g c = has_separator c.args.spec.now (query_of c.args.query.now) c.log_format.result c.log_format.ensures c.requires.range
 
 pub returns-clause-stops : goal.returns-clause-stops
 returns-clause-stops g c =
     let range : FitsSigned w64 c.args.moment = c.ranges.moment in
     let all = subqueries_are c.args.query.now ∙ ap (λ (qs : List Query). map query_of qs) (sym c.as_slice.ensures.value) in
-    stops_by c.args.spec.now c.args.moment (g.L.Logs.folder c.args.logs.now) (g.L.Logs.folder c.give_all.new.logs) c.args.query.now c.log_format.result c.as_slice.result.now c.in-Err.fault c.log_format.ensures all (simp to_z-of_z at c.in-Err.ensures.stops)
+    stops_by c.args.spec.now c.args.moment (g.L.Logs.folder c.args.logs.now) (g.L.Logs.folder c.give_all.new.logs) c.args.query.now c.log_format.result c.as_slice.result.now c.as_slice-2.result.now c.in-Err.fault c.log_format.ensures all (c.as_slice-2.ensures ∙ c.in-Ok.ensures) (simp to_z-of_z at c.in-Err.ensures.stops)
 
 pub returns-clause-read : goal.returns-clause-read
 returns-clause-read g c =
@@ -32,8 +32,8 @@ pub returns-in-Ok-give_all-clause-gives : goal.returns-in-Ok-give_all-clause-giv
 returns-in-Ok-give_all-clause-gives g c =
     let range : FitsSigned w64 c.args.moment = c.ranges.moment in
     let all = subqueries_are c.args.query.now ∙ ap (λ (qs : List Query). map query_of qs) (sym c.as_slice.ensures.value) in
-    are_given c.args.spec.now c.args.moment (g.L.Logs.folder c.args.logs.now) (g.L.Logs.folder c.give_all.new.logs) c.args.query.now c.log_format.result c.as_slice.result.now c.as_slice-2.result.now (map placed_given c.new-givens.result) (map placed_given c.give_all.new.givens) c.log_format.ensures all
-    (c.as_slice-2.ensures ∙ c.in-Ok.ensures) (ap (λ (l : List PlacedGiven). map placed_given l) c.new-givens.ensures) (simp to_z-of_z at c.in-Ok-give_all.ensures.gives)
+    are_given c.args.spec.now c.args.moment (g.L.Logs.folder c.args.logs.now) (g.L.Logs.folder c.give_all.new.logs) c.args.query.now c.log_format.result c.as_slice.result.now c.as_slice-2.result.now (map placed_given c.new-values.result.givens) (map placed_given c.give_all.new.values.givens) c.new-values.result.lists c.give_all.new.values.lists c.log_format.ensures all
+    (c.as_slice-2.ensures ∙ c.in-Ok.ensures) (ap (λ (l : List PlacedGiven). map placed_given l) c.new-values.ensures.givens) c.new-values.ensures.lists (simp to_z-of_z at c.in-Ok-give_all.ensures.gives)
 
 pub returns-in-Ok-give_all-clause-read : goal.returns-in-Ok-give_all-clause-read
 returns-in-Ok-give_all-clause-read g c =

@@ -1,5 +1,5 @@
 use Rattle.list_run.proofs.Taken.{collects_dropped, collects_kept}
-use Rattle.list_run.proofs.collecting.CollectorTakerInSet.take.Goals as goal
+use Rattle.list_run.proofs.collecting.CollectorTakerGathered.take.Goals as goal
 
 pub returns-in-Ok-false-clause-takes : goal.returns-in-Ok-false-clause-takes
 returns-in-Ok-false-clause-takes g c = collects_dropped g.P.Picker.picks _ _ _ (rw c.in-Ok-false.field-0-test at c.in-Ok-false.ensures)

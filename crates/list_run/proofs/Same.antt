@@ -1,0 +1,32 @@
+-- The derived equality of values is that of the definitions.
+use Rattle.std.proofs.Common.{◌≡◌, Bool, true, List, ap, sym, ◌∙◌, refl}
+use Rattle.std.specs.List.{list_any}
+use Rattle.std.specs.Ordering.{is_eq}
+use Rattle.indexmap.specs.IndexSet.{insert_key}
+use Rattle.lp_values.specs.contracts.value.ValueOrd.TheImpl.Laws.{matches_eq-law}
+use Rattle.lp_values.specs.contracts.value.ValuePartialEq.TheImpl.{eq-value}
+use Rattle.lp_values.specs.declared.value.Value.{Value}
+use Rattle.lp_values.proofs.OrderLemmas.{derived}
+use Rattle.lp_values.proofs.SameLemmas.{values_same}
+use Rattle.list_run.specs.Keeping.{same_value}
+
+tells : (x y : Value) → eq-value.it x y ≡ same_value x y
+tells x y = matches_eq-law x y ∙ ap is_eq (derived x y)
+
+pub same_is : eq-value.it ≡ same_value
+same_is = λ i x y. tells x y i
+
+pub value_itself : (x : Value) → same_value x x ≡ true
+value_itself x = sym (tells x x) ∙ (values_same x x).1 refl
+
+pub value_told : (x y : Value) → same_value x y ≡ true → x ≡ y
+value_told x y e = (values_same x y).0 (tells x y ∙ e)
+
+-- a value that stands there is put nowhere
+pub put_known : (seen : List Value) (value : Value) → list_any (eq-value.it value) seen ≡ true → seen ≡ insert_key same_value seen value
+put_known seen value there =
+    let e : list_any (same_value value) seen ≡ true = sym (ap (λ (E : Value → Value → Bool). list_any (E value) seen) same_is) ∙ there in
+    rw e refl
+
+pub put_same : (seen : List Value) (value copy : Value) → copy ≡ value → insert_key eq-value.it seen copy ≡ insert_key same_value seen value
+put_same seen value copy same = ap (λ (E : Value → Value → Bool). insert_key E seen copy) same_is ∙ ap (insert_key same_value seen) same
