@@ -3,6 +3,7 @@
 
     ledger.py NAME      prints of each entry, one behind the other:
         span NAME FROM TO lines LINES [columns COLUMN ..]
+        list VALUE ..
         output NAME BASE LENGTH
         counts PROCESSED OUTPUT BAD
     and `not done` behind the last one, where its outputs may not be whole yet
@@ -55,15 +56,21 @@ def standing_of(data):
 
 
 def value_of(fields):
+    """A value as text: NULL, an integer, a number with six digits behind its point, 'a text', or a stamp's part and seconds."""
     tag = fields.number(1)
+    if tag == 0:
+        return "NULL"
     if tag in (1, 2):
-        fields.take(8)
-    elif tag == 3:
-        fields.text()
-    elif tag == 4:
-        fields.take(9)
-    elif tag:
-        raise Damaged(f"no value has the tag {tag}")
+        number = int.from_bytes(fields.take(8), "little", signed=True)
+        if tag == 1:
+            return str(number)
+        return f"{'-' if number < 0 else ''}{abs(number) // 10**6}.{abs(number) % 10**6:06}"
+    if tag == 3:
+        return f"'{fields.name()}'"
+    if tag == 4:
+        part = fields.number(1)
+        return f"stamp {part} {int.from_bytes(fields.take(8), 'little', signed=True)}"
+    raise Damaged(f"no value has the tag {tag}")
 
 
 def entry_of(payload):
@@ -77,9 +84,7 @@ def entry_of(payload):
     entry["spans"] = [
         (fields.name(), fields.number(8), fields.number(8), standing_of(fields.text())) for _ in range(fields.number(4))
     ]
-    for _ in range(fields.number(4)):
-        for _ in range(fields.number(8)):
-            value_of(fields)
+    entry["lists"] = [[value_of(fields) for _ in range(fields.number(8))] for _ in range(fields.number(4))]
     entry["staged"] = fields.number(8)
     entry["outputs"] = [
         (fields.name(), fields.number(8), fields.number(8), fields.number(8)) for _ in range(fields.number(4))
@@ -150,6 +155,8 @@ def main(path):
         for name, start, end, (lines, columns) in entry["spans"]:
             behind = "" if columns is None else " columns " + " ".join(columns)
             print(f"span {name} {start} {end} lines {lines}{behind}")
+        for values in entry["lists"]:
+            print(" ".join(["list", *values]))
         for name, base, length, _ in entry["outputs"]:
             print(f"output {name} {base} {length}")
         print("counts", *entry["counts"])
