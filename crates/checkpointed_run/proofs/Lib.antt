@@ -27,6 +27,7 @@ pub mod OverDisk
 pub mod Asking
 pub mod Subqueries
 pub mod Values
+pub mod Tested
 pub use Rattle.run_entry.proofs.FormatLemmas
 pub use Rattle.run_entry.proofs.OneMeaning
 pub use Rattle.run_entry.proofs.Options

@@ -1,5 +1,5 @@
 // The entry of a run, where its parts fit the form of one.
-ghost use Rattle.std.specs.Prelude.{◌≡◌, ◌<◌, ◌+◌, ◌^◌, true, length, All, FitsSigned, IfOk, OnOk};
+ghost use Rattle.std.specs.Prelude.{◌≡◌, ◌<◌, ◌↔◌, ◌+◌, ◌^◌, length, All, FitsSigned, IfOk, IsTrue, OnOk};
 ghost use Rattle.std.specs.Int.{w64};
 ghost use Rattle.command_words.specs.Table.{IsInRange};
 ghost use Rattle.run_entry.specs.Executed.{IsMoment};
@@ -8,7 +8,7 @@ ghost use Rattle.ledger_model.specs.Grammar.{IsEntry, IsStamp};
 ghost use Rattle.log_reading.specs.declared.span.Took.{Took as TookValue};
 ghost use Rattle.query_tree.specs.Views.{query_of};
 ghost use Rattle.run_entry.specs.Entries.{entry_for};
-ghost use Rattle.run_entry.specs.Forms.{AreCounts, HasForm, IsFileName, IsKeptList, IsKeptValue, IsOutput};
+ghost use Rattle.run_entry.specs.Forms.{AreCounts, AreKeptLists, HasForm, IsFileName, IsKeptList, IsKeptValue, IsOutput};
 ghost use Rattle.checkpointed_run.specs.Staged.{AreParts, IsWord, request_of};
 
 use command_words::Spec;
@@ -32,14 +32,13 @@ const TEMPLATE: u64 = 1_048_576;
 const END: u64 = 1 << 63;
 
 fn is_word(word: &Text) -> bool
-    ensures { result ≡ true → IsWord word.now }
+    ensures { IsTrue result ↔ IsWord word.now }
 {
     (word.as_str().len() as u64) < WORDS
 }
 
 fn are_words(words: &[Text]) -> bool
-    ensures few { result ≡ true → length words.now < 2 ^ 32 }
-    ensures words { result ≡ true → All IsWord words.now }
+    ensures { IsTrue result ↔ ((length words.now < 2 ^ 32) × All IsWord words.now) }
 {
     for word in words {
         if !is_word(word) {
@@ -65,7 +64,7 @@ fn know_stamp(stamp: &Stamp)
 
 // Whether an entry may keep a value.
 fn is_value(value: &Value) -> bool
-    ensures { result ≡ true → IsKeptValue value.now }
+    ensures { IsTrue result ↔ IsKeptValue value.now }
 {
     match value {
         Value::Null => true,
@@ -93,7 +92,7 @@ fn know_size(values: &[Value])
 }
 
 fn are_values(values: &[Value]) -> bool
-    ensures { result ≡ true → All IsKeptValue values.now }
+    ensures { IsTrue result ↔ All IsKeptValue values.now }
 {
     for value in values {
         if !is_value(value) {
@@ -104,15 +103,14 @@ fn are_values(values: &[Value]) -> bool
 }
 
 fn is_list(list: &ValueList) -> bool
-    ensures { result ≡ true → IsKeptList list.now }
+    ensures { IsTrue result ↔ IsKeptList list.now }
 {
     know_size(list.as_slice());
     are_values(list.as_slice())
 }
 
 fn are_lists(lists: &[ValueList]) -> bool
-    ensures few { result ≡ true → length lists.now < 2 ^ 32 }
-    ensures each { result ≡ true → All IsKeptList lists.now }
+    ensures { IsTrue result ↔ AreKeptLists lists.now }
 {
     for list in lists {
         if !is_list(list) {
@@ -140,7 +138,7 @@ fn know_files(took: &[Took])
 
 fn ends_within(base: u64, mark: Mark) -> bool
     ensures last { mark.last < 2 ^ 64 }
-    ensures within { result ≡ true → base + mark.length < 2 ^ 63 }
+    ensures within { IsTrue result ↔ (base + mark.length < 2 ^ 63) }
 {
     match base.checked_add(mark.length) {
         Some(end) => end < END,
@@ -149,14 +147,14 @@ fn ends_within(base: u64, mark: Mark) -> bool
 }
 
 fn is_output(output: &Output) -> bool
-    ensures { result ≡ true → IsOutput output.now }
+    ensures { IsTrue result ↔ IsOutput output.now }
 {
     know_file(&output.name);
     ends_within(output.base, output.mark)
 }
 
 fn are_outputs(outputs: &[Output]) -> bool
-    ensures { result ≡ true → All IsOutput outputs.now }
+    ensures { IsTrue result ↔ All IsOutput outputs.now }
 {
     for output in outputs {
         if !is_output(output) {
@@ -177,7 +175,7 @@ fn know_counts(counts: &Counts)
 
 // Whether an entry may keep these words, this template, these lists, and what a run took and wrote.
 fn are_parts(spec: &Spec, template: &Bytes, lists: &RowList, ran: &Ran) -> bool
-    ensures { result ≡ true → AreParts spec.now.words template.now lists.now ran.now.took ran.now.outputs ran.now.counts }
+    ensures { IsTrue result ↔ AreParts spec.now.words template.now lists.now ran.now.took ran.now.outputs ran.now.counts }
 {
     know_counts(&ran.counts);
     know_files(ran.took.as_slice());

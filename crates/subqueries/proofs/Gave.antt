@@ -16,7 +16,9 @@ use Rattle.subqueries.specs.declared.fault.SubqueryFault.{SubqueryFault}
 use Rattle.subqueries.specs.declared.fault.SubqueryFault.TheVariants as F
 use Rattle.subqueries.specs.Giving.{AddsGiven, AllGive, Gives, bad_of}
 use Rattle.subqueries.specs.Listing.{lines_wait}
+use Rattle.subqueries.specs.Reading.{ClashesBehind, ReadsOne}
 use Rattle.subqueries.specs.Refusing.{IsClash, IsExceeded, IsLeft, IsRefusedOne, IsRefusedWith, IsUngivenIn, IsUnplanned, StopsBehind}
+use Rattle.subqueries.proofs.Read.{all_none, first_then}
 use Rattle.subqueries.proofs.Wholes.{listed_earlier}
 
 none_many : (most : Option ℕ) (n : ℕ) → most ≡ None → most ≡ Some n → ⊥
@@ -126,6 +128,35 @@ module _ (format : LogFormat) (spec : Spec) (moment : ℤ) where
         give = one_more before mid now q u.front place u.asked given u.givens list u.lists first next at gave u.give;
         why = subst (λ (n : ℕ). IsRefusedWith format spec moment before now u.refused spec.errors n fault) total (why_earlier before mid now u.refused spec.errors (more + bad_of u.givens) fault first u.why);
       }
+
+  -- one gave, and one behind it has a clash
+  pub clashes_behind : (before mid now : Option Folder) (q : Query) (qs : List Query) (place : ℕ) (places : List ℕ) (given : PlacedGiven) (list : List Value) (bad more : ℕ) (name : List ℕ) (start between later : ℕ) → OnlyGrow before mid → OnlyGrow mid now
+      → given.at ≡ place → Gives format spec moment before mid q given.given list → more ≡ bad + given.given.bad → ReadsOne mid q start between → ClashesBehind format spec moment mid now qs places more name between later
+      → ClashesBehind format spec moment before now (q ∷ qs) (place ∷ places) bad name start later
+  unfolding behind_one
+  clashes_behind before mid now q qs place places given list bad more name start between later first next at gave sum one clashes = record {
+    ungiven = behind_one before mid now q qs place places given list bad more (F.Clash name) first next at gave sum clashes.ungiven;
+    reads = first_then mid now q clashes.ungiven.front start between later next one clashes.reads;
+  }
+
+  -- the first of them has one, and nothing is read
+  pub clashes_first : (before now : Option Folder) (q : Query) (qs : List Query) (places : List ℕ) (bad : ℕ) (name : List ℕ) (start later : ℕ) → IsClash spec before now q name → later ≡ start → ClashesBehind format spec moment before now (q ∷ qs) places bad name start later
+  clashes_first before now q qs places bad name start later clash same = record {
+    ungiven = record {
+      front = [];
+      refused = q;
+      rest = qs;
+      parts = refl;
+      asked = [];
+      others = places;
+      placed = refl;
+      givens = [];
+      lists = [];
+      give = tt;
+      why = clash;
+    };
+    reads = all_none now [] start later (omega arith);
+  }
 
   pub stops_behind : (before mid now : Option Folder) (q : Query) (qs : List Query) (place : ℕ) (places : List ℕ) (given : PlacedGiven) (list : List Value) (bad more : ℕ) (fault : SubqueryFault) → OnlyGrow before mid → OnlyGrow mid now
       → given.at ≡ place → Gives format spec moment before mid q given.given list → more ≡ bad + given.given.bad → StopsBehind format spec moment mid now qs places more fault → StopsBehind format spec moment before now (q ∷ qs) (place ∷ places) bad fault

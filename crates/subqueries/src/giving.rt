@@ -1,5 +1,5 @@
 // What one subquery gives.
-ghost use Rattle.std.specs.Prelude.{◌≡◌, ◌≤◌, ◌++◌, codes, map, None, IfOk, IfErr, IfSome, IsErrOf};
+ghost use Rattle.std.specs.Prelude.{◌≡◌, ◌≤◌, ◌++◌, ℕ, List, codes, map, None, IfOk, IfErr, IfSome, IsErrOf};
 ghost use Rattle.lp_model.specs.Outside.{OnlyGrow, Rose};
 ghost use Rattle.lp_outside.specs.NameFault.{name_fault};
 ghost use Rattle.query_tree.specs.Views.{given_of, query_of};
@@ -134,6 +134,7 @@ pub(crate) fn give_one<L: Logs>(
     ensures refused { IfErr result (IsRefusedOne format spec.now moment (L.folder logs.old) (L.folder logs.new) (query_of query.now) most_bad) }
     ensures failed { IsErrOf result SubqueryFault.Logs → Rose (L.faults logs.old) (L.faults logs.new) }
     ensures read { ReadsOne (L.folder logs.new) (query_of query.now) (L.given logs.old) (L.given logs.new) }
+    ensures unread { (name : List ℕ) → IsErrOf result (SubqueryFault.Clash name) → L.given logs.new ≡ L.given logs.old }
 {
     let spans = match list_spans(alloc, logs, query) {
         Ok(spans) => spans,

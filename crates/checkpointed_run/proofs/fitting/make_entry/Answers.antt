@@ -20,7 +20,7 @@ returns-clause-entry c =
 
 pub returns-clause-parts : goal.returns-clause-parts
 returns-clause-parts c =
-    let parts = c.are_parts.ensures c.if-not-are_parts.false in
+    let parts = c.are_parts.ensures.0 c.if-not-are_parts.false in
     IfOk-weaker c.entry_of_run.result _ (λ (entry : Entry). AreParts c.args.spec.now.words c.args.template c.args.lists c.args.ran.now.took c.args.ran.now.outputs c.args.ran.now.counts) (λ entry is. parts) c.entry_of_run.ensures
 
 pub returns-clause-formed : goal.returns-clause-formed
