@@ -1,5 +1,6 @@
 -- The text of the format that is held.
-use Rattle.std.specs.Prelude.{◌≡◌, ℕ, Bool, List, ◌++◌}
+use Rattle.std.specs.Prelude.{◌≡◌, ℕ, Bool, true, false, List, ◌++◌, IsTrue}
+use Rattle.std.proofs.lemmas.Bool.{false≢true}
 use Rattle.lp_model.specs.Outside.{Begins}
 use Rattle.lp_values.specs.declared.value.Value.{Value}
 use Rattle.output_formats.specs.Headers.{csv_of}
@@ -21,6 +22,22 @@ text_of (W3c moment) = w3c_of moment
 text_of (Nat state) = nat_of state.limit state.headers
 text_of (Tpl state) = tpl_of state.sections state.moment
 
+-- whether the text of all rows that were put is there after each of them: NAT holds rows back to align them, and the footer of TPL stands behind them
+abbrev pub is_at_once : Format → Bool
+is_at_once (Csv headers) = true
+is_at_once (Tsv wanted) = true
+is_at_once (W3c moment) = true
+is_at_once (Nat state) = false
+is_at_once (Tpl state) = false
+
+-- The text of named rows, for an output that begins empty or not, and whether that of all rows that were put is there after each of them.
+pub record RowsText : Type 0 where
+  pub of : Bool → List (List ℕ) → List (List Value) → List ℕ
+  pub at_once : Bool
+
+abbrev pub format_text : Format → RowsText
+format_text format = record { of = text_of format; at_once = is_at_once format }
+
 -- how far the text has come
 abbrev pub HasText : Format → Bool → List (List ℕ) → List (List Value) → List ℕ → Type 0
 HasText (Csv headers) fresh names rows so_far = so_far ≡ csv_of headers fresh names rows
@@ -35,3 +52,11 @@ format_begins (Tsv wanted) fresh names rows more so_far is = lined_begins (tsv_h
 format_begins (W3c moment) fresh names rows more so_far is = lined_begins (w3c_head moment names) w3c_line rows more so_far is
 format_begins (Nat state) fresh names rows more so_far is = nat_begins state fresh names rows more so_far is
 format_begins (Tpl state) fresh names rows more so_far is = tpl_begins state fresh names rows more so_far is
+
+-- where no row waits it has come to the text of all rows that were put
+pub format_whole : (format : Format) (fresh : Bool) (names : List (List ℕ)) (rows : List (List Value)) (so_far : List ℕ) → IsTrue (is_at_once format) → HasText format fresh names rows so_far → so_far ≡ text_of format fresh names rows
+format_whole (Csv headers) fresh names rows so_far once is = is
+format_whole (Tsv wanted) fresh names rows so_far once is = is
+format_whole (W3c moment) fresh names rows so_far once is = is
+format_whole (Nat state) fresh names rows so_far once is = absurd (false≢true once)
+format_whole (Tpl state) fresh names rows so_far once is = absurd (false≢true once)

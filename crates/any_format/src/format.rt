@@ -1,5 +1,5 @@
 // One of the output formats.
-ghost use Rattle.any_format.specs.Formats.{text_of, HasText, format_begins};
+ghost use Rattle.any_format.specs.Formats.{text_of, is_at_once, HasText, format_begins, format_whole};
 
 use lp_values::{Bytes, TextList, ValueList};
 use output_formats::{CsvOut, Shape};
@@ -23,6 +23,8 @@ impl Shape for Format {
     ghost has_text = { λ s fresh names rows so_far. HasText s fresh names rows so_far };
 
     ghost shown = { λ s rows. rows };
+
+    ghost at_once = { λ s. is_at_once s };
 
     fn begin(&mut self, names: &TextList, fresh: bool, to: &mut Bytes) -> Result<(), AllocError> {
         match self {
@@ -59,4 +61,6 @@ impl Shape for Format {
     }
 
     ghost begins = { λ s fresh names rows more so_far is. format_begins s fresh names rows more so_far is };
+
+    ghost whole = { λ s fresh names rows so_far once is. format_whole s fresh names rows so_far once is };
 }

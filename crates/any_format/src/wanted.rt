@@ -1,6 +1,6 @@
 // A format that any number of texts are wanted in.
 ghost use Rattle.std.specs.Prelude.{◌≡◌, IfOk};
-ghost use Rattle.any_format.specs.Formats.{text_of};
+ghost use Rattle.any_format.specs.Formats.{format_text};
 ghost use Rattle.any_format.specs.Wanted.{wanted_text, IsMoment};
 
 use crate::Format;
@@ -26,7 +26,7 @@ impl Wanted {
     /// A text in the format, before its first byte, in a run of this moment.
     pub fn format(&self, alloc: Global, moment: i64) -> Result<Format, AllocError>
         requires { IsMoment moment }
-        ensures { IfOk result (λ format. text_of format ≡ wanted_text self.now moment) }
+        ensures { IfOk result (λ format. format_text format ≡ wanted_text self.now moment) }
     {
         Ok(match self {
             Wanted::Nat(rows, headers) => Format::Nat(Nat::new(alloc, *rows, *headers)),

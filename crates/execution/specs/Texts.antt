@@ -1,5 +1,5 @@
 -- The text of a run, in the format that is asked for.
-use Rattle.std.specs.Prelude.{ℤ, Bool, true, [], Option, Some, None, is_some, if◌then◌else◌, unwrap_or}
+use Rattle.std.specs.Prelude.{ℤ, Bool, true, false, [], Option, Some, None, is_some, if◌then◌else◌, unwrap_or, ⊤}
 use Rattle.grammar.specs.Trees.{Placed, Query}
 use Rattle.grammar.specs.Trees.{Query as query}
 use Rattle.row_output.specs.Asked.{RowsText}
@@ -34,18 +34,30 @@ has_text spec O.Tsv = true
 has_text spec O.W3c = true
 has_text spec O.Tpl = is_some spec.tpl
 
+-- a format in which the text of the rows so far is there after each row
+abbrev pub IsAtOnce : OutputFormat → Type 0
+IsAtOnce O.Nat = ⊥
+IsAtOnce O.Csv = ⊤
+IsAtOnce O.Tsv = ⊤
+IsAtOnce O.W3c = ⊤
+IsAtOnce O.Tpl = ⊥
+
+-- the sections of no template
+abbrev pub no_sections : Sections
+no_sections = record { header = []; body = []; footer = [] }
+
 -- the sections of a template, and none where there is no template
 abbrev pub sections_in : {T : Type 0} → (T → Sections) → Option T → Sections
-sections_in sections None = record { header = []; body = []; footer = [] }
+sections_in sections None = no_sections
 sections_in sections (Some template) = sections template
 
--- the text in a format, as the words want it; only TPL has a template
+-- the text in a format, as the words want it; only TPL has a template. No row of CSV, TSV and W3C waits for a later one or for the end
 abbrev pub text_as : Spec → OutputFormat → Sections → ℤ → RowsText
-text_as spec O.Nat template moment = nat_of spec.rtp spec.headers
-text_as spec O.Csv template moment = csv_of spec.headers
-text_as spec O.Tsv template moment = tsv_of (record { headers = spec.headers; separator = spec.out_separator })
-text_as spec O.W3c template moment = w3c_of moment
-text_as spec O.Tpl template moment = tpl_of template moment
+text_as spec O.Nat template moment = record { of = nat_of spec.rtp spec.headers; at_once = false }
+text_as spec O.Csv template moment = record { of = csv_of spec.headers; at_once = true }
+text_as spec O.Tsv template moment = record { of = tsv_of (record { headers = spec.headers; separator = spec.out_separator }); at_once = true }
+text_as spec O.W3c template moment = record { of = w3c_of moment; at_once = true }
+text_as spec O.Tpl template moment = record { of = tpl_of template moment; at_once = false }
 
 -- the text that a run of a query at a moment makes of rows, by a template where that is the format
 abbrev pub run_text : Spec → Sections → ℤ → Query → RowsText

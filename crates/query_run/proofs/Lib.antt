@@ -2,3 +2,4 @@ pub mod Puts
 pub mod Reasons
 pub mod WholeRun
 pub mod ReadAhead
+pub mod OnePass

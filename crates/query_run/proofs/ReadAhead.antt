@@ -56,4 +56,5 @@ module _ {P : Type 0} {S : Type 0} (kind : StageKind S) (goes : S → S → Type
         holds = a.handed;
         later = on a.out a.later;
         given = omega arith;
+        below = a.below;
       })

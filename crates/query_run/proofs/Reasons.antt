@@ -1,5 +1,5 @@
 -- Facts on why a run stops.
-use Rattle.std.proofs.Common.{◌≡◌, Option, Some, None, IfSome, IsSome, is_some, ap, sym, subst, refl}
+use Rattle.std.proofs.Common.{◌≡◌, Option, Some, None, Result, Ok, Err, IfErr, IfSome, IsSome, is_some, ap, sym, subst, refl}
 use Rattle.lp_model.specs.Outside.{Folder, Told}
 use Rattle.log_reading.specs.Spans.{BadLine, OnBadLine, bad_line}
 use Rattle.log_reading.specs.declared.span.RunFault.{RunFault}
@@ -130,3 +130,12 @@ bad_so W.Logs P Q so p = tt
 bad_so W.Output P Q so p = tt
 bad_so (W.Refused why) P Q so p = tt
 bad_so (W.Bad log row) P Q so p = so (bad_line log row) p
+
+-- what holds of each bad line holds of one that is why
+pub bad_each : {T : Type 0} (r : Result T WriteFault) (Q : BadLine → Type 0) → ((line : BadLine) → Q line) → IfErr r (OnBad Q)
+bad_each (Ok value) Q so = tt
+bad_each (Err W.Memory) Q so = tt
+bad_each (Err W.Logs) Q so = tt
+bad_each (Err W.Output) Q so = tt
+bad_each (Err (W.Refused why)) Q so = tt
+bad_each (Err (W.Bad log row)) Q so = so (bad_line log row)

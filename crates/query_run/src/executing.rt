@@ -1,5 +1,5 @@
 // A query over logs to a stage.
-ghost use Rattle.std.specs.Prelude.{◌≡◌, ◌≤◌, ◌<◌, ◌^◌, ◌+◌, ◌++◌, List, true, length, map, OnOk, OnErr, IfOk, IfErr, IsErrOf, IsSome};
+ghost use Rattle.std.specs.Prelude.{◌≡◌, ◌≤◌, ◌<◌, ◌^◌, ◌+◌, ◌++◌, [], List, true, length, map, OnOk, OnErr, IfOk, IfErr, IsErrOf, IsSome};
 ghost use Rattle.lp_model.specs.Outside.{Rose, OnlyGrow, Told};
 ghost use Rattle.log_reading.specs.Page.{IsTooMany, IsWithin};
 ghost use Rattle.log_reading.specs.Spans.{AllSpans, AreReadable, IsSpan, AreKept, spans_found, spans_bad, spans_bad_lines, spans_size, took_of};
@@ -8,6 +8,7 @@ ghost use Rattle.text_output.specs.Output.{kind_of};
 ghost use Rattle.row_output.specs.Asked.{left_of};
 ghost use Rattle.row_output.specs.Kept.{HasRows, IsNew, asked_of};
 ghost use Rattle.row_output.specs.Rows.{Holds, IsRefused, Stops};
+ghost use Rattle.row_output.specs.declared.fault.Refused.{Refused as Why};
 ghost use Rattle.row_output.specs.declared.kept.RowOutput.{RowOutput};
 ghost use Rattle.log_reading.specs.declared.span.RunFault.TheVariants as R;
 ghost use Rattle.log_reading.specs.declared.taker.TakeFault.TheVariants as T;
@@ -129,6 +130,7 @@ fn open_page<P: Drop, G: Stage>(
     ensures stops { OnErr result ((rows : List Row) → Stops (kind_of G.state G.ended) (asked_of output) stage.old rows stage.new) }
     ensures refused { IfErr result (OnRefusedOutput (λ why. (rows : List Row) → IsRefused (asked_of output) rows why)) }
     ensures good { IfErr result (OnBad (λ line. ⊥)) }
+    ensures named { OnOk result ((why : Why) → IsRefused (asked_of output) [] why → ⊥) }
     ensures logs { IsErrOf result WriteFault.Logs → ⊥ }
     ensures goes { G.goes stage.old stage.new }
     ensures later { G.faults stage.old ≤ G.faults stage.new }
@@ -273,6 +275,8 @@ pub fn write_spans<R: LineReader, L: LogSource, P: Picker + Drop, G: Stage>(
     ensures within { IfOk result (λ written. IsWithin most_bad written.counts.bad) }
     ensures too_many { IfErr result (OnBad (λ line. Told (L.folder logs.new) (λ folder. AreKept (R.format reader.now) waits spans.now folder
         → IsTooMany most_bad 0 (spans_bad_lines (R.format reader.now) waits folder spans.now) line))) }
+    // An output of a name without stars is refused before any bad line is told.
+    ensures named { IfErr result (OnBad (λ line. (why : Why) → IsRefused (asked_of output) [] why → ⊥)) }
     ensures refused { IfErr result (OnRefusedOutput (λ why. Told (L.folder logs.new) (λ folder. AreKept (R.format reader.now) waits spans.now folder
         → IsRefused (asked_of output) (picked (P.picks picker) (spans_found (R.format reader.now) waits folder spans.now)) why))) }
     ensures sink { IsErrOf result WriteFault.Output → Rose (G.faults stage.old) (G.faults stage.new) }

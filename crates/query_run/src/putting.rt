@@ -1,8 +1,11 @@
 // How a writer puts rows.
-ghost use Rattle.std.specs.Prelude.{◌≡◌, ◌≤◌, ◌<◌, ◌+◌, ◌^◌, None, OnOk, OnErr, IsErrOf, IsSome};
+ghost use Rattle.std.specs.Prelude.{◌≡◌, ◌≤◌, ◌<◌, ◌+◌, ◌^◌, [], false, None, OnOk, OnErr, IsErrOf, IsSome};
 ghost use Rattle.lp_model.specs.Outside.{Rose};
 ghost use Rattle.text_output.specs.Output.{kind_of};
+ghost use Rattle.row_output.specs.Kept.{HasRows, asked_of};
+ghost use Rattle.row_output.specs.Rows.{IsRefused};
 ghost use Rattle.row_output.specs.Sinks.{HoldsNoPiece};
+ghost use Rattle.row_output.specs.declared.fault.Refused.{Refused as Why};
 ghost use Rattle.query_run.specs.Writer.{Opens, Puts, StopsAtOnce, StopsIn, refused_by, take_fault};
 
 use crate::Writer;
@@ -20,6 +23,7 @@ impl<P: Drop> Writer<P> {
         ensures picker { result.picker ≡ picker }
         ensures taken { result.taken ≡ 0 }
         ensures refused { result.refused ≡ None }
+        ensures opened { result.opened ≡ false }
     {
         Writer {
             output,
@@ -41,6 +45,7 @@ impl<P: Drop> Writer<P> {
         ensures later { G.faults stage.old ≤ G.faults stage.new }
         ensures failed { IsErrOf result TakeFault.Failed → Rose (G.faults stage.old) (G.faults stage.new) }
         ensures stopped { IsErrOf result TakeFault.Stopped → IsSome self.new.refused }
+        ensures named { OnOk result (self.old.opened ≡ false → (start : G) → HasRows (kind_of G.state G.ended) self.old.output start [] stage.old → (why : Why) → IsRefused (asked_of self.old.output) [] why → ⊥) }
     {
         if self.opened {
             return Ok(());
@@ -81,6 +86,7 @@ impl<P: Drop> Writer<P> {
         ensures later { G.faults stage.old ≤ G.faults stage.new }
         ensures failed { IsErrOf result TakeFault.Failed → Rose (G.faults stage.old) (G.faults stage.new) }
         ensures stopped { IsErrOf result TakeFault.Stopped → IsSome self.new.refused }
+        ensures named { OnOk result (self.old.opened ≡ false → (start : G) → HasRows (kind_of G.state G.ended) self.old.output start [] stage.old → (why : Why) → IsRefused (asked_of self.old.output) [] why → ⊥) }
     {
         self.open(stage)?;
         self.pass_on(stage)

@@ -29,16 +29,16 @@ asked_for purpose order = record { files = purpose.files; text = purpose.text; c
 left_so : {S : Type 0} (kind : StageKind S) (kept : Kept) (order : Finish) (s : Sink) (start : S) (rows more : List Row) (a : S) (P : List Row → Type 0) → ((rows more : List Row) → HasSinkRows kind s start rows a → P (rows ++ more))
     → HasKept kind kept order s start rows a → P (finished order (rows ++ more))
 left_so kind K.All order s start rows more a P so (plain, has) = subst P (sym (all_left order plain (rows ++ more))) (so rows more has)
-left_so kind (K.Ordered ordering) order s start rows more a P so (same, stands, has) = so [] (finished order (rows ++ more)) has
+left_so kind (K.Ordered ordering) order s start rows more a P so (asks, same, stands, has) = so [] (finished order (rows ++ more)) has
 
 -- the rows that it has, whichever these are
 still_so : {S : Type 0} (kind : StageKind S) (kept : Kept) (order : Finish) (s : Sink) (start : S) (rows : List Row) (a : S) (Q : Type 0) → ((rows : List Row) → HasSinkRows kind s start rows a → Q) → HasKept kind kept order s start rows a → Q
 still_so kind K.All order s start rows a Q so (plain, has) = so rows has
-still_so kind (K.Ordered ordering) order s start rows a Q so (same, stands, has) = so [] has
+still_so kind (K.Ordered ordering) order s start rows a Q so (asks, same, stands, has) = so [] has
 
 still_has : {S : Type 0} (kind : StageKind S) (kept : Kept) (order : Finish) (s t : Sink) (start : S) (rows : List Row) (a b : S) → ((rows : List Row) → HasSinkRows kind s start rows a → HasSinkRows kind t start rows b) → HasKept kind kept order s start rows a → HasKept kind kept order t start rows b
 still_has kind K.All order s t start rows a b so (plain, has) = (plain, so rows has)
-still_has kind (K.Ordered ordering) order s t start rows a b so (same, stands, has) = (same, stands, so [] has)
+still_has kind (K.Ordered ordering) order s t start rows a b so (asks, same, stands, has) = (asks, same, stands, so [] has)
 
 -- the same kept rows, taken out
 pub kept_as : {S : Type 0} (kind : StageKind S) (kept taken : Kept) (order : Finish) (s : Sink) (start : S) (rows : List Row) (a : S) → taken ≡ kept → HasKept kind kept order s start rows a → HasKept kind taken order s start rows a
@@ -87,11 +87,11 @@ module _ {S : Type 0} (kind : StageKind S) (kept : Kept) (ordering : Ordering) (
 
   pub ordered_takes : (new : Ordering) (row : Row) → new.finish ≡ ordering.finish → (ordering.finish ≡ order → (rows : List Row) → StandsFor ordering rows → StandsFor new (rows ++ row ∷ [])) → HasKept kind kept order s start rows a
       → HasKept kind (K.Ordered new) order s start (rows ++ row ∷ []) a
-  ordered_takes new row same so has = let own = had has in (same ∙ own.0, so own.0 rows own.1, own.2)
+  ordered_takes new row same so has = let own = had has in (own.0, same ∙ own.1, so own.1 rows own.2, own.3)
 
   -- what it leaves
   pub ordered_so : (left : List Row) (P : List Row → Type 0) → ((rows : List Row) → StandsFor ordering rows → left ≡ finished ordering.finish rows) → (HasSinkRows kind s start [] a → P left) → HasKept kind kept order s start rows a → P (finished order rows)
-  ordered_so left P leaves so has = let own = had has in subst P (leaves rows own.1 ∙ ap (λ (f : Finish). finished f rows) own.0) (so own.2)
+  ordered_so left P leaves so has = let own = had has in subst P (leaves rows own.2 ∙ ap (λ (f : Finish). finished f rows) own.1) (so own.3)
 
 -- nothing more is put
 pub nothing_stops : {S : Type 0} (kind : StageKind S) (kept : Kept) (order : Finish) (s : Sink) (start : S) (rows : List Row) (a : S) → HasKept kind kept order s start rows a → StopsAt (files_in s) kind (sink_text s) start (finished order rows) a
@@ -170,7 +170,7 @@ any_stands order ordering rows row same plain past stands =
 -- so has an output
 kept_skips : {S : Type 0} (kind : StageKind S) (kept : Kept) (order : Finish) (s : Sink) (start : S) (rows : List Row) (row : Row) (a : S) → LetsAllGo kept order → HasKept kind kept order s start rows a → HasKept kind kept order s start (rows ++ row ∷ []) a
 kept_skips kind K.All order s start rows row a drops has = absurd drops
-kept_skips kind (K.Ordered ordering) order s start rows row a (plain, past) (same, stands, has) = (same, any_stands order ordering rows row same plain past stands, has)
+kept_skips kind (K.Ordered ordering) order s start rows row a (plain, past) (asks, same, stands, has) = (asks, same, any_stands order ordering rows row same plain past stands, has)
 
 pub rows_skip : {S : Type 0} (kind : StageKind S) (o p : RowOutput) (start : S) (rows : List Row) (row : Row) (a : S) → DropsAll o → p.kept ≡ o.kept → p.order ≡ o.order → p.sink ≡ o.sink → p.put ≡ o.put + 1 → HasRows kind o start rows a → HasRows kind p start (rows ++ row ∷ []) a
 unfolding HasRows

@@ -11,3 +11,5 @@ pub mod Plain
 pub mod Stopping
 pub mod SinkCalls
 pub mod KeptCalls
+pub mod AtOnce
+pub mod Unrefused

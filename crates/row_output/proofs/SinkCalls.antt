@@ -1,7 +1,8 @@
 -- What the calls of a sink come to.
-use Rattle.std.proofs.Common.{◌≡◌, ◌+◌, ◌<◌, ℕ, ℤ, true, List, [], ◌∷◌, ◌++◌, length, take, drop, get_or, Option, Some, None, Result, Ok, Err, OnOk, OnErr, IfOk, IfErr, IsErrAnd, IsErrOf, refl, sym, ◌∙◌, ap, subst}
+use Rattle.std.proofs.Common.{◌≡◌, ◌+◌, ◌<◌, ℕ, ℤ, Bool, true, List, [], ◌∷◌, ◌++◌, length, take, drop, get_or, Option, Some, None, Result, Ok, Err, OnOk, OnErr, IfOk, IfErr, IsErrAnd, IsErrOf, refl, sym, ◌∙◌, ap, subst}
 use Rattle.std.proofs.lemmas.List.{append-nil, take-append-drop, drop_more, take_more}
-use Rattle.any_format.specs.Formats.{text_of, HasText, format_begins}
+use Rattle.any_format.specs.declared.format.Format.{Format}
+use Rattle.any_format.specs.Formats.{text_of, is_at_once, format_text, HasText, format_begins}
 use Rattle.any_format.specs.Wanted.{wanted_text}
 use Rattle.any_format.specs.declared.wanted.Wanted.{Wanted}
 use Rattle.command_words.specs.declared.modes.FileMode.{FileMode}
@@ -34,6 +35,9 @@ use Rattle.row_output.proofs.Calls.{refused_so}
 use Rattle.row_output.proofs.Naming.{names_plain}
 use Rattle.row_output.proofs.States.{refused_put}
 
+abbrev text_as : (Bool → List (List ℕ) → List Row → List ℕ) → Bool → RowsText
+text_as text once = record { of = text; at_once = once }
+
 abbrev made : Option Files → RowsText → List (List ℕ) → Purpose
 made files text columns = record { files = files; text = text; columns = columns }
 
@@ -44,13 +48,17 @@ files_made f files wanted moment columns same is_wanted is_moment are =
     ∙ (ap (λ (m : ℤ). made (Some files) (wanted_text wanted m) f.columns) is_moment
     ∙ ap (λ (c : List (List ℕ)). made (Some files) (wanted_text wanted moment) c) are))
 
-pub standard_made : (s : Standard) (text : RowsText) (names : List (List ℕ)) → text_of s.text.shape ≡ text → s.names ≡ names → purpose_of (To.Standard s) ≡ made None text names
+-- formats that are alike in both
+pub same_text : (a b : Format) → text_of a ≡ text_of b → is_at_once a ≡ is_at_once b → format_text a ≡ format_text b
+same_text a b text once = ap (λ (t : Bool → List (List ℕ) → List Row → List ℕ). text_as t (is_at_once a)) text ∙ ap (text_as (text_of b)) once
+
+pub standard_made : (s : Standard) (text : RowsText) (names : List (List ℕ)) → format_text s.text.shape ≡ text → s.names ≡ names → purpose_of (To.Standard s) ≡ made None text names
 standard_made s text names format are = ap (λ (t : RowsText). made None t s.names) format ∙ ap (λ (c : List (List ℕ)). made None text c) are
 
 abbrev pub purpose_for : Into → RowsText → List (List ℕ) → Purpose
 purpose_for into text names = made (files_for into) text (columns_for (files_for into) names)
 
-pub new_standard : (into : Into) (s : Standard) (text : RowsText) (names : List (List ℕ)) → into ≡ I.Standard → text_of s.text.shape ≡ text → s.names ≡ names → purpose_of (To.Standard s) ≡ purpose_for into text names
+pub new_standard : (into : Into) (s : Standard) (text : RowsText) (names : List (List ℕ)) → into ≡ I.Standard → format_text s.text.shape ≡ text → s.names ≡ names → purpose_of (To.Standard s) ≡ purpose_for into text names
 new_standard into s text names is format are = standard_made s text names format are ∙ ap (λ (i : Into). purpose_for i text names) (sym is)
 
 pub new_files : (into : Into) (outputs : Numbering) (mode : FileMode) (f : FileOutputs) (wanted : Wanted) (moment : ℤ) (names : List (List ℕ)) → into ≡ I.Files outputs mode
@@ -117,8 +125,8 @@ module _ {S : Type 0} (kind : StageKind S) (s : Sink) (f : FileOutputs) (is : s 
 
 -- a call of the text of a sink
 module _ {S : Type 0} (kind : StageKind S) (s : Sink) (old : Standard) (is : s ≡ To.Standard old) (a b : S) where
-  pub standard_same : (new : Standard) → text_of new.text.shape ≡ text_of old.text.shape → new.names ≡ old.names → purpose_of (To.Standard new) ≡ purpose_of s
-  standard_same new format names = standard_made new (text_of old.text.shape) old.names format names ∙ ap purpose_of (sym is)
+  pub standard_same : (new : Standard) → format_text new.text.shape ≡ format_text old.text.shape → new.names ≡ old.names → purpose_of (To.Standard new) ≡ purpose_of s
+  standard_same new format names = standard_made new (format_text old.text.shape) old.names format names ∙ ap purpose_of (sym is)
 
   pub text_had : (start : S) (rows : List Row) → HasSinkRows kind s start rows a → HasStandardRows kind old start rows a
   text_had start rows has = subst (λ (x : Sink). HasSinkRows kind x start rows a) is has
@@ -178,14 +186,14 @@ failed_put told T.Memory Q is so same = cc
 
 -- what a sink is for decides where it stops, what it refuses and what it holds
 pub stops_alike : {S : Type 0} (kind : StageKind S) (s t : Sink) (start : S) (rows : List Row) (now : S) → purpose_of s ≡ purpose_of t → StopsAt (files_in s) kind (sink_text s) start rows now → StopsAt (files_in t) kind (sink_text t) start rows now
-stops_alike kind s t start rows now same stop = subst (λ (p : Purpose). StopsAt p.files kind (λ fresh more. p.text fresh p.columns more) start rows now) same stop
+stops_alike kind s t start rows now same stop = subst (λ (p : Purpose). StopsAt p.files kind (λ fresh more. p.text.of fresh p.columns more) start rows now) same stop
 
 pub refused_alike : (s t : Sink) (rows : List Row) (why : Refused) → purpose_of s ≡ purpose_of t → IsRefusedAt (files_in s) rows why → IsRefusedAt (files_in t) rows why
 refused_alike s t rows why same refused = subst (λ (p : Purpose). IsRefusedAt p.files rows why) same refused
 
 pub holds_alike : {S : Type 0} (kind : StageKind S) (s t : Sink) (start : S) (rows : List Row) (outputs : List Output) (now : S) → purpose_of s ≡ purpose_of t → HoldsAt (files_in s) kind (sink_text s) start rows outputs now
     → HoldsAt (files_in t) kind (sink_text t) start rows outputs now
-holds_alike kind s t start rows outputs now same holds = subst (λ (p : Purpose). HoldsAt p.files kind (λ fresh more. p.text fresh p.columns more) start rows outputs now) same holds
+holds_alike kind s t start rows outputs now same holds = subst (λ (p : Purpose). HoldsAt p.files kind (λ fresh more. p.text.of fresh p.columns more) start rows outputs now) same holds
 
 -- one row of all, between those before and those behind it
 pub with_rest : (all : List Row) (i : ℕ) (row d : Row) → i < length all → row ≡ get_or all i d → take i all ++ (row ∷ drop (i + 1) all) ≡ all

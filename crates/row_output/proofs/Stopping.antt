@@ -30,7 +30,7 @@ pub kept_stops : {S : Type 0} (kind : StageKind S) (kept : Kept) (order : Finish
 kept_stops kind K.All order s start rows more now (plain, has) =
     let Of : List Row → Type 0 = λ t. StopsAt (files_in s) kind (sink_text s) start t now in
     subst Of (sym (all_left order plain (rows ++ more))) (sink_stops kind s start rows more now has)
-kept_stops kind (K.Ordered ordering) order s start rows more now (same, stands, has) = sink_stops kind s start [] (finished order (rows ++ more)) now has
+kept_stops kind (K.Ordered ordering) order s start rows more now (asks, same, stands, has) = sink_stops kind s start [] (finished order (rows ++ more)) now has
 
 pub rows_stop : {S : Type 0} (kind : StageKind S) (o : RowOutput) (start : S) (rows more : List Row) (now : S) → HasRows kind o start rows now → Stops kind (asked_of o) start (rows ++ more) now
 unfolding HasRows Stops
@@ -49,7 +49,7 @@ sink_new kind (S.Files f) start new = new_files_has kind f start new
 
 kept_new : {S : Type 0} (kind : StageKind S) (kept : Kept) (order : Finish) (s : Sink) (start : S) → IsNewKept kept order → IsNewSink s → HasKept kind kept order s start [] start
 kept_new kind K.All order s start plain new = (plain, sink_new kind s start new)
-kept_new kind (K.Ordered ordering) order s start (same, stands) new = (same, stands, sink_new kind s start new)
+kept_new kind (K.Ordered ordering) order s start (asks, same, stands) new = (asks, same, stands, sink_new kind s start new)
 
 -- no row was put
 pub new_has : {S : Type 0} (kind : StageKind S) (o : RowOutput) (start : S) → IsNew o → HasRows kind o start [] start

@@ -34,7 +34,7 @@ keeps_same kind a = record {
 -- a text before its first row
 pub text_opens : {S : Type 0} (kind : StageKind S) (making : Making) (a b : S) (index : ℕ) (name : List ℕ) (base : ℕ) (target : Target) (text : TextOutput Format)
     → ((s : S) → (kind.state s).tells → (output : ℕ) (name : List ℕ) (base : ℕ) → (kind.state s).is_text output name base no_mark [])
-    → KeepsStage kind a b → IsBase kind making.mode a name base → target.output ≡ index → target.name ≡ name → target.base ≡ base → target.mark ≡ no_mark → text.target ≡ target → text_of text.shape ≡ wanted_text making.wanted making.moment
+    → KeepsStage kind a b → IsBase kind making.mode a name base → target.output ≡ index → target.name ≡ name → target.base ≡ base → target.mark ≡ no_mark → text.target ≡ target → text_of text.shape ≡ (wanted_text making.wanted making.moment).of
     → IsSoFar text.shape (target.base == 0) making.columns [] text.held → IsOnItsWay kind making a b index name [] text
 text_opens kind making a b index name base target text empty keeps is_base output named based marked same format so_far =
     let of_base : text.target.base ≡ base = ap (λ (t : Target). t.base) same ∙ based in
@@ -109,7 +109,7 @@ text_ends kind files making start a b index name rows text output added mode gai
     let last_bytes : List ℕ = text.held ++ added in
     let gained = gains.gained (below text.target.mark.length (length is.done) is.size) in
     let whole : text_by making (output.base == 0) rows ≡ is.done ++ (text.held ++ added) =
-    ap (λ (n : ℕ). wanted_text making.wanted making.moment (n == 0) making.columns rows) based
+    ap (λ (n : ℕ). (wanted_text making.wanted making.moment).of (n == 0) making.columns rows) based
     ∙ (ap (λ t. t (text.target.base == 0) making.columns rows) (sym is.format)
     ∙ (last (text.target.base == 0) making.columns rows (is.done ++ text.held) is.so_far ∙ append_assoc is.done text.held added)) in
     let Stands : List ℕ → Type 0 = λ t. HasText index name output.base output.mark t (kind.state b) in

@@ -1,5 +1,6 @@
 -- What is asked of the rows of a query: what is left of them, in which format, and where the text goes.
 use Rattle.std.specs.Prelude.{◌≡◌, ◌⊎◌, ◌≤◌, ◌<◌, ℕ, Bool, List, [], ◌∷◌, ◌++◌, ◌==◌, length, map, drop, true, false, Option, Some, None, All}
+pub use Rattle.any_format.specs.Formats.{RowsText}
 use Rattle.command_words.specs.declared.modes.FileMode.{FileMode}
 use Rattle.log_listing.specs.Firsts.{is_among}
 use Rattle.lp_outside.specs.NameFault.{name_fault}
@@ -8,10 +9,6 @@ use Rattle.multiplex.specs.Splitting.{OutputRows, output_names, row_name, split}
 use Rattle.order_top.specs.Finish.{Row, Finish, finished}
 use Rattle.row_output.specs.declared.fault.Refused.{Refused}
 use Rattle.row_output.specs.declared.fault.Refused.TheVariants as R
-
--- the text of named rows, for an output that begins empty or not
-abbrev pub RowsText : Type 0
-RowsText = Bool → List (List ℕ) → List Row → List ℕ
 
 -- Outputs in files: the INTO name, the names that none may have, and what becomes of a file that holds bytes.
 pub record Files : Type 0 where
@@ -40,7 +37,7 @@ abbrev pub OutputText : Type 0
 OutputText = Bool → List Row → List ℕ
 
 abbrev pub text_in : Asked → OutputText
-text_in asked fresh rows = asked.text fresh asked.columns rows
+text_in asked fresh rows = asked.text.of fresh asked.columns rows
 
 -- a new name, behind those before it, is refused by this fault, the first of three
 abbrev pub IsRefusedAs : List (List ℕ) → List (List ℕ) → List ℕ → Refused → Type 0

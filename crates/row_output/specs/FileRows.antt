@@ -19,7 +19,7 @@ abbrev pub files_of : FileOutputs → Files
 files_of f = record { pattern = f.outputs.pattern; forbidden = f.outputs.forbidden; mode = f.mode }
 
 abbrev pub output_text : FileOutputs → OutputText
-output_text f fresh rows = wanted_text f.wanted f.moment fresh f.columns rows
+output_text f fresh rows = (wanted_text f.wanted f.moment).of fresh f.columns rows
 
 abbrev pub making_of : FileOutputs → Making
 making_of f = record { mode = f.mode; wanted = f.wanted; moment = f.moment; columns = f.columns }

@@ -28,7 +28,7 @@ pub record Making : Type 0 where
 
 -- the text of rows
 abbrev pub text_by : Making → OutputText
-text_by making fresh rows = wanted_text making.wanted making.moment fresh making.columns rows
+text_by making fresh rows = (wanted_text making.wanted making.moment).of fresh making.columns rows
 
 -- The text of some rows is on its way to the output of an index and a name: up to its mark the front of it stands there, and
 -- the rest is held.
@@ -36,7 +36,7 @@ pub record IsOnItsWay {S : Type 0} (kind : StageKind S) (making : Making) (start
   pub output : text.target.output ≡ index
   pub called : text.target.name ≡ name
   pub base : IsBase kind making.mode start name text.target.base
-  pub format : text_of text.shape ≡ wanted_text making.wanted making.moment
+  pub format : text_of text.shape ≡ (wanted_text making.wanted making.moment).of
   pub done : List ℕ
   pub size : text.target.mark.length ≡ length done % 2 ^ 64
   pub stands : (kind.state start).tells → HasText index name text.target.base text.target.mark done (kind.state now)

@@ -29,10 +29,10 @@ LetsAllGo (K.Ordered ordering) order = (order.columns ≡ []) × IsTrue (is_past
 abbrev pub DropsAll : RowOutput → Type 0
 DropsAll o = LetsAllGo o.kept o.order
 
--- rows went on as they came, or an order has them
+-- rows went on as they came, or an order has them, which asks something
 abbrev pub HasKept : {S : Type 0} → StageKind S → Kept → Finish → Sink → S → List Row → S → Type 0
 HasKept kind K.All order sink start rows now = IsPlain order × HasSinkRows kind sink start rows now
-HasKept kind (K.Ordered ordering) order sink start rows now = (ordering.finish ≡ order) × StandsFor ordering rows × HasSinkRows kind sink start [] now
+HasKept kind (K.Ordered ordering) order sink start rows now = ¬ IsPlain order × (ordering.finish ≡ order) × StandsFor ordering rows × HasSinkRows kind sink start [] now
 
 -- since a moment of the stage these rows were put
 pub record HasPut {S : Type 0} (kind : StageKind S) (o : RowOutput) (start : S) (rows : List Row) (now : S) : Type 0 where
@@ -45,7 +45,7 @@ HasRows kind o start rows now = HasPut kind o start rows now
 -- no row was put
 abbrev pub IsNewKept : Kept → Finish → Type 0
 IsNewKept K.All order = IsPlain order
-IsNewKept (K.Ordered ordering) order = (ordering.finish ≡ order) × StandsFor ordering []
+IsNewKept (K.Ordered ordering) order = ¬ IsPlain order × (ordering.finish ≡ order) × StandsFor ordering []
 
 pub record IsNew (o : RowOutput) : Type 0 where
   pub kept : IsNewKept o.kept o.order

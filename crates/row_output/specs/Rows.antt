@@ -1,5 +1,6 @@
 -- What becomes of the rows of a query.
-use Rattle.std.specs.Prelude.{◌≡◌, ℕ, true, List, [], ◌∷◌, Option, Some, None}
+use Rattle.std.specs.Prelude.{◌≡◌, ◌<◌, ◌+◌, ℕ, true, length, List, [], ◌∷◌, Option, Some, None}
+use Rattle.lp_outside.specs.declared.stage.Mark.{Mark}
 use Rattle.lp_outside.specs.Stages.{no_mark}
 use Rattle.lp_outside.specs.Gained.{standard_output}
 use Rattle.order_top.specs.Finish.{Row}
@@ -12,6 +13,14 @@ use Rattle.row_output.specs.declared.fault.Refused.{Refused}
 -- standard output before its first byte
 abbrev pub standard_at : {S : Type 0} → (kind : StageKind S) → S → OutputAt kind
 standard_at kind stage = record { output = 0; name = standard_output; base = 0; mark = no_mark; stage = stage }
+
+-- standard output at a moment, with a text up to a mark
+abbrev pub standard_to : {S : Type 0} → (kind : StageKind S) → Mark → S → OutputAt kind
+standard_to kind mark stage = record { output = 0; name = standard_output; base = 0; mark = mark; stage = stage }
+
+-- since a moment standard output has gained as much as a text has, but for less than a piece of a stage
+abbrev pub GainsNearly : {S : Type 0} → StageKind S → S → List ℕ → S → Type 0
+GainsNearly kind start text now = (done : List ℕ) × (mark : Mark) × GainsText (standard_at kind start) (standard_to kind mark now) done × (length text < length done + 4_096)
 
 -- standard output has gained the text of the rows
 pub record StandardHolds {S : Type 0} (kind : StageKind S) (written : OutputText) (start : S) (rows : List Row) (outputs : List Output) (now : S) : Type 0 where

@@ -1,6 +1,6 @@
 -- How far rows have come on their way to standard output or to files.
 use Rattle.std.specs.Prelude.{◌≡◌, ◌<◌, ℕ, true, length, List, [], ◌∷◌, Option, Some, None, ⊤}
-use Rattle.any_format.specs.Formats.{text_of, HasText}
+use Rattle.any_format.specs.Formats.{HasText, format_text}
 use Rattle.any_format.specs.Wanted.{wanted_text}
 use Rattle.multiplex.specs.Naming.{stars}
 use Rattle.order_top.specs.Finish.{Row}
@@ -33,7 +33,7 @@ files_in (S.Standard s) = None
 files_in (S.Files f) = Some (files_of f)
 
 abbrev pub text_fn : Sink → RowsText
-text_fn (S.Standard s) = text_of s.text.shape
+text_fn (S.Standard s) = format_text s.text.shape
 text_fn (S.Files f) = wanted_text f.wanted f.moment
 
 abbrev pub columns_in : Sink → List (List ℕ)
@@ -41,7 +41,7 @@ columns_in (S.Standard s) = s.names
 columns_in (S.Files f) = f.columns
 
 abbrev pub sink_text : Sink → OutputText
-sink_text s fresh rows = text_fn s fresh (columns_in s) rows
+sink_text s fresh rows = (text_fn s).of fresh (columns_in s) rows
 
 -- an output is standard output, before its first byte
 pub record IsStandard (target : Target) : Type 0 where

@@ -75,7 +75,7 @@ pub(crate) fn begin_text(
     target: Target,
 ) -> Result<TextOutput<Format>, AllocError>
     requires { IsMoment moment }
-    ensures format { IfOk result (λ text. text_of text.shape ≡ wanted_text wanted.now moment) }
+    ensures format { IfOk result (λ text. text_of text.shape ≡ (wanted_text wanted.now moment).of) }
     ensures target { IfOk result (λ text. text.target ≡ target) }
     ensures so_far { IfOk result (λ text. HasText text.shape (target.base == 0) columns.now [] text.held) }
 {

@@ -9,6 +9,7 @@ ghost use Rattle.row_output.specs.FileRows.{OnRefused};
 ghost use Rattle.order_top.specs.Ordering.{StandsFor, is_past};
 ghost use Rattle.row_output.specs.Rows.{Holds, IsRefused, IsRefusedAt, Stops, StopsAt};
 ghost use Rattle.row_output.specs.Sinks.{HasSinkRows, HoldsLittle, HoldsNoPiece, IsOpened, IsUnplaced, files_for, files_in, purpose_of, sink_text};
+ghost use Rattle.row_output.specs.declared.fault.Refused.{Refused as Why};
 ghost use Rattle.row_output.specs.Few.{GoOn, places_in};
 ghost use Rattle.row_output.specs.Orders.{IsPlain};
 ghost use Rattle.row_output.specs.Kept.{DropsAll, HasKept, HasRows, IsNew, IsNewKept, KeepsNone, asked_of};
@@ -195,6 +196,8 @@ impl RowOutput {
         ensures stop { OnErr result ((start : G) (rows more : List Row) → HasRows (kind_of G.state G.ended) self.old start rows stage.old → Stops (kind_of G.state G.ended) (asked_of self.old) start (rows ++ more) stage.new) }
         ensures refused { IfErr result (OnRefused (λ fault. (start : G) (rows more : List Row) → HasRows (kind_of G.state G.ended) self.old start rows stage.old → IsRefused (asked_of self.old) (rows ++ more) fault)) }
         ensures opened { OnOk result ((start : G) (rows : List Row) → HasRows (kind_of G.state G.ended) self.old start rows stage.old → IsOpened self.new.sink) }
+        // An output of a name without stars is refused here, if at all.
+        ensures named { OnOk result ((start : G) → HasRows (kind_of G.state G.ended) self.old start [] stage.old → (why : Why) → IsRefused (asked_of self.old) [] why → ⊥) }
         ensures count { self.new.put ≡ self.old.put }
         ensures streams { KeepsNone self.old → KeepsNone self.new }
         ensures goes { G.goes stage.old stage.new }

@@ -1,7 +1,7 @@
 // Where rows go: standard output, or files.
 ghost use Rattle.std.specs.Prelude.{◌≡◌, true, ◌≤◌, ◌++◌, ◌∷◌, [], ℕ, List, OnOk, OnErr, IfOk, IfErr, IsErrOf};
 ghost use Rattle.lp_model.specs.Outside.{Rose};
-ghost use Rattle.any_format.specs.Formats.{text_of, HasText};
+ghost use Rattle.any_format.specs.Formats.{text_of, format_text, HasText};
 ghost use Rattle.any_format.specs.Wanted.{IsMoment, wanted_text};
 ghost use Rattle.order_top.specs.Finish.{Row};
 ghost use Rattle.text_output.specs.Output.{kind_of, GainsFront};
@@ -49,7 +49,7 @@ fn standard_output() -> Target
 impl Standard {
     fn new(alloc: Global, format: Format, names: TextList) -> Result<Standard, AllocError>
         ensures names { IfOk result (λ s. s.names ≡ names) }
-        ensures format { IfOk result (λ s. text_of s.text.shape ≡ text_of format) }
+        ensures format { IfOk result (λ s. format_text s.text.shape ≡ format_text format) }
         ensures target { IfOk result (λ s. IsStandard s.text.target) }
         ensures text { IfOk result (λ s. HasText s.text.shape true s.names [] s.text.held) }
     {

@@ -1,5 +1,6 @@
 // Tables to be read by people.
 ghost use Rattle.std.specs.Prelude.{◌≡◌, ◌||◌, ◌∷◌, ◌++◌, [], false, map, nat_lt, length, IfOk, OnOk, OnErr};
+ghost use Rattle.std.proofs.lemmas.Bool.{false≢true};
 ghost use Rattle.lp_model.specs.Outside.{GrowsIn};
 ghost use Rattle.lp_values.specs.declared.value.Value.TheVariants.{Text};
 ghost use Rattle.text_formats.specs.Nat.{is_full, title, gap_before, nat_of, IsNatText};
@@ -204,6 +205,8 @@ impl Shape for Nat {
 
     ghost shown = { λ s rows. rows };
 
+    ghost at_once = { λ s. false };
+
     fn begin(&mut self, names: &TextList, fresh: bool, to: &mut Bytes) -> Result<(), AllocError> {
         self.title = title_of(self.alloc, names, &mut self.scratch)?;
         self.held.clear();
@@ -233,4 +236,6 @@ impl Shape for Nat {
     }
 
     ghost begins = { λ s fresh names rows more so_far is. nat_begins s fresh names rows more so_far is };
+
+    ghost whole = { λ s fresh names rows so_far once is. absurd (false≢true once) };
 }

@@ -1,5 +1,5 @@
 // Separated values.
-ghost use Rattle.std.specs.Prelude.{◌≡◌};
+ghost use Rattle.std.specs.Prelude.{◌≡◌, true};
 ghost use Rattle.output_formats.specs.Headers.{is_headed};
 ghost use Rattle.text_formats.specs.Lined.{lined_begins};
 ghost use Rattle.text_formats.specs.Tsv.{tsv_of, tsv_head, tsv_line, tsv_style};
@@ -70,6 +70,8 @@ impl Shape for TsvOut {
 
     ghost shown = { λ s rows. rows };
 
+    ghost at_once = { λ s. true };
+
     fn begin(&mut self, names: &TextList, fresh: bool, to: &mut Bytes) -> Result<(), AllocError> {
         if is_headed(self.headers, fresh) {
             add_names(tsv_style(self.separator), names, to)?;
@@ -92,4 +94,6 @@ impl Shape for TsvOut {
     }
 
     ghost begins = { λ s fresh names rows more so_far is. lined_begins (tsv_head s.headers s.separator fresh names) (tsv_line s.separator) rows more so_far is };
+
+    ghost whole = { λ s fresh names rows so_far once is. is };
 }

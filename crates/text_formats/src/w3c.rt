@@ -1,5 +1,5 @@
 // The W3C extended log file format.
-ghost use Rattle.std.specs.Prelude.{◌≡◌, ◌++◌, pos, ◌≤ℤ◌, ◌<ℤ◌, OnOk, OnErr};
+ghost use Rattle.std.specs.Prelude.{◌≡◌, ◌++◌, true, pos, ◌≤ℤ◌, ◌<ℤ◌, OnOk, OnErr};
 ghost use Rattle.lp_model.specs.Outside.{GrowsIn};
 ghost use Rattle.lp_values.specs.Civil.{civil_of};
 ghost use Rattle.lp_values.specs.Printed.{printed_stamp};
@@ -94,6 +94,8 @@ impl Shape for W3cOut {
 
     ghost shown = { λ s rows. rows };
 
+    ghost at_once = { λ s. true };
+
     fn begin(&mut self, names: &TextList, fresh: bool, to: &mut Bytes) -> Result<(), AllocError> {
         add_head(self.moment, names, to)
     }
@@ -111,4 +113,6 @@ impl Shape for W3cOut {
     }
 
     ghost begins = { λ s fresh names rows more so_far is. lined_begins (w3c_head s names) w3c_line rows more so_far is };
+
+    ghost whole = { λ s fresh names rows so_far once is. is };
 }

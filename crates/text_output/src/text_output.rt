@@ -32,6 +32,7 @@ impl<F: Shape + Drop> TextOutput<F> {
         ensures text { IfOk result (λ o. F.has_text o.shape fresh names.now [] o.held) }
         ensures target { IfOk result (λ o. o.target ≡ target) }
         ensures format { IfOk result (λ o. F.text o.shape ≡ F.text shape) }
+        ensures at_once { IfOk result (λ o. F.at_once o.shape ≡ F.at_once shape) }
     {
         let mut held = Bytes::new(alloc);
         shape.begin(names, fresh, &mut held)?;
@@ -62,6 +63,7 @@ impl<F: Shape + Drop> TextOutput<F> {
             → IsUnderWay (F.has_text self.old.shape fresh names rows) start (reached (kind_of G.state G.ended) self.old.target stage.old) self.old.held
             → GainsFront start stage.new (F.text self.old.shape fresh names (rows ++ (row.now ∷ more)))) }
         ensures format { F.text self.new.shape ≡ F.text self.old.shape }
+        ensures at_once { F.at_once self.new.shape ≡ F.at_once self.old.shape }
         ensures small { OnOk result (length self.new.held < full) }
         ensures spares { Spares (kind_of G.state G.ended) self.old.target.output self.old.target.name self.old.target.base stage.old stage.new }
         ensures output { (self.new.target.output ≡ self.old.target.output) × (self.new.target.name ≡ self.old.target.name) × (self.new.target.base ≡ self.old.target.base) }

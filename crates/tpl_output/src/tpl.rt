@@ -1,5 +1,6 @@
 // Output by a template.
 ghost use Rattle.std.specs.Prelude.{◌≡◌, ◌++◌, [], false, pos, ◌≤ℤ◌, ◌<ℤ◌, OnOk, OnErr};
+ghost use Rattle.std.proofs.lemmas.Bool.{false≢true};
 ghost use Rattle.lp_model.specs.Outside.{GrowsIn};
 ghost use Rattle.lp_values.specs.Stamps.{IsInYears};
 ghost use Rattle.tpl_output.specs.Marks.{filled};
@@ -77,6 +78,8 @@ impl Shape for Tpl {
 
     ghost shown = { λ s rows. rows };
 
+    ghost at_once = { λ s. false };
+
     fn begin(&mut self, names: &TextList, fresh: bool, to: &mut Bytes) -> Result<(), AllocError> {
         let body = fill(self.alloc, names, self.moment, true, self.template.body())?;
         let footer = fill(
@@ -105,4 +108,6 @@ impl Shape for Tpl {
     }
 
     ghost begins = { λ s fresh names rows more so_far is. tpl_begins s fresh names rows more so_far is };
+
+    ghost whole = { λ s fresh names rows so_far once is. absurd (false≢true once) };
 }

@@ -1,8 +1,10 @@
-use Rattle.std.proofs.Common.{◌≡◌, Err, IsSome, Option, ap, sym, ◌∙◌, subst}
+use Rattle.std.proofs.Common.{◌≡◌, [], Err, IsSome, Option, ap, sym, ◌∙◌, subst}
 use Rattle.text_output.specs.Output.{kind_of}
-use Rattle.row_output.specs.Kept.{asked_of}
+use Rattle.row_output.specs.Kept.{HasRows, asked_of}
 use Rattle.row_output.specs.Rows.{IsRefused}
 use Rattle.row_output.specs.declared.fault.Refused.{Refused}
+use Rattle.row_output.specs.declared.kept.RowOutput.{RowOutput}
+use Rattle.row_output.proofs.Stopping.{new_has}
 use Rattle.query_run.specs.Faults.{OnBad, OnRefusedOutput}
 use Rattle.query_run.specs.declared.fault.WriteFault.TheVariants as W
 use Rattle.query_run.proofs.Reasons.{bad_at, logs_at, output_at, refused_at}
@@ -51,3 +53,10 @@ pub returns-in-Err-clause-sink : goal.returns-in-Err-clause-sink
 returns-in-Err-clause-sink g c = λ e.
     let is : c.stopped_at.result ≡ W.Output = cc in
     c.in-Err.ensures.failed (ap (λ f. Err f) (output_at c.in-Err.fault c.replace.result (sym c.stopped_at.ensures ∙ is)))
+
+pub returns-in-Ok-clause-named : goal.returns-in-Ok-clause-named
+returns-in-Ok-clause-named g c =
+    let made = c.new-writer.ensures in
+    let start = c.args.stage.now in
+    let new = subst (λ (o : RowOutput). HasRows (kind_of g.G.Stage.state g.G.Stage.ended) o start [] start) (sym made.output) (new_has (kind_of g.G.Stage.state g.G.Stage.ended) c.args.output start c.requires) in
+    subst (λ (o : RowOutput). (why : Refused) → IsRefused (asked_of o) [] why → ⊥) made.output (c.in-Ok.ensures.named made.opened start new)

@@ -1,4 +1,5 @@
-use Rattle.std.proofs.Common.{inl, refl, ℕ, List, Option, IfErr, subst}
+use Rattle.query_run.proofs.OnePass.{in_one_pass}
+use Rattle.std.proofs.Common.{inl, refl, ℕ, List, [], Option, IfErr, subst}
 use Rattle.std.proofs.lemmas.Result.{IfOk-weaker, IfErr-weaker, on_err_weaker}
 use Rattle.lp_model.specs.Outside.{Folder, Told}
 use Rattle.lp_model.proofs.Growing.{OnlyGrow-refl}
@@ -13,7 +14,7 @@ use Rattle.row_output.specs.Rows.{IsRefused, Stops}
 use Rattle.row_output.specs.declared.fault.Refused.{Refused}
 use Rattle.query_run.specs.Faults.{OnBad, OnRefusedOutput}
 use Rattle.query_run.specs.Rows.{picked}
-use Rattle.query_run.proofs.Reasons.{bad_so, refused_so}
+use Rattle.query_run.proofs.Reasons.{bad_each, bad_so, refused_so}
 use Rattle.query_run.proofs.WholeRun.{told_all}
 use Rattle.query_run.proofs.executing.write_spans.Goals as goal
 
@@ -71,3 +72,11 @@ returns-in_err-page-clause-ahead g c = inl refl
 
 pub returns-clause-ahead : goal.returns-clause-ahead
 returns-clause-ahead g c = c.write_page-written.ensures.ahead c.args.output c.args.picker c.args.stage.now c.in_ok-page.ensures.starts
+
+pub returns-in_err-page-clause-named : goal.returns-in_err-page-clause-named
+returns-in_err-page-clause-named g c =
+    let Of : BadLine → Type 0 = λ line. (why : Refused) → IsRefused (asked_of c.args.output) [] why → ⊥ in
+    handed_on c.from_residual.result _ (OnBad Of) c.from_residual.ensures.1 (bad_so _ (λ line. ⊥) Of (λ line none. absurd none) c.in_err-page.ensures.good)
+
+pub returns-clause-named : goal.returns-clause-named
+returns-clause-named g c = bad_each c.write_page-written.result (λ line. (why : Refused) → IsRefused (asked_of c.args.output) [] why → ⊥) (λ line. c.in_ok-page.ensures.named)

@@ -13,3 +13,6 @@ pub returns-clause-stops : goal.returns-clause-stops
 returns-clause-stops g c =
     let kind = kind_of g.G.Stage.state g.G.Stage.ended in
     on_err_weaker c.pass_on.result (λ stopped. stops_behind kind [] [] c.args.self.now c.open.new.self c.pass_on.new.self c.args.stage.now c.open.new.stage c.pass_on.new.stage c.in_ok-open.ensures.takes stopped) c.pass_on.ensures.stops
+
+pub returns-clause-named : goal.returns-clause-named
+returns-clause-named g c = on_ok_weaker c.pass_on.result (λ taken. c.in_ok-open.ensures.named) c.pass_on.ensures.takes

@@ -20,3 +20,6 @@ pub returns-in-Err-clause-stopped : goal.returns-in-Err-clause-stopped
 returns-in-Err-clause-stopped g c = λ e.
     let is : c.told.result ≡ T.Stopped = cc in
     take_stopped c.args.self.now.refused c.in-Err.fault c.told.new.refused c.told.ensures.refused (sym c.told.ensures.fault ∙ is)
+
+pub returns-in-Ok-clause-named : goal.returns-in-Ok-clause-named
+returns-in-Ok-clause-named g c = λ closed. c.in-Ok.ensures.named

@@ -1,4 +1,4 @@
-use Rattle.any_format.specs.Formats.{text_of}
+use Rattle.any_format.specs.Formats.{format_text}
 use Rattle.std.proofs.Common.{ap, true, refl, List, [], ◌∷◌, ◌++◌}
 use Rattle.order_top.specs.Finish.{Row}
 use Rattle.text_output.specs.Output.{kind_of}
@@ -9,7 +9,7 @@ use Rattle.row_output.proofs.SinkCalls.{standard_same, text_had, text_stops, tol
 use Rattle.row_output.proofs.sink.Sink.hand_on.Goals as goal
 
 pub returns-in-Ok-clause-purpose : goal.returns-in-Ok-clause-purpose
-returns-in-Ok-clause-purpose g c = standard_same (kind_of g.G.Stage.state g.G.Stage.ended) c.args.self.now c.in-Standard.standard c.in-Standard.is c.args.stage.now c.hand_on.new.stage (record c.in-Standard.standard { text = c.hand_on.new.self }) (ap text_of c.hand_on.ensures.shape) refl
+returns-in-Ok-clause-purpose g c = standard_same (kind_of g.G.Stage.state g.G.Stage.ended) c.args.self.now c.in-Standard.standard c.in-Standard.is c.args.stage.now c.hand_on.new.stage (record c.in-Standard.standard { text = c.hand_on.new.self }) (ap format_text c.hand_on.ensures.shape) refl
 
 pub returns-in-Ok-clause-has : goal.returns-in-Ok-clause-has
 returns-in-Ok-clause-has g c = λ start rows has.
@@ -20,7 +20,7 @@ pub returns-in-Ok-clause-handed : goal.returns-in-Ok-clause-handed
 returns-in-Ok-clause-handed g c = c.in-Ok.ensures.small
 
 pub returns-in-Err-clause-purpose : goal.returns-in-Err-clause-purpose
-returns-in-Err-clause-purpose g c = standard_same (kind_of g.G.Stage.state g.G.Stage.ended) c.args.self.now c.in-Standard.standard c.in-Standard.is c.args.stage.now c.hand_on.new.stage (record c.in-Standard.standard { text = c.hand_on.new.self }) (ap text_of c.hand_on.ensures.shape) refl
+returns-in-Err-clause-purpose g c = standard_same (kind_of g.G.Stage.state g.G.Stage.ended) c.args.self.now c.in-Standard.standard c.in-Standard.is c.args.stage.now c.hand_on.new.stage (record c.in-Standard.standard { text = c.hand_on.new.self }) (ap format_text c.hand_on.ensures.shape) refl
 
 pub returns-in-Err-clause-stop : goal.returns-in-Err-clause-stop
 returns-in-Err-clause-stop g c = λ start rows more has.

@@ -4,11 +4,11 @@ use Rattle.text_output.specs.Output.{kind_of}
 use Rattle.row_output.specs.declared.fault.Refused.{Refused}
 use Rattle.row_output.specs.Rows.{IsRefusedAt, standard_at}
 use Rattle.row_output.specs.Sinks.{HasSinkRows, files_in}
-use Rattle.row_output.proofs.SinkCalls.{files_same, files_have, files_stop_in, files_refuse_in, standard_same, text_had, text_stops, told_put, failed_put}
+use Rattle.row_output.proofs.SinkCalls.{files_same, files_have, files_stop_in, files_refuse_in, same_text, standard_same, text_had, text_stops, told_put, failed_put}
 use Rattle.row_output.proofs.sink.Sink.put.Goals as goal
 
 pub returns-in-Ok-clause-purpose : goal.returns-in-Ok-clause-purpose
-returns-in-Ok-clause-purpose g c = standard_same (kind_of g.G.Stage.state g.G.Stage.ended) c.args.self.now c.in-Standard.standard c.in-Standard.is c.args.stage.now c.row.new.stage (record c.in-Standard.standard { text = c.row.new.self }) c.row.ensures.format refl
+returns-in-Ok-clause-purpose g c = standard_same (kind_of g.G.Stage.state g.G.Stage.ended) c.args.self.now c.in-Standard.standard c.in-Standard.is c.args.stage.now c.row.new.stage (record c.in-Standard.standard { text = c.row.new.self }) (same_text c.row.new.self.shape c.in-Standard.standard.text.shape c.row.ensures.format c.row.ensures.at_once) refl
 
 pub returns-in-Ok-clause-has : goal.returns-in-Ok-clause-has
 returns-in-Ok-clause-has g c = λ start rows has.
@@ -19,7 +19,7 @@ pub returns-in-Ok-clause-little : goal.returns-in-Ok-clause-little
 returns-in-Ok-clause-little g c = c.in-Ok.ensures.small
 
 pub returns-in-Err-clause-purpose : goal.returns-in-Err-clause-purpose
-returns-in-Err-clause-purpose g c = standard_same (kind_of g.G.Stage.state g.G.Stage.ended) c.args.self.now c.in-Standard.standard c.in-Standard.is c.args.stage.now c.row.new.stage (record c.in-Standard.standard { text = c.row.new.self }) c.row.ensures.format refl
+returns-in-Err-clause-purpose g c = standard_same (kind_of g.G.Stage.state g.G.Stage.ended) c.args.self.now c.in-Standard.standard c.in-Standard.is c.args.stage.now c.row.new.stage (record c.in-Standard.standard { text = c.row.new.self }) (same_text c.row.new.self.shape c.in-Standard.standard.text.shape c.row.ensures.format c.row.ensures.at_once) refl
 
 pub returns-in-Err-clause-stop : goal.returns-in-Err-clause-stop
 returns-in-Err-clause-stop g c = λ start rows more has.
