@@ -29,6 +29,7 @@ pub mod Subqueries
 pub mod Values
 pub mod Tested
 pub use Rattle.run_entry.proofs.FormatLemmas
+pub use Rattle.run_entry.proofs.AtOnce
 pub use Rattle.run_entry.proofs.OneMeaning
 pub use Rattle.run_entry.proofs.Options
 pub use Rattle.run_entry.proofs.Clashing

@@ -11,10 +11,10 @@ use Rattle.query_types.specs.Meanings.{Answers, followed}
 use Rattle.query_types.specs.Planned.{Planned, plan_of}
 use Rattle.execution.specs.Plans.{PlannedQuery, of_groups, of_rows, query_plan}
 
-abbrev over_rows : Result Planned TypeFault → Result PlannedQuery TypeFault
+abbrev pub over_rows : Result Planned TypeFault → Result PlannedQuery TypeFault
 over_rows planned = followed planned (λ plan. Ok (of_rows plan))
 
-abbrev over_groups : Result Grouped TypeFault → Result PlannedQuery TypeFault
+abbrev pub over_groups : Result Grouped TypeFault → Result PlannedQuery TypeFault
 over_groups planned = followed planned (λ plan. Ok (of_groups plan))
 
 module _ (table : TableColumns) (moment : ℤ) (q : Query) where

@@ -12,10 +12,12 @@ use Rattle.query_run.specs.declared.executing.Counts.{Counts}
 use Rattle.input_tables.specs.declared.format.TableFormat.{TableFormat}
 use Rattle.input_tables.specs.Tables.{lines_of, table_of}
 use Rattle.row_output.specs.Asked.{Asked, left_of}
+use Rattle.text_output.specs.Output.{StageKind}
 use Rattle.execution.specs.declared.formats.LogFormat.TheVariants as F
 use Rattle.execution.specs.Budgets.{IsBudget}
 use Rattle.execution.specs.declared.errors.BadBudget.{BadBudget}
 use Rattle.execution.specs.Executed.{Writes, HoldsFront, IsExecuted, IsParseError}
+use Rattle.execution.specs.Passing.{GoesByPlan, ReadsByPlan}
 use Rattle.execution.specs.Plans.{PlannedQuery, query_plan, table_rows}
 use Rattle.execution.proofs.Budgeting.{AreAll, told_beside}
 
@@ -70,3 +72,11 @@ pub parse_error : (told : Option Folder) (spec : Spec) (moment : ℤ) (q : model
 parse_error told spec moment q format waits plan slice spans errors budget line listed planned are is exceeds =
     let Of : List Span → Type 0 = λ s. Told told (λ folder. Kept format waits s folder → IsTooMany spec.errors (given_bad q) (spans_bad_lines (lines_of format) waits folder s) line) in
     record { typed = (plan, planned); exceeds = subst Of listed (told_beside told spec.errors (given_bad q) errors budget (Kept format waits slice) (λ folder. spans_bad_lines (lines_of format) waits folder slice) line are is exceeds) }
+
+pub passed : {S : Type 0} (kind : StageKind S) (goes : S → S → Type 0) (told : Option Folder) (asked : PlannedQuery → Asked) (moment : ℤ) (q : model.Query) (format : TableFormat) (waits : Bool) (plan : PlannedQuery) (slice spans : List Span) (given : Asked) (given_before given_now : ℕ) (start now : S)
+    → slice ≡ spans → query_plan (table_of format) moment q ≡ Ok plan → given ≡ asked plan
+    → GoesByPlan kind goes format waits told slice given_before given_now start now given plan
+    → ReadsByPlan kind goes format waits told asked moment q spans given_before given_now start now
+passed kind goes told asked moment q format waits plan slice spans given given_before given_now start now listed planned is ahead =
+    let Of : List Span → Asked → Type 0 = λ s a. GoesByPlan kind goes format waits told s given_before given_now start now a plan in
+    record { plan = plan; is_planned = planned; ahead = subst (λ (a : Asked). Of spans a) is (subst (λ (s : List Span). Of s given) listed ahead) }

@@ -3,6 +3,7 @@ pub mod Built
 pub mod Plans
 pub mod Budgets
 pub mod Executed
+pub mod Passing
 pub mod Faults
 pub mod Texts
 pub mod Outputs

@@ -10,6 +10,7 @@ ghost use Rattle.row_output.specs.Rows.{Holds, IsRefused, Stops};
 ghost use Rattle.query_run.specs.Faults.{OnBad, OnRefusedOutput};
 ghost use Rattle.input_tables.specs.Tables.{lines_of};
 ghost use Rattle.execution.specs.Fitting.{Fits, planned_query};
+ghost use Rattle.execution.specs.Passing.{GoesByPlan};
 ghost use Rattle.execution.specs.Plans.{table_rows};
 
 use crate::planning::QueryPlan;
@@ -61,6 +62,7 @@ pub(crate) fn carry_out<L: LogSource, G: Stage>(
     ensures took { OnOk result (waits ≡ true → Told (L.folder logs.new) (λ folder. AreKept (lines_of format) true spans.now folder
         → took.new ≡ took.old ++ map (took_of (lines_of format) folder) spans.now)) }
     ensures given { L.given logs.new ≤ L.given logs.old + spans_size spans.now }
+    ensures ahead { GoesByPlan (kind_of G.state G.ended) G.goes format waits (L.folder logs.new) spans.now (L.given logs.old) (L.given logs.new) stage.old stage.new (asked_of output) (planned_query plan) }
     ensures later_logs { L.faults logs.old ≤ L.faults logs.new }
     ensures logs { IsErrOf result WriteFault.Logs → Rose (L.faults logs.old) (L.faults logs.new) }
     ensures later { G.faults stage.old ≤ G.faults stage.new }

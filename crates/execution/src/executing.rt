@@ -12,6 +12,7 @@ ghost use Rattle.execution.specs.Executed.{IsMoment, IsExecuted, IsParseError, I
 ghost use Rattle.execution.specs.Faults.{IfParse, IfPlan, IfRefused};
 ghost use Rattle.execution.specs.Formats.{lines_in, log_format};
 ghost use Rattle.execution.specs.Outputs.{asked_in};
+ghost use Rattle.execution.specs.Passing.{ReadsInPass};
 ghost use Rattle.execution.specs.Texts.{output_of, sections_in};
 ghost use Rattle.command_words.specs.declared.formats.OutputFormat.TheVariants as O;
 
@@ -67,6 +68,8 @@ pub fn execute<L: LogSource, G: Stage>(
     ensures took { IfOk result (λ ran. waits ≡ true → Told (L.folder logs.new) (λ folder. AreKept (lines_in (log_format spec.now (query_of query.now))) true spans.now folder
         → ran.took ≡ map (took_of (lines_in (log_format spec.now (query_of query.now))) folder) spans.now)) }
     ensures given { L.given logs.new ≤ L.given logs.old + spans_size spans.now }
+    // Logs of a format with a table are read in one pass, where the query goes over rows.
+    ensures passes { ReadsInPass (kind_of G.state G.ended) G.goes (log_format spec.now (query_of query.now)) waits (L.folder logs.new) (asked_in spec.now (sections_in (λ t. t.value) template) moment (query_of query.now) spans.now) moment (query_of query.now) spans.now (L.given logs.old) (L.given logs.new) stage.old stage.new }
     ensures later_logs { L.faults logs.old ≤ L.faults logs.new }
     ensures logs { IsErrOf result RunFault.LogsFault → Rose (L.faults logs.old) (L.faults logs.new) }
     ensures goes { G.goes stage.old stage.new }

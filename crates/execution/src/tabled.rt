@@ -14,6 +14,7 @@ ghost use Rattle.input_tables.specs.Tables.{lines_of};
 ghost use Rattle.execution.specs.Executed.{IsExecuted, IsMoment, IsParseError, IsStopped, IsUnplanned, IsUntouched};
 ghost use Rattle.execution.specs.Executed.{IsUnplaced as IsUnplacedRun};
 ghost use Rattle.execution.specs.Faults.{IfParse, IfPlan, IfRefused, unplanned};
+ghost use Rattle.execution.specs.Passing.{ReadsInPass};
 ghost use Rattle.execution.specs.Plans.{asked_for};
 ghost use Rattle.execution.specs.declared.formats.LogFormat.TheVariants as F;
 
@@ -77,6 +78,7 @@ pub(crate) fn execute_tabled<L: LogSource, G: Stage>(
     ensures took { IfOk result (λ ran. waits ≡ true → Told (L.folder logs.new) (λ folder. AreKept (lines_of format) true spans.now folder
         → ran.took ≡ map (took_of (lines_of format) folder) spans.now)) }
     ensures given { L.given logs.new ≤ L.given logs.old + spans_size spans.now }
+    ensures passes { ReadsInPass (kind_of G.state G.ended) G.goes (F.Tabled format) waits (L.folder logs.new) (asked_for (files_for into) (wanted_text wanted moment.seconds) (query_of query.now)) moment.seconds (query_of query.now) spans.now (L.given logs.old) (L.given logs.new) stage.old stage.new }
     ensures later_logs { L.faults logs.old ≤ L.faults logs.new }
     ensures logs { IsErrOf result RunFault.LogsFault → Rose (L.faults logs.old) (L.faults logs.new) }
     ensures goes { G.goes stage.old stage.new }

@@ -1,5 +1,5 @@
 -- What the steps of a run make of its answer.
-use Rattle.std.proofs.Common.{◌≡◌, ◌⊎◌, ℕ, ℤ, ◌+◌, ◌^◌, ◌≤◌, Bool, true, false, List, Option, Err, refl, inl, inr, arith}
+use Rattle.std.proofs.Common.{◌≡◌, ◌⊎◌, ℕ, ℤ, ◌+◌, ◌≤◌, Bool, true, false, List, Option, Result, Ok, Err, IfOk, OnErr, refl, inl, inr, arith}
 use Rattle.std.specs.Prelude.{option_map}
 use Rattle.grammar.specs.Filled.{given_bad}
 use Rattle.grammar.specs.Trees as model
@@ -14,6 +14,7 @@ use Rattle.checkpointed_command.specs.Outputs.{asked_in, is_standard}
 use Rattle.checkpointed_command.specs.Plans.{query_plan}
 use Rattle.checkpointed_command.specs.Texts.{into_in}
 use Rattle.checkpointed_command.specs.Faults.{IfParse, IfPlan, IfRefused}
+use Rattle.checkpointed_command.specs.Ran.{Ran}
 use Rattle.checkpointed_command.specs.RunFault.{RunFault}
 use Rattle.checkpointed_command.specs.RunFault.TheVariants as X
 use Rattle.log_reading.specs.declared.span.Span.{Span}
@@ -43,6 +44,8 @@ use Rattle.logparser_cli.specs.Outputs.{HasFront, HasWritten, IsUnwritten, Outpu
 use Rattle.logparser_cli.specs.Whole.{Tells, told_statistics, IsFront, IsHalted, IsParseError, IsUnplaced, IsUnplanned, IsWhole, OnRows, WritesAll}
 use Rattle.logparser_cli.specs.Answers.{IsStopped, IsUnplannable, AnswersInput, AnswersOf, AnswersOver, AnswersQuery, AnswersRun, IsUnasked, AnswersPlainly}
 use Rattle.checkpointed_command.specs.Statuses.{failed_output, unasked, unplaced, stopped}
+use Rattle.logparser_cli.proofs.Mapping.{executed_stops}
+use Rattle.logparser_cli.proofs.Written.{written_front}
 use Rattle.logparser_cli.specs.Input.{stopped_input}
 use Rattle.standard_input.specs.Streams.{stream_files}
 use Rattle.logparser_cli.specs.Templates.{IsTemplate, IsUntemplated, IsWithoutTemplate}
@@ -213,18 +216,26 @@ stopped_answers old new mid template spec moment q spans standard (X.ParseErrors
 stopped_answers old new mid template spec moment q spans standard X.Memory into found grow stop plan before parse refused logs stage = inr (halted old new mid template spec moment q spans found grow stop)
 
 -- the same of standard input, in the place of logs
-pub input_answers : (old new : World) (template : Sections) (spec : Spec) (moment : ℤ) (q : model.Query) (standard too_long : Bool) (fault : RunFault) (first last : ℕ) → AnswersRun (stream_world (option_map stream_files old.input.left) first old) (stream_world (option_map stream_files old.input.left) last new) template spec moment q (stopped standard fault)
-    → (fault ≡ X.LogsFault → too_long ≡ false → Rose old.input.faults new.input.faults) → (too_long ≡ true → new.input.given ≡ old.input.given + 2 ^ 40) → AnswersInput old new template spec moment q (stopped_input standard too_long fault)
-input_answers old new template spec moment q standard too_long (X.Plan fault) first last s rose given = inl (tt, s)
-input_answers old new template spec moment q standard too_long (X.Refused W.TooManyOutputs) first last s rose given = inl (tt, s)
-input_answers old new template spec moment q standard too_long (X.Refused (W.BadName fault)) first last s rose given = inl (tt, s)
-input_answers old new template spec moment q standard too_long (X.Refused (W.NameClash name)) first last s rose given = inl (tt, s)
-input_answers old new template spec moment q standard true X.LogsFault first last s rose given = inr (inr (refl, s.0, given refl))
-input_answers old new template spec moment q standard false X.LogsFault first last s rose given = inr (inl (refl, s.0, rose refl refl))
-input_answers old new template spec moment q true too_long X.StageFault first last s rose given = inl (tt, s)
-input_answers old new template spec moment q false too_long X.StageFault first last s rose given = inl (tt, s)
-input_answers old new template spec moment q standard too_long (X.ParseErrors log row) first last s rose given = inl (tt, s)
-input_answers old new template spec moment q standard too_long X.Memory first last s rose given = inl (tt, s)
+pub input_answers : (old new : World) (template : Sections) (spec : Spec) (moment : ℤ) (q : model.Query) (standard : Bool) (fault : RunFault) (first last : ℕ) → AnswersRun (stream_world (option_map stream_files old.input.left) first old) (stream_world (option_map stream_files old.input.left) last new) template spec moment q (stopped standard fault)
+    → (fault ≡ X.LogsFault → Rose old.input.faults new.input.faults) → AnswersInput old new template spec moment q (stopped_input standard fault)
+input_answers old new template spec moment q standard (X.Plan fault) first last s rose = inl (tt, s)
+input_answers old new template spec moment q standard (X.Refused W.TooManyOutputs) first last s rose = inl (tt, s)
+input_answers old new template spec moment q standard (X.Refused (W.BadName fault)) first last s rose = inl (tt, s)
+input_answers old new template spec moment q standard (X.Refused (W.NameClash name)) first last s rose = inl (tt, s)
+input_answers old new template spec moment q standard X.LogsFault first last s rose = inr (inl (refl, s.0, rose refl))
+input_answers old new template spec moment q true X.StageFault first last s rose = inl (tt, s)
+input_answers old new template spec moment q false X.StageFault first last s rose = inl (tt, s)
+input_answers old new template spec moment q standard (X.ParseErrors log row) first last s rose = inl (tt, s)
+input_answers old new template spec moment q standard X.Memory first last s rose = inl (tt, s)
+
+-- a run that ended or stopped has stopped, where all that counts is how far it came
+pub ended_stops : (old new : World) (mid : Option Folder) (template : Sections) (spec : Spec) (moment : ℤ) (q : model.Query) (spans : List Span) (result : Result Ran RunFault) → AreSpans old.folder mid q spans → OnlyGrow mid new.folder
+    → IfOk result (λ ran. IsExecuted (log_format spec q) false new.folder (HasWritten old.held new.held) (asked_in spec template moment q spans) spec moment q spans ran.counts) → OnErr result (StopsOver old new template spec moment q spans) → IsStopped old new template spec moment q
+ended_stops old new mid template spec moment q spans (Ok ran) found grow ended stopped =
+    inr (halted old new mid template spec moment q spans found grow
+    (executed_stops (log_format spec q) false new.folder (IsUnwritten old.held new.held) (HasWritten old.held new.held) (HasFront old.held new.held) (asked_in spec template moment q spans) spec moment q spans ran.counts
+    (λ plan rows written. written_front old.held new.held (asked_in spec template moment q spans plan) rows written) ended))
+ended_stops old new mid template spec moment q spans (Err fault) found grow ended stopped = inr (halted old new mid template spec moment q spans found grow stopped)
 
 -- the same world with the logs as they were before
 abbrev with_logs : World → Option Folder → ℕ → World

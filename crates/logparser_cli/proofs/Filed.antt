@@ -1,7 +1,7 @@
 -- Files that hold the rows of a query, told as what each file holds.
 use Rattle.std.proofs.Common.{◌≡◌, inl, inr, ◌≤◌, ◌+◌, ◌==◌, ℕ, Bool, true, false, true≢false, ◌||◌, List, [], ◌∷◌, ◌++◌, length, map, take, drop, All, refl, sym, ◌∙◌, ap, subst, arith, take-append-drop}
 use Rattle.std.specs.Prelude.{bytes_eq}
-use Rattle.std.proofs.lemmas.List.{append-nil, take_all}
+use Rattle.std.proofs.lemmas.List.{append-nil, map-id, take_all}
 use Rattle.std.proofs.lemmas.List.Elements.{All-nil, All-cons, All-head, All-tail}
 use Rattle.std.proofs.lemmas.Slice.Eq.{bytes_eq-Decides}
 use Rattle.disk_model.specs.Disk.{DiskState, Files as Contents}
@@ -16,7 +16,7 @@ use Rattle.multiplex.specs.Splitting.{OutputRows, output_names, rows_named, spli
 use Rattle.order_top.specs.Finish.{Row}
 use Rattle.text_output.specs.Output.{StageKind, kind_of}
 use Rattle.text_output.specs.declared.target.Output.{Output}
-use Rattle.row_output.specs.Asked.{Files, OutputText}
+use Rattle.row_output.specs.Asked.{AreGood, Files, OutputText}
 use Rattle.row_output.specs.Files.{ArePut, FilesHold, FilesStop, IsBase, IsLeftAlone, IsPut, Opened, SparesBut, opened_of}
 use Rattle.logparser_cli.specs.Files.{AreLeft, AreWritten, IsAfter, IsLeft, file_after}
 
@@ -84,14 +84,18 @@ put_after state files text count index start now rows output always put front =
     (λ most. front (always start.disk.now) count 0 (mark_at output.base) (take output.base (seen_by state start output.name)) (omega arith) (omega arith) (front_is_text (seen_by state start output.name) output.base most)) in
     held_whole old (seen_by state now rows.name) output.base output.mark.length (text (output.base == 0) rows.rows) within (kept rows.name put.name within) there.1 (put.ended always) ∙ is
 
+-- a fact on one of those that are called by a name
+with_called : {A : Type 0} (name_of : A → List ℕ) (P : A → Type 0) (all : List A) (name : List ℕ) (C : Type 0) → All P all → is_among (map name_of all) name ≡ true → ((a : A) → name_of a ≡ name → P a → C) → C
+with_called name_of P [] name C holds there so = absurd (true≢false (sym there))
+with_called {A} name_of P (a ∷ all) name C holds there so = decide (bytes_eq name (name_of a)) refl (λ later. with_called name_of P all name C (All-tail P a all holds) later so)
+  where
+    decide : (d : Bool) → bytes_eq name (name_of a) ≡ d → (is_among (map name_of all) name ≡ true → C) → C
+    decide true e rest = so a (sym ((bytes_eq-Decides name (name_of a)).0 e)) (All-head P a all holds)
+    decide false e rest = rest (sym (ap (λ (b : Bool). b || is_among (map name_of all) name) e) ∙ there)
+
 -- a fact on an output that has a name
 with_name : (P : Opened → Type 0) (opened : List Opened) (name : List ℕ) (C : Type 0) → All P opened → is_among (called opened) name ≡ true → ((o : Opened) → o.name ≡ name → P o → C) → C
-with_name P [] name C all there so = absurd (true≢false (sym there))
-with_name P (o ∷ opened) name C all there so = decide (bytes_eq name o.name) refl (λ later. with_name P opened name C (All-tail P o opened all) later so)
-  where
-    decide : (d : Bool) → bytes_eq name o.name ≡ d → (is_among (called opened) name ≡ true → C) → C
-    decide true e rest = so o (sym ((bytes_eq-Decides name o.name).0 e)) (All-head P o opened all)
-    decide false e rest = rest (sym (ap (λ (b : Bool). b || is_among (called opened) name) e) ∙ there)
+with_name P opened name C all there so = with_called (λ (o : Opened). o.name) P opened name C all there so
 
 -- the outputs that have rows begin where they may
 bases_put : {D : Type 0} (state : D → DiskState) (files : Files) (text : OutputText) (start now : FileStage D) (index : ℕ) (rows : List OutputRows) (outputs : List Output) → ArePut (file_kind state) files text start now index rows outputs
@@ -258,3 +262,32 @@ are_left {D} state files rows start now stop always = record { each = each; free
 
     others : (name : List ℕ) → is_among (output_names files.pattern rows) name ≡ false → seen_by state now name ≡ seen_by state start name
     others name none = other name (is_among (called stop.opened) name) refl none
+
+-- a file that has the text of its rows
+after_left : (mode : FileMode) (text : OutputText) (rows : List Row) (old new : List ℕ) → new ≡ file_after mode text rows old → IsLeft mode old new
+after_left M.Append text rows old new is = (text (length old == 0) rows, is)
+after_left M.Overwrite text rows old new is = tt
+after_left M.LeaveAlone text rows [] new is = tt
+after_left M.LeaveAlone text rows (byte ∷ old) new is = is
+
+-- files that were written whole are such as a stop leaves
+pub written_left : (files : Files) (text : OutputText) (rows : List Row) (before now : Contents) → AreGood files.forbidden (output_names files.pattern rows) → AreWritten files text rows before now → AreLeft files rows before now
+written_left files text rows before now good written = record {
+  each = λ name. each name (is_among (output_names files.pattern rows) name) refl;
+  free = λ name forbidden. free name (is_among (output_names files.pattern rows) name) refl forbidden;
+  others = written.others;
+}
+  where
+    each : (name : List ℕ) (d : Bool) → is_among (output_names files.pattern rows) name ≡ d → IsLeft files.mode (before name) (now name)
+    each name false off = same_left files.mode (before name) (now name) (written.others name off)
+    each name true there =
+        with_called (λ (r : OutputRows). r.name) (IsAfter files text before now) (split files.pattern rows) name (IsLeft files.mode (before name) (now name)) written.each
+        (ap (λ (l : List (List ℕ)). is_among l name) (names_split files.pattern rows) ∙ there)
+        (λ r same is. subst (λ (n : List ℕ). IsLeft files.mode (before n) (now n)) same (after_left files.mode text r.rows (before r.name) (now r.name) is))
+
+    free : (name : List ℕ) (d : Bool) → is_among (output_names files.pattern rows) name ≡ d → is_among files.forbidden name ≡ true → now name ≡ before name
+    free name false off forbidden = written.others name off
+    free name true there forbidden =
+        with_called (λ (n : List ℕ). n) (λ (n : List ℕ). is_among files.forbidden n ≡ false) (output_names files.pattern rows) name (now name ≡ before name) good.free
+        (ap (λ (l : List (List ℕ)). is_among l name) (map-id (output_names files.pattern rows)) ∙ there)
+        (λ n same off. absurd (true≢false (sym forbidden ∙ (ap (is_among files.forbidden) (sym same) ∙ off))))

@@ -10,5 +10,8 @@ mod Worded
 mod Keeping
 mod Templating
 pub mod Streamed
+mod LinesUpTo
+mod Passed
+mod OnePasses
 pub use Rattle.checkpointed_command.proofs.Answering as CheckpointedCommandAnswering
 pub use Rattle.checkpointed_command.proofs.Options

@@ -44,6 +44,18 @@ executed_map format waits told Has Other asked spec moment q spans counts so ran
           (λ folder f kept. let r = f kept in record { has = so w.plan (rows_in format waits spec.ts_format w.plan folder spans) r.has; processed = r.processed; output = r.output; bad = r.bad }) w.written;
     }) ran
 
+-- what was written whole was written up to its end
+pub executed_stops : (format : LogFormat) (waits : Bool) (told : Option Folder) (Nothing : Type 0) (Has Front : Asked → List Row → Type 0) (asked : PlannedQuery → Asked) (spec : Spec) (moment : ℤ) (q : model.Query) (spans : List Span) (counts : Counts) → Follows Has Front asked
+    → IsExecuted format waits told Has asked spec moment q spans counts → IsStopped format waits told Nothing Front asked spec moment q spans
+executed_stops format waits told Nothing Has Front asked spec moment q spans counts so ran =
+    on_table_map format waits spec.ts_format told spans (WritesAll format waits told Has asked spec moment q spans counts) (λ table. Nothing ⊎ HoldsFront format waits told Front asked spec moment q spans table)
+    (λ table w. inr (record {
+      plan = w.plan;
+      is_planned = w.is_planned;
+      front = told_map told (λ folder. AreKept (lines_in format) waits spans folder → Writes Has asked spec q format waits w.plan spans counts folder) (λ folder. AreKept (lines_in format) waits spans folder → Front (asked w.plan) (rows_in format waits spec.ts_format w.plan folder spans))
+          (λ folder f kept. so w.plan (rows_in format waits spec.ts_format w.plan folder spans) (f kept).has) w.written;
+    })) ran
+
 front_map : (format : LogFormat) (waits : Bool) (told : Option Folder) (Nothing None' : Type 0) (Front Other : Asked → List Row → Type 0) (asked : PlannedQuery → Asked) (spec : Spec) (moment : ℤ) (q : model.Query) (spans : List Span) (table : TableColumns) → (Nothing → None') → Follows Front Other asked
     → Nothing ⊎ HoldsFront format waits told Front asked spec moment q spans table → None' ⊎ HoldsFront format waits told Other asked spec moment q spans table
 front_map format waits told Nothing None' Front Other asked spec moment q spans table none so (inl nothing) = inl (none nothing)

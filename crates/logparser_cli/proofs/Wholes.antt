@@ -46,7 +46,7 @@ there_of before now logs spans wholes lengths =
     (told_there now logs (most_told now logs (λ k d here. (lengths k d here).most)))
 
 -- whole logs begin as they were kept
-kept_of : (format : LogFormat) (folder : Folder) (logs : List NameLength) (spans : List Span) → spans ≡ whole_spans logs → AreKept (lines_in format) false spans folder
+pub kept_of : (format : LogFormat) (folder : Folder) (logs : List NameLength) (spans : List Span) → spans ≡ whole_spans logs → AreKept (lines_in format) false spans folder
 kept_of format folder logs spans wholes =
     subst (λ (s : List Span). AreKept (lines_in format) false s folder) (sym wholes) (are_kept (lines_in format) folder logs (lines_start format))
 

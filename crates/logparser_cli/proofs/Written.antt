@@ -1,5 +1,5 @@
 -- What an output has gained as a stage, told of standard output and of files.
-use Rattle.std.proofs.Common.{◌≡◌, ℕ, ℤ, true, false, true≢false, not, Bool, List, Option, Some, None, subst, sym, refl, ◌∙◌, ap, arith}
+use Rattle.std.proofs.Common.{◌≡◌, ℕ, ℤ, true, false, true≢false, not, Bool, List, [], Option, Some, None, subst, sym, refl, ◌∙◌, ap, append-nil, arith}
 use Rattle.std.specs.Prelude.{is_some, if◌then◌else◌}
 use Rattle.disk_model.specs.Disk.{DiskState, Files as Contents}
 use Rattle.grammar.specs.Trees as model
@@ -18,8 +18,8 @@ use Rattle.tpl_output.specs.Sections.{Sections}
 use Rattle.checkpointed_command.specs.Outputs.{asked_in, files_named, forbidden_by, is_standard, is_stdout, log_names}
 use Rattle.checkpointed_command.specs.Plans.{PlannedQuery}
 use Rattle.checkpointed_command.specs.Texts.{into_in}
-use Rattle.logparser_cli.specs.Outputs.{AreCut, AreOut, HasFront, HasWritten, IsUnwritten, held}
-use Rattle.logparser_cli.proofs.Filed.{are_left, are_written, file_kind, names_split, seen_by}
+use Rattle.logparser_cli.specs.Outputs.{AreCut, AreOut, HasFront, HasWritten, Held, IsUnwritten, held}
+use Rattle.logparser_cli.proofs.Filed.{are_left, are_written, file_kind, names_split, seen_by, written_left}
 
 some_unless : (d : Bool) (files : Files) → is_some (if d then None else Some files) ≡ not d
 some_unless true files = refl
@@ -92,6 +92,15 @@ pub files_cut : {D : Type 0} (state : D → DiskState) (start now : FileStage D)
 files_cut {D} state start now first last asked rows out begins ends some stops =
     subst (λ (d : D). HasFront (held (AlwaysTells state) (state d).seen out) (held (AlwaysTells state) (state last).seen out) asked rows) begins
     (subst (λ (d : D). HasFront (held (AlwaysTells state) (seen_by state start) out) (held (AlwaysTells state) (state d).seen out) asked rows) ends (files_changed state start now asked rows out some stops))
+
+front_at : (old new : Held) (files : Option Files) (text : OutputText) (rows : List Row) → AreOut old new files text rows → AreCut old new files text rows
+front_at old new None text rows out = record { front = (text true rows, ([], sym (append-nil (text true rows))), out.gained); files = out.files }
+front_at old new (Some files) text rows out = record { left = λ tells. written_left files text rows old.files new.files out.good (out.written tells); out = out.out }
+
+-- what was written whole was written up to its end
+pub written_front : (old new : Held) (asked : Asked) (rows : List Row) → HasWritten old new asked rows → HasFront old new asked rows
+unfolding HasWritten HasFront
+written_front old new asked rows written = front_at old new asked.files (text_in asked) (left_of asked rows) written
 
 -- no call was made
 pub files_unwritten : {D : Type 0} (state : D → DiskState) (start now : FileStage D) (first last : D) (out : Option (List ℕ)) → start.disk.now ≡ first → now.disk.now ≡ last → now ≡ start

@@ -1,10 +1,12 @@
 // The run.
-ghost use Rattle.std.specs.Prelude.{◌≡◌, ◌≤◌, ◌++◌, ℕ, List, codes, true, false, Option, None, Some, IsSome};
+ghost use Rattle.std.specs.Prelude.{◌≡◌, ◌≤◌, ◌+◌, ◌^◌, ◌++◌, ℕ, List, codes, true, false, Option, None, Some, IsSome};
 ghost use Rattle.grammar.specs.Trees as model;
 ghost use Rattle.lp_model.specs.Outside.{Folder, Rose, OnlyGrow};
 ghost use Rattle.command_words.specs.Table.{IsAsked, IsInRange, checkpoint_of};
 ghost use Rattle.command_words.specs.Usage.{AreFine};
 ghost use Rattle.command_words.specs.declared.formats.OutputFormat.TheVariants as O;
+ghost use Rattle.command_words.specs.declared.spec.Spec.{Spec as Options};
+ghost use Rattle.input_tables.specs.declared.format.TableFormat.{TableFormat};
 ghost use Rattle.query_tree.specs.Views.{query_of};
 ghost use Rattle.query_text.specs.Stdin.{names_in};
 ghost use Rattle.checkpointed_command.specs.Built.{all_built, reads_stdin};
@@ -19,6 +21,7 @@ ghost use Rattle.logparser_cli.specs.Answers.{AnswersInput, AnswersOf, AnswersPl
 ghost use Rattle.logparser_cli.specs.Kept.{Answers, AnswersLedger, ReadsLedger};
 ghost use Rattle.logparser_cli.specs.Given.{ReadsLogs, ReadsQuery, ReadsWords};
 ghost use Rattle.logparser_cli.specs.Input.{AsksNoInput, IsReadOn, stopped_input};
+ghost use Rattle.logparser_cli.specs.OnePass.{AsksInPass, IsOnePass, PassesRows, progress};
 ghost use Rattle.logparser_cli.specs.Outputs.{held, input_at, world};
 ghost use Rattle.logparser_cli.specs.Whole.{Tells, told_statistics};
 
@@ -69,11 +72,10 @@ fn tell_refusal<E: Sink>(err: &mut E, status: &Status)
 }
 
 // What a fault is as an answer, where standard input stands in the place of the logs.
-fn stopped_input(is_standard: bool, is_too_long: bool, fault: RunFault) -> Status
-    ensures { result ≡ stopped_input is_standard is_too_long fault }
+fn stopped_input(is_standard: bool, fault: RunFault) -> Status
+    ensures { result ≡ stopped_input is_standard fault }
 {
     match fault {
-        RunFault::LogsFault if is_too_long => Status::InputTooLong,
         RunFault::LogsFault => Status::SourceFault,
         fault => stopped(is_standard, fault),
     }
@@ -108,6 +110,9 @@ fn run_logs<L: Logs, D: Disk, I: Source, S: Sink, E: Sink>(
         (world (L.folder logs.new) (L.faults logs.new) (held (AlwaysTells D.state) (D.state disk.new).seen (S.written out.new)) (D.faults disk.new) (S.faults out.new) (E.written err.new) (E.faults err.new) (input_at I.left I.given I.faults input.new))
         (sections_in (λ t. t.value) template) spec.now moment (query_of query.now) result }
     ensures given { ReadsLogs (L.folder logs.new) (query_of query.now) (L.given logs.old) (L.given logs.new) }
+    ensures one_pass { (format : TableFormat) → PassesRows spec.now (query_of query.now) format → IsOnePass spec.now moment (query_of query.now) format
+        (progress (L.folder logs.old) (L.given logs.old) (input_at I.left I.given I.faults input.old) (S.written out.old))
+        (progress (L.folder logs.new) (L.given logs.new) (input_at I.left I.given I.faults input.new) (S.written out.new)) }
     ensures input { input.new ≡ input.old }
     ensures silent { OnRefused result (err.new ≡ err.old) }
 {
@@ -152,6 +157,10 @@ fn run_input<D: Disk, I: Source, S: Sink, E: Sink>(
         (world folder faults (held (AlwaysTells D.state) (D.state disk.new).seen (S.written out.new)) (D.faults disk.new) (S.faults out.new) (E.written err.new) (E.faults err.new) (input_at I.left I.given I.faults input.new))
         (sections_in (λ t. t.value) template) spec.now moment (query_of query.now) result }
     ensures read { IsReadOn (input_at I.left I.given I.faults input.old) (input_at I.left I.given I.faults input.new) }
+    ensures one_pass { (folder : Option Folder) (given : ℕ) (format : TableFormat) → PassesRows spec.now (query_of query.now) format → IsOnePass spec.now moment (query_of query.now) format
+        (progress folder given (input_at I.left I.given I.faults input.old) (S.written out.old))
+        (progress folder given (input_at I.left I.given I.faults input.new) (S.written out.new)) }
+    ensures too_long { I.given input.new ≡ I.given input.old + 2 ^ 40 → result ≡ Status.InputTooLong }
     ensures silent { OnRefused result (err.new ≡ err.old) }
 {
     let Ok(spans) = input_spans(alloc) else {
@@ -163,12 +172,15 @@ fn run_input<D: Disk, I: Source, S: Sink, E: Sink>(
     );
     let is_too_long = log.is_too_long();
     drop(log);
+    if is_too_long {
+        return Status::InputTooLong;
+    }
     match written {
         Ok(ran) => {
             tell_statistics(err, spec.stats, &ran.counts);
             Status::Done
         }
-        Err(fault) => stopped_input(is_standard(query), is_too_long, fault),
+        Err(fault) => stopped_input(is_standard(query), fault),
     }
 }
 
@@ -200,8 +212,12 @@ fn run_over<L: Logs, D: Disk, I: Source, S: Sink, E: Sink>(
         (world (L.folder logs.new) (L.faults logs.new) (held (AlwaysTells D.state) (D.state disk.new).seen (S.written out.new)) (D.faults disk.new) (S.faults out.new) (E.written err.new) (E.faults err.new) (input_at I.left I.given I.faults input.new))
         (sections_in (λ t. t.value) template) spec.now moment (query_of query.now) result }
     ensures given { ReadsLogs (L.folder logs.new) (query_of query.now) (L.given logs.old) (L.given logs.new) }
+    ensures one_pass { (format : TableFormat) → PassesRows spec.now (query_of query.now) format → IsOnePass spec.now moment (query_of query.now) format
+        (progress (L.folder logs.old) (L.given logs.old) (input_at I.left I.given I.faults input.old) (S.written out.old))
+        (progress (L.folder logs.new) (L.given logs.new) (input_at I.left I.given I.faults input.new) (S.written out.new)) }
     ensures input { reads_stdin (names_in (query_of query.now)) ≡ false → input.new ≡ input.old }
     ensures read { IsReadOn (input_at I.left I.given I.faults input.old) (input_at I.left I.given I.faults input.new) }
+    ensures too_long { I.given input.new ≡ I.given input.old + 2 ^ 40 → result ≡ Status.InputTooLong }
     ensures silent { OnRefused result (err.new ≡ err.old) }
 {
     if reads_stdin(&query.names) {
@@ -239,8 +255,12 @@ fn run_query<L: Logs, D: Disk, I: Source, S: Sink, E: Sink>(
         (world (L.folder logs.new) (L.faults logs.new) (held (AlwaysTells D.state) (D.state disk.new).seen (S.written out.new)) (D.faults disk.new) (S.faults out.new) (E.written err.new) (E.faults err.new) (input_at I.left I.given I.faults input.new))
         spec.now moment (query_of query.old) result }
     ensures given { ReadsQuery (L.folder logs.new) spec.now (query_of query.old) (L.given logs.old) (L.given logs.new) }
+    ensures one_pass { (format : TableFormat) → PassesRows spec.now (query_of query.old) format → IsOnePass spec.now moment (query_of query.old) format
+        (progress (L.folder logs.old) (L.given logs.old) (input_at I.left I.given I.faults input.old) (S.written out.old))
+        (progress (L.folder logs.new) (L.given logs.new) (input_at I.left I.given I.faults input.new) (S.written out.new)) }
     ensures input { reads_stdin (names_in (query_of query.old)) ≡ false → input.new ≡ input.old }
     ensures read { IsReadOn (input_at I.left I.given I.faults input.old) (input_at I.left I.given I.faults input.new) }
+    ensures too_long { I.given input.new ≡ I.given input.old + 2 ^ 40 → result ≡ Status.InputTooLong }
     ensures silent { OnRefused result (err.new ≡ err.old) }
 {
     let template = match find_template(alloc, logs, spec, query) {
@@ -284,8 +304,12 @@ fn run_plainly<L: Logs, D: Disk, I: Source, S: Sink, E: Sink>(
     ensures later_out { S.faults out.old ≤ S.faults out.new }
     ensures later_err { E.faults err.old ≤ E.faults err.new }
     ensures given { (words : List (List ℕ)) → AreFine words → IsAsked words spec.now → ReadsWords (L.folder logs.old) (L.folder logs.new) words (L.given logs.old) (L.given logs.new) }
+    ensures one_pass { (words : List (List ℕ)) → AreFine words → IsAsked words spec.now → (q : model.Query) (format : TableFormat) → AsksInPass (L.folder logs.old) (L.folder logs.new) words spec.now q format → IsOnePass spec.now moment q format
+        (progress (L.folder logs.old) (L.given logs.old) (input_at I.left I.given I.faults input.old) (S.written out.old))
+        (progress (L.folder logs.new) (L.given logs.new) (input_at I.left I.given I.faults input.new) (S.written out.new)) }
     ensures input { (words : List (List ℕ)) → AreFine words → IsAsked words spec.now → AsksNoInput (L.folder logs.old) (L.folder logs.new) words → input.new ≡ input.old }
     ensures read { IsReadOn (input_at I.left I.given I.faults input.old) (input_at I.left I.given I.faults input.new) }
+    ensures too_long { I.given input.new ≡ I.given input.old + 2 ^ 40 → result ≡ Status.InputTooLong }
     ensures silent { OnRefused result (err.new ≡ err.old) }
 {
     match read_query_word(alloc, logs, spec.query.as_str()) {
@@ -354,8 +378,12 @@ fn run_words<L: Logs, D: Disk, I: Source, S: Sink, E: Sink>(
     ensures later_err { E.faults err.old ≤ E.faults err.new }
     ensures given { checkpoint_of words.now ≡ None → ReadsWords (L.folder logs.old) (L.folder logs.new) words.now (L.given logs.old) (L.given logs.new) }
     ensures kept { IsSome (checkpoint_of words.now) → ReadsLedger D.state disk.old (L.folder logs.old) (L.folder logs.new) words.now (L.given logs.old) (L.given logs.new) }
+    ensures one_pass { (spec : Options) (q : model.Query) (format : TableFormat) → AsksInPass (L.folder logs.old) (L.folder logs.new) words.now spec q format → IsOnePass spec moment q format
+        (progress (L.folder logs.old) (L.given logs.old) (input_at I.left I.given I.faults input.old) (S.written out.old))
+        (progress (L.folder logs.new) (L.given logs.new) (input_at I.left I.given I.faults input.new) (S.written out.new)) }
     ensures input { AsksNoInput (L.folder logs.old) (L.folder logs.new) words.now → input.new ≡ input.old }
     ensures read { IsReadOn (input_at I.left I.given I.faults input.old) (input_at I.left I.given I.faults input.new) }
+    ensures too_long { I.given input.new ≡ I.given input.old + 2 ^ 40 → result ≡ Status.InputTooLong }
     ensures silent { OnRefused result (err.new ≡ err.old) }
 {
     if moment < 0 || moment >= MOMENTS {
@@ -408,8 +436,14 @@ pub fn run<L: Logs, D: Disk, I: Source, S: Sink, E: Sink>(
     ensures later_err { E.faults err.old ≤ E.faults err.new }
     ensures given { checkpoint_of words.now ≡ None → ReadsWords (L.folder logs.old) (L.folder logs.new) words.now (L.given logs.old) (L.given logs.new) }
     ensures kept { IsSome (checkpoint_of words.now) → ReadsLedger D.state disk.old (L.folder logs.old) (L.folder logs.new) words.now (L.given logs.old) (L.given logs.new) }
+    // A query over rows, of a log format with a table, whose rows go to standard output as they come, reads its logs no further than a
+    // little ahead of what standard output has of them.
+    ensures one_pass { (spec : Options) (q : model.Query) (format : TableFormat) → AsksInPass (L.folder logs.old) (L.folder logs.new) words.now spec q format → IsOnePass spec moment q format
+        (progress (L.folder logs.old) (L.given logs.old) (input_at I.left I.given I.faults input.old) (S.written out.old))
+        (progress (L.folder logs.new) (L.given logs.new) (input_at I.left I.given I.faults input.new) (S.written out.new)) }
     ensures input { AsksNoInput (L.folder logs.old) (L.folder logs.new) words.now → input.new ≡ input.old }
     ensures read { IsReadOn (input_at I.left I.given I.faults input.old) (input_at I.left I.given I.faults input.new) }
+    ensures too_long { I.given input.new ≡ I.given input.old + 2 ^ 40 → result ≡ Status.InputTooLong }
 {
     match run_words(alloc, words, moment, logs, disk, input, out, err) {
         Status::Done => Status::Done,

@@ -7,10 +7,12 @@ ghost use Rattle.text_output.specs.Output.{kind_of};
 ghost use Rattle.row_output.specs.Asked.{left_of};
 ghost use Rattle.row_output.specs.Kept.{IsNew, asked_of};
 ghost use Rattle.row_output.specs.Rows.{Holds, IsRefused, Stops};
+ghost use Rattle.query_run.specs.Ahead.{GoesAhead};
 ghost use Rattle.query_run.specs.Faults.{OnBad, OnRefusedOutput};
 ghost use Rattle.query_types.specs.Conditions.{filter_of};
 ghost use Rattle.query_types.specs.Planned.{Covers, planned_in};
 ghost use Rattle.input_tables.specs.Tables.{lines_of, columns_of, readings_of};
+ghost use Rattle.plan_rows.specs.Picks.{plan_picks};
 ghost use Rattle.plan_run.specs.Rows.{plan_rows};
 
 use crate::running::run_reader;
@@ -65,6 +67,8 @@ pub fn run_plan<L: LogSource, G: Stage>(
     ensures took { OnOk result (waits ≡ true → Told (L.folder logs.new) (λ folder. AreKept (lines_of format) true spans.now folder
         → took.new ≡ took.old ++ map (took_of (lines_of format) folder) spans.now)) }
     ensures given { L.given logs.new ≤ L.given logs.old + spans_size spans.now }
+    // Of a log no more than a piece is read while standard output lacks a piece of the text of what was read.
+    ensures ahead { GoesAhead (kind_of G.state G.ended) G.goes (asked_of output) (plan_picks (readings_of format) (planned_in plan).items (planned_in plan).condition) (lines_of format) waits (L.folder logs.new) spans.now (L.given logs.old) (L.given logs.new) stage.old stage.new }
     ensures later_logs { L.faults logs.old ≤ L.faults logs.new }
     ensures logs { IsErrOf result WriteFault.Logs → Rose (L.faults logs.old) (L.faults logs.new) }
     ensures later { G.faults stage.old ≤ G.faults stage.new }

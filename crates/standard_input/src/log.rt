@@ -1,5 +1,5 @@
 // A stream as a log.
-ghost use Rattle.std.specs.Prelude.{◌≡◌, [], false};
+ghost use Rattle.std.specs.Prelude.{◌≡◌, ◌^◌, [], true, false};
 ghost use Rattle.standard_input.specs.Streams.{faults_of, folder_of, given_of, Goes, goes_nowhere, goes_on, IsReady};
 
 use crate::gone::Gone;
@@ -12,7 +12,10 @@ const LIMIT: u64 = 1 << 40;
 /// A stream, as it is read from its front on. It holds the only reference to it.
 pub struct InputLog<'i, I> {
     pub(crate) input: &'i mut I,
-    pub(crate) is_too_long: bool,
+    // How many bytes it has given.
+    pub(crate) given: u64,
+    // Whether more was wanted of it than it may give.
+    pub(crate) is_refused: bool,
     pub(crate) gone: Gone,
 }
 
@@ -22,7 +25,8 @@ impl<'i, I> Drop for InputLog<'i, I> {
     {
         let InputLog {
             input: _,
-            is_too_long: _,
+            given: _,
+            is_refused: _,
             gone: _,
         } = self;
     }
@@ -34,20 +38,23 @@ impl<'i, I: Source> InputLog<'i, I> {
         ensures same_reference { result.input.ghost_name ≡ input.entry.ghost_name }
         ensures same { result.input.now ≡ input.entry.now }
         ensures none { result.gone.bytes ≡ [] }
-        ensures short { result.is_too_long ≡ false }
+        ensures zero { result.given ≡ 0 }
+        ensures fresh { result.is_refused ≡ false }
     {
         InputLog {
             input,
-            is_too_long: false,
+            given: 0,
+            is_refused: false,
             gone: Gone::new(),
         }
     }
 
-    /// Whether it gave 2^40 bytes, and more was wanted of it.
+    /// Whether it has given 2^40 bytes.
     pub fn is_too_long(&self) -> bool
-        ensures { result ≡ self.now.is_too_long }
+        ensures full { result ≡ true → self.now.given ≡ 2 ^ 40 }
+        ensures told { self.now.given ≡ 2 ^ 40 → result ≡ true }
     {
-        self.is_too_long
+        self.given == LIMIT
     }
 }
 
@@ -64,13 +71,14 @@ impl<'i, I: Source> LogSource for InputLog<'i, I> {
 
     fn give(&mut self, _name: &Name, at: u64, into: &mut [u8]) -> Result<usize, LogsFailed> {
         if at >= LIMIT {
-            self.is_too_long = true;
+            self.is_refused = true;
             return Err(LogsFailed);
         }
         let want = (LIMIT - at).min(into.len() as u64) as usize;
         let Ok(count) = self.input.read(&mut into[..want]) else {
             return Err(LogsFailed);
         };
+        self.given = at + count as u64;
         self.gone = self.gone.with(&into[..count]);
         Ok(count)
     }

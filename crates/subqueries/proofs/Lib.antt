@@ -8,4 +8,5 @@ pub mod Found
 pub mod Split
 pub mod Steps
 pub use Rattle.execution.proofs.FormatLemmas
+pub use Rattle.execution.proofs.AtOnce
 pub use Rattle.list_run.proofs.Alike

@@ -1,4 +1,4 @@
-use Rattle.std.proofs.Common.{ℕ, ℤ, List, Option, inr, subst}
+use Rattle.std.proofs.Common.{ℕ, ℤ, List, Option, inl, inr, refl, subst}
 use Rattle.grammar.specs.Filled.{given_bad}
 use Rattle.grammar.specs.Trees as model
 use Rattle.lp_model.proofs.Growing.{OnlyGrow-refl}
@@ -18,7 +18,7 @@ use Rattle.execution.specs.Fitting.{planned_query}
 use Rattle.execution.specs.Plans.{PlannedQuery, asked_for}
 use Rattle.execution.proofs.Taking.{taken}
 use Rattle.execution.proofs.Budgeting.{all_within, are_all}
-use Rattle.execution.proofs.TabledRuns.{executed, front, parse_error}
+use Rattle.execution.proofs.TabledRuns.{executed, front, parse_error, passed}
 use Rattle.execution.proofs.tabled.execute_tabled.Goals as goal
 
 abbrev asked_with : Into → Wanted → ℤ → model.Query → PlannedQuery → Asked
@@ -86,3 +86,44 @@ pub returns-in-Some-clause-parse : goal.returns-in-Some-clause-parse
 returns-in-Some-clause-parse g c =
     rw c.in-Err-Bad.field-0-is (parse_error (g.L.LogSource.folder c.carry_out.new.logs) c.args.spec.now c.args.moment.seconds (query_of c.args.query.now)
     c.args.format c.args.waits (planned_query c.in-Ok.plan) c.as_slice.result.now c.args.spans.now c.in-Some.field-0 c.args.budget _ c.as_slice.ensures c.in-Ok.ensures.plan c.in-Some.is c.requires.budget (rw c.in-Err-Bad.field-0-is at c.in-Err-Bad.ensures.too_many))
+
+pub returns-in-Ok-carry_out-clause-passes : goal.returns-in-Ok-carry_out-clause-passes
+returns-in-Ok-carry_out-clause-passes g c = inr
+    (passed (kind_of g.G.Stage.state g.G.Stage.ended) g.G.Stage.goes (g.L.LogSource.folder c.carry_out.new.logs) (asked_with c.args.into c.args.wanted c.args.moment.seconds (query_of c.args.query.now)) c.args.moment.seconds (query_of c.args.query.now)
+    c.args.format c.args.waits (planned_query c.in-Ok.plan) c.as_slice.result.now c.args.spans.now (asked_of c.in-Ok-output_over.output) _ _ c.args.stage.now c.carry_out.new.stage c.as_slice.ensures c.in-Ok.ensures.plan c.in-Ok-output_over.ensures.asked c.carry_out.ensures.ahead)
+
+pub returns-in-Err-Memory-clause-passes : goal.returns-in-Err-Memory-clause-passes
+returns-in-Err-Memory-clause-passes g c = inr
+    (passed (kind_of g.G.Stage.state g.G.Stage.ended) g.G.Stage.goes (g.L.LogSource.folder c.carry_out.new.logs) (asked_with c.args.into c.args.wanted c.args.moment.seconds (query_of c.args.query.now)) c.args.moment.seconds (query_of c.args.query.now)
+    c.args.format c.args.waits (planned_query c.in-Ok.plan) c.as_slice.result.now c.args.spans.now (asked_of c.in-Ok-output_over.output) _ _ c.args.stage.now c.carry_out.new.stage c.as_slice.ensures c.in-Ok.ensures.plan c.in-Ok-output_over.ensures.asked c.carry_out.ensures.ahead)
+
+pub returns-in-Err-Logs-clause-passes : goal.returns-in-Err-Logs-clause-passes
+returns-in-Err-Logs-clause-passes g c = inr
+    (passed (kind_of g.G.Stage.state g.G.Stage.ended) g.G.Stage.goes (g.L.LogSource.folder c.carry_out.new.logs) (asked_with c.args.into c.args.wanted c.args.moment.seconds (query_of c.args.query.now)) c.args.moment.seconds (query_of c.args.query.now)
+    c.args.format c.args.waits (planned_query c.in-Ok.plan) c.as_slice.result.now c.args.spans.now (asked_of c.in-Ok-output_over.output) _ _ c.args.stage.now c.carry_out.new.stage c.as_slice.ensures c.in-Ok.ensures.plan c.in-Ok-output_over.ensures.asked c.carry_out.ensures.ahead)
+
+pub returns-in-Err-Output-clause-passes : goal.returns-in-Err-Output-clause-passes
+returns-in-Err-Output-clause-passes g c = inr
+    (passed (kind_of g.G.Stage.state g.G.Stage.ended) g.G.Stage.goes (g.L.LogSource.folder c.carry_out.new.logs) (asked_with c.args.into c.args.wanted c.args.moment.seconds (query_of c.args.query.now)) c.args.moment.seconds (query_of c.args.query.now)
+    c.args.format c.args.waits (planned_query c.in-Ok.plan) c.as_slice.result.now c.args.spans.now (asked_of c.in-Ok-output_over.output) _ _ c.args.stage.now c.carry_out.new.stage c.as_slice.ensures c.in-Ok.ensures.plan c.in-Ok-output_over.ensures.asked c.carry_out.ensures.ahead)
+
+pub returns-in-Err-Refused-clause-passes : goal.returns-in-Err-Refused-clause-passes
+returns-in-Err-Refused-clause-passes g c = inr
+    (passed (kind_of g.G.Stage.state g.G.Stage.ended) g.G.Stage.goes (g.L.LogSource.folder c.carry_out.new.logs) (asked_with c.args.into c.args.wanted c.args.moment.seconds (query_of c.args.query.now)) c.args.moment.seconds (query_of c.args.query.now)
+    c.args.format c.args.waits (planned_query c.in-Ok.plan) c.as_slice.result.now c.args.spans.now (asked_of c.in-Ok-output_over.output) _ _ c.args.stage.now c.carry_out.new.stage c.as_slice.ensures c.in-Ok.ensures.plan c.in-Ok-output_over.ensures.asked c.carry_out.ensures.ahead)
+
+pub returns-in-Some-clause-passes : goal.returns-in-Some-clause-passes
+returns-in-Some-clause-passes g c = inr
+    (passed (kind_of g.G.Stage.state g.G.Stage.ended) g.G.Stage.goes (g.L.LogSource.folder c.carry_out.new.logs) (asked_with c.args.into c.args.wanted c.args.moment.seconds (query_of c.args.query.now)) c.args.moment.seconds (query_of c.args.query.now)
+    c.args.format c.args.waits (planned_query c.in-Ok.plan) c.as_slice.result.now c.args.spans.now (asked_of c.in-Ok-output_over.output) _ _ c.args.stage.now c.carry_out.new.stage c.as_slice.ensures c.in-Ok.ensures.plan c.in-Ok-output_over.ensures.asked c.carry_out.ensures.ahead)
+
+pub returns-clause-passes : goal.returns-clause-passes
+returns-clause-passes g c = inr
+    (passed (kind_of g.G.Stage.state g.G.Stage.ended) g.G.Stage.goes (g.L.LogSource.folder c.carry_out.new.logs) (asked_with c.args.into c.args.wanted c.args.moment.seconds (query_of c.args.query.now)) c.args.moment.seconds (query_of c.args.query.now)
+    c.args.format c.args.waits (planned_query c.in-Ok.plan) c.as_slice.result.now c.args.spans.now (asked_of c.in-Ok-output_over.output) _ _ c.args.stage.now c.carry_out.new.stage c.as_slice.ensures c.in-Ok.ensures.plan c.in-Ok-output_over.ensures.asked c.carry_out.ensures.ahead)
+
+pub returns-in-Err-clause-passes : goal.returns-in-Err-clause-passes
+returns-in-Err-clause-passes g c = inl refl
+
+pub returns-in_default-clause-passes : goal.returns-in_default-clause-passes
+returns-in_default-clause-passes g c = inl refl

@@ -8,6 +8,10 @@ use Rattle.logparser_cli.specs.Outputs.{World, held, input_at, world}
 use Rattle.logparser_cli.specs.Whole.{Tells}
 use Rattle.logparser_cli.proofs.Answering.{on_refused, refused_is}
 use Rattle.logparser_cli.proofs.Keeping.{told_all}
+use Rattle.grammar.specs.Trees as model
+use Rattle.command_words.specs.declared.spec.Spec.{Spec}
+use Rattle.input_tables.specs.declared.format.TableFormat.{TableFormat}
+use Rattle.logparser_cli.specs.OnePass.{AsksInPass, IsOnePass, progress}
 use Rattle.logparser_cli.proofs.running.run.Goals as goal
 
 pub returns-in_default : goal.returns-in_default
@@ -29,11 +33,18 @@ returns-in_default g c =
       later_err = let first = c.run_words.ensures.later_err in let second = c.tell_refusal.ensures.later in omega arith;
       given = c.run_words.ensures.given;
       kept = c.run_words.ensures.kept;
+      one_pass = subst (λ (moment : ℤ). (spec : Spec) (q : model.Query) (format : TableFormat) → AsksInPass (g.L.Logs.folder c.args.logs.now) (g.L.Logs.folder c.run_words.new.logs) c.args.words.now spec q format → IsOnePass spec moment q format (progress (g.L.Logs.folder c.args.logs.now) (g.L.Logs.given c.args.logs.now) (input_at g.I.Source.left g.I.Source.given g.I.Source.faults c.args.input.now) (g.S.Sink.written c.args.out.now)) (progress (g.L.Logs.folder c.run_words.new.logs) (g.L.Logs.given c.run_words.new.logs) (input_at g.I.Source.left g.I.Source.given g.I.Source.faults c.run_words.new.input) (g.S.Sink.written c.run_words.new.out))) (to_z-of_z _ c.args.moment c.ranges.moment) c.run_words.ensures.one_pass;
       input = c.run_words.ensures.input;
       read = c.run_words.ensures.read;
+      too_long = c.run_words.ensures.too_long;
     }
 
 pub returns-in-Done-clause-answers : goal.returns-in-Done-clause-answers
 returns-in-Done-clause-answers g c =
     let range : FitsSigned w64 c.args.moment = c.ranges.moment in
     simp to_z-of_z at c.in-Done.ensures.answers
+
+pub returns-in-Done-clause-one_pass : goal.returns-in-Done-clause-one_pass
+returns-in-Done-clause-one_pass g c =
+    let range : FitsSigned w64 c.args.moment = c.ranges.moment in
+    simp to_z-of_z at c.in-Done.ensures.one_pass

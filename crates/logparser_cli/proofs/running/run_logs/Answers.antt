@@ -1,4 +1,4 @@
-use Rattle.std.proofs.Common.{Bool, Err, inl, ap, sym, subst, arith, FitsSigned, w64}
+use Rattle.std.proofs.Common.{◌≤◌, Bool, Err, inl, ap, refl, sym, subst, arith, FitsSigned, w64}
 use Rattle.std.proofs.lemmas.Int.{to_z-of_z}
 use Rattle.query_tree.specs.Views.{query_of}
 use Rattle.reports.specs.declared.status.Status.{Status}
@@ -10,6 +10,8 @@ use Rattle.lp_model.specs.Outside.{Rose}
 use Rattle.logparser_cli.specs.Outputs.{OutputRose, World, held, input_at, world}
 use Rattle.logparser_cli.proofs.Answering.{rose_since, whole, stopped_answers}
 use Rattle.logparser_cli.proofs.Given.{logs_once, no_logs}
+use Rattle.logparser_cli.specs.OnePass.{Progress, progress}
+use Rattle.logparser_cli.proofs.OnePasses.{nothing_given, passed_over_logs, told_now}
 use Rattle.logparser_cli.proofs.running.run_logs.Goals as goal
 
 pub returns-in-Ok-write_rows-clause-answers : goal.returns-in-Ok-write_rows-clause-answers
@@ -49,3 +51,25 @@ returns-clause-given g c =
 
 pub write_rows-requires-clause-readable : goal.write_rows-requires-clause-readable
 write_rows-requires-clause-readable g c = inl (record { there = c.in-Ok.ensures.there; ready = λ later name place. tt })
+
+pub returns-in-Err-clause-one_pass : goal.returns-in-Err-clause-one_pass
+returns-in-Err-clause-one_pass g c = λ format passes.
+    let old : Progress = progress (g.L.Logs.folder c.args.logs.now) (g.L.Logs.given c.args.logs.now) (input_at g.I.Source.left g.I.Source.given g.I.Source.faults c.args.input.now) (g.S.Sink.written c.args.out.now) in
+    let same = c.find_spans.ensures.given in
+    nothing_given c.args.spec.now c.args.moment (query_of c.args.query.now) format old (g.L.Logs.folder c.find_spans.new.logs) (g.L.Logs.given c.find_spans.new.logs) (told_now (g.L.Logs.folder c.find_spans.new.logs) (g.L.Logs.given c.find_spans.new.logs ≤ old.given) (omega arith))
+
+pub returns-in-Ok-write_rows-clause-one_pass : goal.returns-in-Ok-write_rows-clause-one_pass
+returns-in-Ok-write_rows-clause-one_pass g c = λ format passes.
+    let range : FitsSigned w64 c.args.moment = c.ranges.moment in
+    let old : Progress = progress (g.L.Logs.folder c.args.logs.now) (g.L.Logs.given c.args.logs.now) (input_at g.I.Source.left g.I.Source.given g.I.Source.faults c.args.input.now) (g.S.Sink.written c.args.out.now) in
+    let new : Progress = progress (g.L.Logs.folder c.write_rows.new.logs) (g.L.Logs.given c.write_rows.new.logs) (input_at g.I.Source.left g.I.Source.given g.I.Source.faults c.args.input.now) (g.S.Sink.written c.write_rows.new.out) in
+    passed_over_logs c.args.spec.now c.args.moment (query_of c.args.query.now) format old new (g.L.Logs.folder c.find_spans.new.logs) c.in-Ok.spans (g.L.Logs.given c.find_spans.new.logs) passes.output c.requires.files c.in-Ok.ensures.found c.write_rows.ensures.grows refl c.find_spans.ensures.given
+    ((simp to_z-of_z at c.write_rows.ensures.one_pass) format passes)
+
+pub returns-clause-one_pass : goal.returns-clause-one_pass
+returns-clause-one_pass g c = λ format passes.
+    let range : FitsSigned w64 c.args.moment = c.ranges.moment in
+    let old : Progress = progress (g.L.Logs.folder c.args.logs.now) (g.L.Logs.given c.args.logs.now) (input_at g.I.Source.left g.I.Source.given g.I.Source.faults c.args.input.now) (g.S.Sink.written c.args.out.now) in
+    let new : Progress = progress (g.L.Logs.folder c.write_rows.new.logs) (g.L.Logs.given c.write_rows.new.logs) (input_at g.I.Source.left g.I.Source.given g.I.Source.faults c.args.input.now) (g.S.Sink.written c.write_rows.new.out) in
+    passed_over_logs c.args.spec.now c.args.moment (query_of c.args.query.now) format old new (g.L.Logs.folder c.find_spans.new.logs) c.in-Ok.spans (g.L.Logs.given c.find_spans.new.logs) passes.output c.requires.files c.in-Ok.ensures.found c.write_rows.ensures.grows refl c.find_spans.ensures.given
+    ((simp to_z-of_z at c.write_rows.ensures.one_pass) format passes)

@@ -9,7 +9,7 @@ use Rattle.file_stage.specs.FileTexts.{AlwaysTells}
 use Rattle.logparser_cli.specs.Answers.{AnswersOf}
 use Rattle.logparser_cli.specs.Outputs.{World, held, input_at, world}
 use Rattle.logparser_cli.proofs.Given.{no_logs}
-use Rattle.logparser_cli.proofs.Streamed.{names_read, not_read}
+use Rattle.logparser_cli.proofs.Streamed.{names_read, not_read, stays_short}
 use Rattle.logparser_cli.proofs.running.run_over.Goals as goal
 
 pub returns-then-reads_stdin-clause-answers : goal.returns-then-reads_stdin-clause-answers
@@ -37,3 +37,16 @@ returns-then-reads_stdin-clause-given g c = no_logs (g.L.Logs.folder c.args.logs
 
 pub returns-else-reads_stdin-clause-read : goal.returns-else-reads_stdin-clause-read
 returns-else-reads_stdin-clause-read g c = not_read g.I.Source.left g.I.Source.given g.I.Source.faults c.args.input.now c.run_logs.new.input c.run_logs.ensures.input
+
+pub returns-then-reads_stdin-clause-one_pass : goal.returns-then-reads_stdin-clause-one_pass
+returns-then-reads_stdin-clause-one_pass g c = λ format passes.
+    let range : FitsSigned w64 c.args.moment = c.ranges.moment in
+    (simp to_z-of_z at c.run_input.ensures.one_pass) (g.L.Logs.folder c.args.logs.now) (g.L.Logs.given c.args.logs.now) format passes
+
+pub returns-else-reads_stdin-clause-one_pass : goal.returns-else-reads_stdin-clause-one_pass
+returns-else-reads_stdin-clause-one_pass g c = λ format passes.
+    let range : FitsSigned w64 c.args.moment = c.ranges.moment in
+    (simp to_z-of_z at c.run_logs.ensures.one_pass) format passes
+
+pub returns-else-reads_stdin-clause-too_long : goal.returns-else-reads_stdin-clause-too_long
+returns-else-reads_stdin-clause-too_long g c = λ long. absurd (stays_short g.I.Source.given c.args.input.now c.run_logs.new.input c.run_logs.ensures.input long)

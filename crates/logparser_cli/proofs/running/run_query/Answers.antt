@@ -13,6 +13,11 @@ use Rattle.logparser_cli.proofs.Answering.{read_answers, run_filled, unprepared}
 use Rattle.logparser_cli.proofs.Building.{plain_built}
 use Rattle.logparser_cli.proofs.Given.{no_logs, template_alone}
 use Rattle.logparser_cli.proofs.Prepared.{built_whole, logs_whole, names_whole, output_whole, prepared_reads}
+use Rattle.logparser_cli.specs.OnePass.{IsOnePass, PassesRows, Progress, progress}
+use Rattle.logparser_cli.proofs.OnePasses.{no_bytes, no_subquery_bytes, no_template_files, nothing_given, passed_earlier, same_query, told_and, told_later}
+use Rattle.grammar.specs.Trees as model
+use Rattle.std.proofs.Common.{◌≡◌, ◌≤◌}
+use Rattle.logparser_cli.proofs.Streamed.{stays_short}
 use Rattle.logparser_cli.proofs.running.run_query.Goals as goal
 
 -- the query with what its subqueries gave is built, and its output is by the same template
@@ -71,3 +76,42 @@ returns-in-Err-clause-given g c = template_alone (g.L.Logs.folder c.find_templat
 
 pub prepare-requires-clause-plain : goal.prepare-requires-clause-plain
 prepare-requires-clause-plain g c = plain_built c.args.spec.now (query_of c.args.query.now) c.requires.built
+
+pub returns-in-Err-clause-one_pass : goal.returns-in-Err-clause-one_pass
+returns-in-Err-clause-one_pass g c = λ format passes.
+    let old : Progress = progress (g.L.Logs.folder c.args.logs.now) (g.L.Logs.given c.args.logs.now) (input_at g.I.Source.left g.I.Source.given g.I.Source.faults c.args.input.now) (g.S.Sink.written c.args.out.now) in
+    let q = query_of c.args.query.now in
+    nothing_given c.args.spec.now c.args.moment q format old (g.L.Logs.folder c.find_template.new.logs) (g.L.Logs.given c.find_template.new.logs) (no_bytes (g.L.Logs.folder c.find_template.new.logs) _ _ _ (no_template_files c.args.spec.now q passes.output) c.find_template.ensures.reads)
+
+pub returns-in-Err-prepare-clause-one_pass : goal.returns-in-Err-prepare-clause-one_pass
+returns-in-Err-prepare-clause-one_pass g c = λ format passes.
+    let old : Progress = progress (g.L.Logs.folder c.args.logs.now) (g.L.Logs.given c.args.logs.now) (input_at g.I.Source.left g.I.Source.given g.I.Source.faults c.args.input.now) (g.S.Sink.written c.args.out.now) in
+    let q = query_of c.args.query.now in
+    let first = no_bytes (g.L.Logs.folder c.find_template.new.logs) _ _ _ (no_template_files c.args.spec.now q passes.output) c.find_template.ensures.reads in
+    let second = no_subquery_bytes (g.L.Logs.folder c.prepare.new.logs) _ _ _ passes.rows.alone c.prepare.ensures.read in
+    nothing_given c.args.spec.now c.args.moment q format old (g.L.Logs.folder c.prepare.new.logs) (g.L.Logs.given c.prepare.new.logs)
+    (told_and (g.L.Logs.folder c.prepare.new.logs) (g.L.Logs.given c.find_template.new.logs ≤ g.L.Logs.given c.args.logs.now) (g.L.Logs.given c.prepare.new.logs ≤ g.L.Logs.given c.find_template.new.logs) _ (λ a b. omega arith) (told_later (g.L.Logs.folder c.find_template.new.logs) (g.L.Logs.folder c.prepare.new.logs) _ c.in-Err-prepare.ensures.grows first) second)
+
+pub returns-in-Ok-prepare-clause-one_pass : goal.returns-in-Ok-prepare-clause-one_pass
+returns-in-Ok-prepare-clause-one_pass g c = λ format passes.
+    let range : FitsSigned w64 c.args.moment = c.ranges.moment in
+    let old : Progress = progress (g.L.Logs.folder c.args.logs.now) (g.L.Logs.given c.args.logs.now) (input_at g.I.Source.left g.I.Source.given g.I.Source.faults c.args.input.now) (g.S.Sink.written c.args.out.now) in
+    let new : Progress = progress (g.L.Logs.folder c.run_over.new.logs) (g.L.Logs.given c.run_over.new.logs) (input_at g.I.Source.left g.I.Source.given g.I.Source.faults c.run_over.new.input) (g.S.Sink.written c.run_over.new.out) in
+    let q = query_of c.args.query.now in
+    let whole = query_of c.prepare.new.query in
+    let f : IsFilled c.args.spec.now c.args.moment (g.L.Logs.folder c.find_template.new.logs) (g.L.Logs.folder c.prepare.new.logs) q whole = simp to_z-of_z at c.in-Ok-prepare.ensures.fills in
+    let same : whole ≡ q = same_query c.args.spec.now c.args.moment (g.L.Logs.folder c.find_template.new.logs) (g.L.Logs.folder c.prepare.new.logs) q whole passes.rows.alone f in
+    let first = no_bytes (g.L.Logs.folder c.find_template.new.logs) _ _ _ (no_template_files c.args.spec.now q passes.output) c.find_template.ensures.reads in
+    let second = no_subquery_bytes (g.L.Logs.folder c.prepare.new.logs) _ _ _ passes.rows.alone c.prepare.ensures.read in
+    let mid = told_and (g.L.Logs.folder c.prepare.new.logs) (g.L.Logs.given c.find_template.new.logs ≤ g.L.Logs.given c.args.logs.now) (g.L.Logs.given c.prepare.new.logs ≤ g.L.Logs.given c.find_template.new.logs) (g.L.Logs.given c.prepare.new.logs ≤ g.L.Logs.given c.args.logs.now) (λ a b. omega arith) (told_later (g.L.Logs.folder c.find_template.new.logs) (g.L.Logs.folder c.prepare.new.logs) _ c.in-Ok-prepare.ensures.grows first) second in
+    let ran : IsOnePass c.args.spec.now c.args.moment whole format (progress (g.L.Logs.folder c.prepare.new.logs) (g.L.Logs.given c.prepare.new.logs) old.input old.out) new = (simp to_z-of_z at c.run_over.ensures.one_pass) format (subst (λ (x : model.Query). PassesRows c.args.spec.now x format) (sym same) passes) in
+    passed_earlier c.args.spec.now c.args.moment q format old new (g.L.Logs.folder c.prepare.new.logs) (g.L.Logs.given c.prepare.new.logs)
+    (OnlyGrow-trans (g.L.Logs.folder c.args.logs.now) (g.L.Logs.folder c.find_template.new.logs) (g.L.Logs.folder c.prepare.new.logs) c.in-Ok.ensures.grows c.in-Ok-prepare.ensures.grows)
+    (told_later (g.L.Logs.folder c.prepare.new.logs) (g.L.Logs.folder c.run_over.new.logs) _ c.run_over.ensures.grows mid)
+    (subst (λ (x : model.Query). IsOnePass c.args.spec.now c.args.moment x format (progress (g.L.Logs.folder c.prepare.new.logs) (g.L.Logs.given c.prepare.new.logs) old.input old.out) new) same ran)
+
+pub returns-in-Err-clause-too_long : goal.returns-in-Err-clause-too_long
+returns-in-Err-clause-too_long g c = λ long. absurd (stays_short g.I.Source.given c.args.input.now c.args.input.now refl long)
+
+pub returns-in-Err-prepare-clause-too_long : goal.returns-in-Err-prepare-clause-too_long
+returns-in-Err-prepare-clause-too_long g c = λ long. absurd (stays_short g.I.Source.given c.args.input.now c.args.input.now refl long)

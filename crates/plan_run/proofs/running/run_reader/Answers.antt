@@ -1,4 +1,4 @@
-use Rattle.std.proofs.Common.{◌≡◌, ◌++◌, true, map, length, IfOk, IfErr, OnOk, OnErr, subst}
+use Rattle.std.proofs.Common.{◌≡◌, ◌++◌, true, map, length, IfOk, IfErr, OnOk, OnErr, inl, refl, subst}
 use Rattle.lp_model.specs.Outside.{Told}
 use Rattle.lp_model.specs.Reading.{Format}
 use Rattle.lp_model.proofs.Growing.{OnlyGrow-refl}
@@ -10,6 +10,8 @@ use Rattle.row_output.specs.Asked.{left_of}
 use Rattle.row_output.specs.Kept.{asked_of}
 use Rattle.row_output.specs.Rows.{Holds, IsRefused, Stops}
 use Rattle.row_output.proofs.Stopping.{none_stops}
+use Rattle.plan_rows.specs.Picks.{plan_picks}
+use Rattle.query_run.specs.Ahead.{GoesAhead}
 use Rattle.query_run.specs.Faults.{OnBad, OnRefusedOutput}
 use Rattle.query_run.specs.declared.executing.Written.{Written}
 use Rattle.query_types.specs.Planned.{planned_in}
@@ -62,3 +64,12 @@ returns-clause-took g c =
     let Of : Format → Type 0 = λ format. OnOk c.write_spans.result (c.args.waits ≡ true → Told (g.L.LogSource.folder c.write_spans.new.logs) (λ folder. AreKept format true c.args.spans.now folder
     → c.write_spans.new.took ≡ c.args.took.now ++ map (took_of format folder) c.args.spans.now)) in
     subst Of c.requires.reads c.write_spans.ensures.took
+
+pub returns-in_default-clause-ahead : goal.returns-in_default-clause-ahead
+returns-in_default-clause-ahead g c = inl refl
+
+pub returns-clause-ahead : goal.returns-clause-ahead
+returns-clause-ahead g c =
+    let kind = kind_of g.G.Stage.state g.G.Stage.ended in
+    as_asked (λ format readings plan. GoesAhead kind g.G.Stage.goes (asked_of c.args.output) (plan_picks readings plan.items plan.condition) format c.args.waits (g.L.LogSource.folder c.write_spans.new.logs) c.args.spans.now (g.L.LogSource.given c.args.logs.now) (g.L.LogSource.given c.write_spans.new.logs) c.args.stage.now c.write_spans.new.stage)
+    (g.R.LineReader.format c.args.reader.now) (lines_of c.args.format) c.in-Ok.picker.readings (readings_of c.args.format) c.in-Ok.picker.ready.plan c.args.plan c.requires.reads c.in-Ok.ensures.readings c.in-Ok.ensures.plan c.write_spans.ensures.ahead
