@@ -1,5 +1,5 @@
 // Runs whose rows go to files of a disk in memory, of which a call may fail.
-use headline::run;
+use logparser_cli::run;
 use lp_outside::Name;
 use lp_values::{Bytes, Text, TextList};
 use memory_outside::{MemoryDisk, MemoryLogs, MemorySink, MemorySource};

@@ -1,7 +1,7 @@
 // Runs over standard input.
 ghost use Rattle.std.specs.Prelude.{None};
 
-use headline::run;
+use logparser_cli::run;
 use lp_outside::{Sink, SinkFailed, Source, SourceFailed};
 use lp_values::{Bytes, Text, TextList};
 use memory_outside::{MemoryDisk, MemoryLogs, MemorySink, MemorySource};

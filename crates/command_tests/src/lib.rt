@@ -1,12 +1,10 @@
 //! The tests of the command over objects in memory.
 //!
 //! Worked runs at a moment that is known, and what no case of the program can show: logs, disks, outputs and messages that fail
-//! at each call, clocks of other years, and runs with a checkpoint, stopped at each call of the disk.
+//! at each call, and clocks of other years. Runs with a checkpoint stand in `checkpoint_tests`.
 //! They stand here, so that no crate with proofs is proved once more with its tests.
 #![tactic(auto)]
 
-#[cfg(test)]
-mod checkpoints;
 #[cfg(test)]
 mod files;
 #[cfg(test)]

@@ -1,5 +1,5 @@
 // Runs over objects in memory, of which one fails.
-use headline::run;
+use logparser_cli::run;
 use lp_outside::Name;
 use lp_values::{Bytes, Text, TextList, read_integer};
 use memory_outside::{MemoryDisk, MemoryLogs, MemorySink, MemorySource};

@@ -1,5 +1,5 @@
 // Whole runs at the moment 0, as their words are typed, over logs and a disk in memory.
-use headline::run;
+use logparser_cli::run;
 use lp_outside::Name;
 use lp_values::{Bytes, Text, TextList};
 use memory_outside::{MemoryDisk, MemoryLogs, MemorySink, MemorySource};

@@ -1,10 +1,11 @@
 // Runs over files of the machine.
 use crate::entries::{BOTH, ONE_A, first_entry, named, second_entry};
 use crate::runs::{end_of, run_first, run_second, settle};
-use lp_outside::{Disk, FileDisk};
+use lp_outside::Disk;
 use std::alloc::Global;
 use std::fs;
 use std::io::ErrorKind;
+use system_outside::FileDisk;
 
 fn removes(rt: &HostRuntime, name: &str) -> bool {
     match fs::remove_file(rt, name) {

@@ -19,6 +19,9 @@ const LIMIT: u64 = 1 << 63;
 /// The most outputs that an entry has.
 const MOST: usize = 10_000;
 
+/// As many as most entries have at most: for these no more room is made ready.
+const FEW: usize = 64;
+
 const FACTOR: u64 = 1_099_511_628_211;
 
 /// A number that two names share only by rare chance, if they differ.
@@ -135,6 +138,28 @@ fn output<D: Disk>(
     Ok(hash)
 }
 
+/// So many outputs, with room for the hashes of their names.
+fn each_output<D: Disk>(
+    disk: &mut D,
+    ledger: &Name,
+    reader: &mut EntryReader,
+    count: u64,
+    seen: &mut [u64],
+) -> Result<(), LedgerRefused>
+    requires { count ≤ length seen.old }
+    ensures looks { Looks (listed output_layout count) (D.state disk.old) (D.state disk.new) ledger.now reader.old reader.new result }
+    ensures rests { Rests (D.state disk.old) (D.state disk.new) }
+    ensures reason { HasReason (D.faults disk.old) (D.faults disk.new) result }
+{
+    let first = reader.place();
+    for index in 0..count {
+        let place = index as usize;
+        let hash = output(disk, ledger, reader, first, index, &seen[..place])?;
+        seen[place] = hash;
+    }
+    Ok(())
+}
+
 fn output_items<D: Disk>(
     disk: &mut D,
     ledger: &Name,
@@ -146,14 +171,10 @@ fn output_items<D: Disk>(
     ensures rests { Rests (D.state disk.old) (D.state disk.new) }
     ensures reason { HasReason (D.faults disk.old) (D.faults disk.new) result }
 {
-    let first = reader.place();
-    let mut seen = [0; MOST];
-    for index in 0..count {
-        let place = index as usize;
-        let hash = output(disk, ledger, reader, first, index, &seen[..place])?;
-        seen[place] = hash;
+    if count <= 64 {
+        return each_output(disk, ledger, reader, count, &mut [0; FEW]);
     }
-    Ok(())
+    each_output(disk, ledger, reader, count, &mut [0; MOST])
 }
 
 fn outputs<D: Disk>(

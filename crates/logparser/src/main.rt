@@ -5,12 +5,12 @@ mod help;
 
 use crate::help::{HELP, VERSION};
 use logparser_cli::run;
-use lp_outside::{FileDisk, FileLogs, StdSink, StdSource};
 use lp_values::{Text, TextList};
 use std::io::Write;
 use std::process::ExitCode;
 use std::time::{SystemTime, UNIX_EPOCH};
 use std::{env, io};
+use system_outside::{FileDisk, FileLogs, StdSink, StdSource};
 
 const USAGE: u8 = 2;
 

@@ -13,6 +13,7 @@ fn first_of(bytes: &[u8]) -> &[u8]
     ensures front { result.now ≡ take (length result.now) bytes.now }
     ensures some { 0 < length bytes.now → 0 < length result.now }
     ensures fits { length result.now ≤ length bytes.now }
+    ensures few { length result.now ≤ 65536 }
 {
     &bytes[..bytes.len().min(MOST)]
 }

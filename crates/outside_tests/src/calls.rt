@@ -88,7 +88,10 @@ pub(crate) fn read_two<S: Source>(source: &mut S, to: &mut Bytes) -> Result<(), 
     }
 }
 
-/// How many bytes of a piece an output takes.
+/// How many bytes of a piece an output takes, if it isn't longer than one that may be offered.
 pub(crate) fn put<S: Sink>(sink: &mut S, piece: &[u8]) -> Option<usize> {
+    if piece.len() > 65_536 {
+        return None;
+    }
     sink.write(piece).ok()
 }

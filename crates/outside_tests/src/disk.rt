@@ -1,9 +1,10 @@
 // The disk over files of the machine: what is written is there, and lasts.
 use crate::counting::{Counted, Counts};
 use crate::files::fresh;
-use lp_outside::{Disk, FileDisk, Name};
+use lp_outside::{Disk, Name};
 use std::fs;
 use std::test::Fail;
+use system_outside::FileDisk;
 
 fn named(text: &str) -> Result<Name, Fail> {
     match Name::read(text) {
@@ -36,7 +37,8 @@ fn places(rt: HostRuntime) -> Result<(), Fail> {
     fresh(&rt, "outside_places")
 }
 
-// A first sync makes the file and each folder of its name durable, a later one the file alone.
+// A first sync makes the file and each folder of its name durable, a later one the file alone, and one behind which nothing
+// changed asks for nothing. A second file of the folder needs no folder, unless it was made since.
 #[test]
 fn syncs(rt: HostRuntime) -> Result<(), Fail> {
     fresh(&rt, "outside_synced")?;
@@ -55,10 +57,26 @@ fn syncs(rt: HostRuntime) -> Result<(), Fail> {
     disk.write_at(one, 1, b"b")?;
     disk.sync(one)?;
     assert_eq!(rt; counts.syncs.get(), 6 + 1);
+    disk.sync(one)?;
+    disk.cut(one, 2)?;
+    disk.sync(one)?;
+    assert_eq!(rt; counts.syncs.get(), 7);
+    disk.cut(one, 1)?;
+    disk.sync(one)?;
+    assert_eq!(rt; counts.syncs.get(), 7 + 1);
+    let two = &named("outside_synced/deep/two.csv")?;
+    disk.write_at(two, 0, b"a")?;
+    disk.sync(two)?;
+    assert_eq!(rt; counts.syncs.get(), 8 + 1 + 3);
+    let mut again = FileDisk::new(&counted);
+    again.sync(one)?;
+    again.write_at(two, 1, b"b")?;
+    again.sync(two)?;
+    assert_eq!(rt; counts.syncs.get(), 12 + 1 + 3 + 1);
     fresh(&rt, "outside_synced")
 }
 
-// A text that goes from one file into another opens each of them once.
+// A text that goes from one file into another opens each of them once, also where a third is written between.
 #[test]
 fn handles(rt: HostRuntime) -> Result<(), Fail> {
     fresh(&rt, "outside_handles")?;
@@ -73,10 +91,13 @@ fn handles(rt: HostRuntime) -> Result<(), Fail> {
     let mut piece = [0u8; 2];
     disk.write_at(stage, 0, b"abcdef")?;
     disk.write_at(output, 0, b"")?;
+    let ledger = &named("outside_handles/cp")?;
+    disk.write_at(ledger, 0, b"")?;
     let before = counts.opens.get();
     for at in [0u64, 2, 4] {
         let count = disk.read_at(stage, at, &mut piece)?;
         disk.write_at(output, at, &piece[..count.min(2)])?;
+        disk.write_at(ledger, at, b"x")?;
     }
     assert_eq!(rt; counts.opens.get(), before);
     let mut whole = [0u8; 6];

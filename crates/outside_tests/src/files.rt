@@ -1,10 +1,11 @@
 // The adapters on files of the machine.
 use crate::calls::{act, look, name, put, read_two, word};
-use lp_outside::{FileDisk, FileLogs, Mark, Stage, StdSink, StdSource};
+use lp_outside::{Mark, Stage};
 use lp_values::Bytes;
 use std::fs;
 use std::io::ErrorKind;
 use std::test::Fail;
+use system_outside::{FileDisk, FileLogs, StdSink, StdSource};
 
 // Takes a folder away, with all that is in it.
 pub fn fresh(rt: &HostRuntime, folder: &str) -> Result<(), Fail> {

@@ -8,7 +8,7 @@ use Rattle.ledger.proofs.Resting.{rests_none, rests_then}
 use Rattle.ledger_model.specs.Layouts.{listed}
 use Rattle.ledger.specs.Reader.{RefusedAt}
 use Rattle.ledger_model.specs.Grammar.{output_layout}
-use Rattle.ledger.proofs.placing.output_items.Goals as goal
+use Rattle.ledger.proofs.placing.each_output.Goals as goal
 
 pub loop-index-init : goal.loop-index-init
 loop-index-init g c = record {

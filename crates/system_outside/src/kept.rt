@@ -1,7 +1,7 @@
 // Files of a system that are kept open between calls.
 ghost use Rattle.std.specs.Prelude.{◌≡◌, ◌≤◌, length, IfOk, bytes_eq};
 
-use crate::Name;
+use lp_outside::Name;
 use std::fs::OpenFile;
 use std::io::ErrorKind;
 use std::os::unix::fs::FileExt;
@@ -12,11 +12,13 @@ use std::{fs, io};
 #[derive(Drop)]
 pub struct Kept<F: Drop> {
     name: Name,
-    pub file: F,
+    file: F,
     /// Whether it may be written.
     pub writes: bool,
     /// Whether its name is durable in its folders.
     pub is_named: bool,
+    // Whether its bytes are durable.
+    is_synced: bool,
 }
 
 impl<F: Drop> Kept<F> {
@@ -27,6 +29,7 @@ impl<F: Drop> Kept<F> {
             file,
             writes,
             is_named: false,
+            is_synced: false,
         }
     }
 
@@ -49,11 +52,30 @@ impl<F: FileExt + Drop> Kept<F> {
 
 impl<F: FileExt + OpenFile + Drop> Kept<F> {
     /// Writes bytes from a place on; the system fills a gap before it with zero bytes.
-    pub fn write_at(&self, at: u64, bytes: &[u8]) -> io::Result<()> {
+    pub fn write_at(&mut self, at: u64, bytes: &[u8]) -> io::Result<()> {
+        self.is_synced = false;
         if bytes.is_empty() {
             return self.reach(at);
         }
         self.file.write_all_at(bytes, at)
+    }
+
+    /// Makes the file as short as this, where it is longer.
+    pub fn cut(&mut self, to: u64) -> io::Result<()> {
+        if self.file.metadata()?.len() > to {
+            self.is_synced = false;
+            self.file.set_len(to)?;
+        }
+        Ok(())
+    }
+
+    /// Makes its bytes and its length durable. The time of its last change, which nobody asks for, may be lost.
+    pub fn sync(&mut self) -> io::Result<()> {
+        if !self.is_synced {
+            self.file.sync_data()?;
+            self.is_synced = true;
+        }
+        Ok(())
     }
 
     // Makes the file as long as this, where it is shorter: a write of nothing fills a gap too.

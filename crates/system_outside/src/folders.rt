@@ -1,6 +1,6 @@
 // The folders of a name.
-use crate::Name;
 use arrayvec::ArrayString;
+use lp_outside::Name;
 use std::fs::OpenFile;
 use std::io::ErrorKind;
 use std::rt::Files;
@@ -13,6 +13,11 @@ fn folder_of(path: &str) -> &str {
         Some((folder, _)) if folder.is_empty() => "/",
         Some((folder, _)) => folder,
     }
+}
+
+/// Whether two names stand in one folder, by its name.
+pub fn is_same_folder(one: &Name, other: &Name) -> bool {
+    folder_of(one.as_str()) == folder_of(other.as_str())
 }
 
 // Makes the names in a folder durable.

@@ -2,9 +2,9 @@
 ghost use Rattle.std.specs.Prelude.{◌≡◌, ◌≤◌, length, IfOk};
 ghost use Rattle.lp_model.specs.Outside.{HasCause};
 
-use crate::folders::{make_folders, sync_folders};
+use crate::folders::{is_same_folder, make_folders, sync_folders};
 use crate::kept::{Kept, is_absence};
-use crate::{Disk, DiskFailed, Name};
+use lp_outside::{Disk, DiskFailed, Name};
 use std::fs::{OpenFile, OpenOptions};
 use std::io;
 use std::io::ErrorKind;
@@ -14,14 +14,21 @@ use std::rt::Files;
 // The longest file, 2^62 bytes.
 const LONGEST_FILE: u64 = 1 << 62;
 
-/// The files of a system as a disk. The two that were used last are kept open, so that a text that goes from one file into
-/// another takes one call of the system for each read and each write. A write makes the file and its folders where they are
-/// missing; no other call makes a file.
+/// The files of a system as a disk. The three that were used last are kept open, so that a run keeps its ledger, its stage and
+/// an output, and a text that goes from one file into another takes one call of the system for each read and each write. A
+/// write makes the file and its folders where they are missing; no other call makes a file.
+///
+/// A sync asks nothing of the system that an earlier one of this disk has done: a file that was synced and not changed since
+/// is as it was, and so are the names in a folder where no file was made since. That rests on what a run rests on: no other
+/// program writes its files meanwhile.
 #[derive(Drop)]
 pub struct FileDisk<'a, R: Files> {
     rt: &'a R,
     last: Option<Kept<R::File>>,
     before: Option<Kept<R::File>>,
+    earlier: Option<Kept<R::File>>,
+    /// A file whose name was made durable, and behind which this disk made no file.
+    named: Option<Name>,
     faults: u64,
 }
 
@@ -77,6 +84,8 @@ where
             rt,
             last: None,
             before: None,
+            earlier: None,
+            named: None,
             faults: 0,
         }
     }
@@ -85,7 +94,10 @@ where
     fn take(&mut self, name: &Name, writes: bool) -> Option<Kept<R::File>>
         ensures { self.new.faults ≡ self.old.faults }
     {
-        if !is_open(&self.last, name) {
+        if is_open(&self.earlier, name) {
+            std::mem::swap(&mut self.before, &mut self.earlier);
+        }
+        if is_open(&self.before, name) {
             std::mem::swap(&mut self.last, &mut self.before);
         }
         if !is_open(&self.last, name) {
@@ -102,6 +114,9 @@ where
         ensures { self.new.faults ≡ self.old.faults }
     {
         if let Some(last) = self.last.take() {
+            if let Some(before) = self.before.take() {
+                self.earlier = Some(before);
+            }
             self.before = Some(last);
         }
         self.last = Some(file);
@@ -114,6 +129,31 @@ where
         match self.take(name, writes) {
             Some(file) => Ok(Some(file)),
             None => open_there(self.rt, name, writes),
+        }
+    }
+
+    // Takes the open file for writing, or opens it, and makes it where it is missing.
+    fn take_made(&mut self, name: &Name) -> io::Result<Kept<R::File>>
+        ensures { self.new.faults ≡ self.old.faults }
+    {
+        if let Some(file) = self.take_there(name, true)? {
+            return Ok(file);
+        }
+        self.named = None;
+        Ok(Kept::new(name, open_in_folders(self.rt, name)?, true))
+    }
+
+    // Makes the name of a file durable, unless it is already.
+    fn sync_name(&mut self, name: &Name) -> io::Result<()>
+        ensures { self.new.faults ≡ self.old.faults }
+    {
+        match &self.named {
+            Some(named) if is_same_folder(named, name) => Ok(()),
+            _ => {
+                sync_folders(self.rt, name)?;
+                self.named = Some(name.copy());
+                Ok(())
+            }
         }
     }
 
@@ -143,10 +183,7 @@ where
     fn write_file(&mut self, name: &Name, at: u64, bytes: &[u8]) -> io::Result<()>
         ensures { self.new.faults ≡ self.old.faults }
     {
-        let file = match self.take(name, true) {
-            Some(file) => file,
-            None => Kept::new(name, open_in_folders(self.rt, name)?, true),
-        };
+        let mut file = self.take_made(name)?;
         file.write_at(at, bytes)?;
         self.keep(file);
         Ok(())
@@ -155,12 +192,10 @@ where
     fn cut_file(&mut self, name: &Name, to: u64) -> io::Result<()>
         ensures { self.new.faults ≡ self.old.faults }
     {
-        let Some(file) = self.take_there(name, true)? else {
+        let Some(mut file) = self.take_there(name, true)? else {
             return Ok(());
         };
-        if file.file.metadata()?.len() > to {
-            file.file.set_len(to)?;
-        }
+        file.cut(to)?;
         self.keep(file);
         Ok(())
     }
@@ -171,10 +206,10 @@ where
         let Some(mut file) = self.take_there(name, false)? else {
             return Ok(());
         };
-        file.file.sync_all()?;
+        file.sync()?;
         // A file that is new, or whose folders are, may be lost with its name, so these are made durable once.
         if !file.is_named {
-            sync_folders(self.rt, name)?;
+            self.sync_name(name)?;
             file.is_named = true;
         }
         self.keep(file);
@@ -200,7 +235,7 @@ impl<'a, R: Files> Disk for FileDisk<'a, R>
 where
     R::File: FileExt,
 {
-    ghost use Rattle.lp_outside.specs.Untold.{untold};
+    ghost use Rattle.system_outside.specs.Untold.{untold};
 
     ghost state = { λ disk. untold };
 
