@@ -13,7 +13,7 @@ pub struct TooLong;
 
 /// Whether a query is short enough for `lex`.
 pub fn check_length(text: &[u8]) -> Result<(), TooLong>
-    ensures { IsOk result ↔ (length text.now ≤ LONGEST_QUERY) }
+    ensures { IsOk result ↔ (length text.now ≤ 65_536) }
 {
     if text.len() > LONGEST_QUERY {
         return Err(TooLong);

@@ -7,7 +7,7 @@ use crate::numbers::number;
 use crate::piece::{Mode, Piece, Start};
 use crate::starts::start_of;
 use crate::words::{bracket, name, sign, string, word};
-use crate::{LONGEST_QUERY, LexFault, Token, Tokens};
+use crate::{LexFault, Token, Tokens};
 use std::alloc::{AllocError, Global};
 
 /// What stands in front, where names may come or not.
@@ -29,7 +29,7 @@ fn piece_at(alloc: Global, names: bool, rest: &str) -> Result<Piece, AllocError>
 
 /// The tokens of a text of at most 65,536 bytes, or its first fault.
 pub fn lex(alloc: Global, text: &str) -> Result<Tokens, LexFault>
-    requires { length text.now ≤ LONGEST_QUERY }
+    requires { length text.now ≤ 65_536 }
 
     // The text is these tokens, and no others.
     ensures tokens { IfOk result (λ tokens. IsLexed text.now tokens.items) }
