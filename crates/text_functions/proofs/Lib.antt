@@ -12,3 +12,4 @@ mod RunLemmas
 mod StandLemmas
 mod TokenLemmas
 mod ValueLemmas
+mod WindowLemmas

@@ -1,11 +1,21 @@
 // Runs of a pattern: characters without `%` and `_`, which are found by their bytes.
-ghost use Rattle.std.specs.Prelude.{◌≡◌, ◌<◌, ◌≤◌, ◌↔◌, ℕ, IsTrue, length, MatchOption};
+ghost use Rattle.std.specs.Prelude.{◌≡◌, ◌<◌, ◌≤◌, ◌↔◌, ℕ, IsTrue, length, take, map, MatchOption};
 ghost use Rattle.std.specs.Char.{to_ascii_lowercase};
 ghost use Rattle.byte_masks.specs.Places.{is_in};
 ghost use Rattle.text_functions.specs.Runs.{StandsAt, StandsNowhere, IsFirstStand, IsRun, LacksRun, IsBehindFirst, EndsWithRun};
 
 use byte_masks::{ByteSet, Pairs};
-use memchr::memchr2;
+use lp_values::{bytes_from, bytes_to};
+use memchr::{memchr2, memmem};
+
+// A run of more bytes is searched for by its small letters, so that the time grows with the text alone.
+const SHORT_RUN: usize = 256;
+
+// The most bytes that such a run has.
+const LONG_RUN: usize = 65_536;
+
+// How many bytes of a text are searched at once for such a run.
+const WINDOW: usize = 131_072;
 
 // The characters of a pattern up to its first `%`.
 #[derive(Drop)]
@@ -37,7 +47,7 @@ pub(crate) fn behind_run<'t>(text: &'t str, run: &str) -> Option<&'t str>
     requires { 0 < length run.now }
     ensures { MatchOption result (LacksRun run.now text.now) (λ behind. IsBehindFirst run.now text.now behind.now) }
 {
-    match find_run(text.as_bytes(), run.as_bytes()) {
+    match find_stand(text.as_bytes(), run.as_bytes()) {
         Some(place) => Some(text.split_at(place + run.len()).1),
         None => None,
     }
@@ -51,6 +61,52 @@ pub(crate) fn ends_with_run(text: &str, run: &str) -> bool
         return false;
     }
     stands_at(text.as_bytes(), text.len() - run.len(), run.as_bytes())
+}
+
+// The first place at which a run stands.
+fn find_stand(text: &[u8], run: &[u8]) -> Option<usize>
+    requires { 0 < length run.now }
+    ensures { MatchOption result (StandsNowhere run.now text.now) (IsFirstStand run.now text.now) }
+{
+    if run.len() > SHORT_RUN && run.len() <= LONG_RUN {
+        find_long_run(text, run)
+    } else {
+        find_run(text, run)
+    }
+}
+
+// Puts the small letters of some bytes into the front of a buffer.
+fn put_small(bytes: &[u8], buffer: &mut [u8])
+    requires { length bytes.now ≤ length buffer.old }
+    ensures front { take (length bytes.now) buffer.new ≡ map to_ascii_lowercase bytes.now }
+    ensures size { length buffer.new ≡ length buffer.old }
+{
+    let front = &mut buffer[..bytes.len()];
+    front.copy_from_slice(bytes);
+    front.make_ascii_lowercase();
+}
+
+// The first place at which a long run stands. The small letters of its bytes are searched for in those of the text, a part of it at
+// a time, of which each begins where the run may stand first.
+fn find_long_run(text: &[u8], run: &[u8]) -> Option<usize>
+    requires some { 0 < length run.now }
+    requires fits { length run.now ≤ 65_536 }
+    ensures { MatchOption result (StandsNowhere run.now text.now) (IsFirstStand run.now text.now) }
+{
+    let mut small = [0u8; LONG_RUN];
+    put_small(run, &mut small);
+    let sought = bytes_to(&small, run.len());
+    let mut window = [0u8; WINDOW];
+    let mut at = 0;
+    while at + run.len() <= text.len() {
+        let size = (text.len() - at).min(WINDOW);
+        put_small(bytes_to(bytes_from(text, at), size), &mut window);
+        match memmem::find(bytes_to(&window, size), sought) {
+            Some(place) => return Some(at + place),
+            None => at += size - run.len() + 1,
+        }
+    }
+    None
 }
 
 // The first place at which a run stands. It is found by two of its bytes, those that are likely to be met least.
