@@ -10,8 +10,7 @@ use Rattle.slot_reading.specs.declared.reading.Reading.{Reading}
 use Rattle.slot_reading.specs.declared.reading.Reading.TheVariants as R
 use Rattle.slot_reading.specs.Slots.{kind_of}
 use Rattle.ncsa_input.specs.Lines.{ncsa_lines}
-use Rattle.ncsa_input.specs.Table.{ncsa_fields}
-use Rattle.ncsa_input.specs.Table.{Field as NcsaField}
+use Rattle.ncsa_input.specs.Table.{NcsaField, ncsa_fields}
 use Rattle.w3c_input.specs.Lines.{w3c_lines}
 use Rattle.iis_fields.specs.Table.{Field, logged_fields}
 

@@ -4,7 +4,7 @@ use Rattle.std.proofs.lemmas.Bool.{cases_Bool, eqb-true}
 use Rattle.std.specs.Prelude.{◌≢◌, ◌↔◌}
 use Rattle.lp_model.specs.Reading.{Columns, Slots, passed, bad, rows}
 use Rattle.ncsa_input.specs.Form.{Client, NcsaParts, IsNcsaLine, ncsa_row}
-use Rattle.ncsa_input.specs.Lines.{shapes, is_of_spaces, fields_in, slots_of, row_reading, ncsa_reading}
+use Rattle.ncsa_input.specs.Lines.{shapes, is_of_spaces, line_fields, ten_slots, row_reading, ncsa_reading}
 use Rattle.ncsa_input.proofs.Forming.{joined_read, joined_other, other_no_spaces, BeginsOther}
 use Rattle.ncsa_input.proofs.Spelling.{AreFit, IsRead, fields_behind-spelled}
 
@@ -59,23 +59,23 @@ parts_back parts = ap (λ client. parts_with parts.host parts.log_name parts.use
 -- ---- the row of a line with these parts
 
 row_combined : (host log_name user time request status bytes referer agent : List ℕ) (cookie : Option (List ℕ))
-    → slots_of (fields_of (parts_with host log_name user time request status bytes (Some (client_with referer agent cookie)))) ≡ ncsa_row (parts_with host log_name user time request status bytes (Some (client_with referer agent cookie)))
+    → ten_slots (fields_of (parts_with host log_name user time request status bytes (Some (client_with referer agent cookie)))) ≡ ncsa_row (parts_with host log_name user time request status bytes (Some (client_with referer agent cookie)))
 row_combined host log_name user time request status bytes referer agent None = refl
 row_combined host log_name user time request status bytes referer agent (Some cookie) = refl
 
 row_common : (host log_name user time request status bytes : List ℕ) (client : Option Client)
-    → slots_of (fields_of (parts_with host log_name user time request status bytes client)) ≡ ncsa_row (parts_with host log_name user time request status bytes client)
+    → ten_slots (fields_of (parts_with host log_name user time request status bytes client)) ≡ ncsa_row (parts_with host log_name user time request status bytes client)
 row_common host log_name user time request status bytes None = refl
 row_common host log_name user time request status bytes (Some client) = row_combined host log_name user time request status bytes client.referer client.agent client.cookie
 
-row_is : (parts : NcsaParts) → slots_of (fields_of parts) ≡ ncsa_row parts
+row_is : (parts : NcsaParts) → ten_slots (fields_of parts) ≡ ncsa_row parts
 row_is parts = row_common parts.host parts.log_name parts.user parts.time parts.request parts.status parts.bytes parts.client
 
 -- ---- a line of the form is read
 
 -- the fields are read, and a space doesn't stand first
 record IsWhole (line : List ℕ) (fields : List (List ℕ)) : Type 0 where
-  read : fields_in line ≡ Some fields
+  read : line_fields line ≡ Some fields
   begins : BeginsOther 32 line
 
 whole_combined : (line host log_name user time request status bytes referer agent : List ℕ) (cookie : Option (List ℕ)) → IsNcsaLine line (parts_with host log_name user time request status bytes (Some (client_with referer agent cookie)))
@@ -196,12 +196,12 @@ parted line (host ∷ log_name ∷ user ∷ time ∷ request ∷ status ∷ byte
 abbrev HasRow : List ℕ → List Slots → Type 0
 HasRow line found = (parts : NcsaParts) × (IsNcsaLine line parts × (found ≡ ncsa_row parts ∷ []))
 
-row_found : (line : List ℕ) (fields : List (List ℕ)) (found : List Slots) → rows (slots_of fields ∷ []) ≡ rows found → HasParts line fields → HasRow line found
+row_found : (line : List ℕ) (fields : List (List ℕ)) (found : List Slots) → rows (ten_slots fields ∷ []) ≡ rows found → HasParts line fields → HasRow line found
 row_found line fields found e has =
-    let same : slots_of fields ∷ [] ≡ found = cc in
-    (has.0, (has.1.0, sym same ∙ (ap (λ f. slots_of f ∷ []) has.1.1 ∙ ap (λ slots. slots ∷ []) (row_is has.0))))
+    let same : ten_slots fields ∷ [] ≡ found = cc in
+    (has.0, (has.1.0, sym same ∙ (ap (λ f. ten_slots f ∷ []) has.1.1 ∙ ap (λ slots. slots ∷ []) (row_is has.0))))
 
-by_fields : (line : List ℕ) (found : List Slots) (fields : Option (List (List ℕ))) → fields_in line ≡ fields → row_reading fields ≡ rows found → HasRow line found
+by_fields : (line : List ℕ) (found : List Slots) (fields : Option (List (List ℕ))) → line_fields line ≡ fields → row_reading fields ≡ rows found → HasRow line found
 by_fields line found None e h = absurd cc
 by_fields line found (Some fields) e h = row_found line fields found h (parted line fields (fields_behind-spelled 0 shapes line fields e))
 
@@ -209,7 +209,7 @@ pub read_formed : (line : List ℕ) (columns : Option Columns) (found : List Slo
 read_formed line columns found e =
     elim (cases_Bool (is_of_spaces line)) [
       | inl spaces ↦ let h : passed ≡ rows found = rw spaces at e in absurd cc
-      | inr other ↦ let h : row_reading (fields_in line) ≡ rows found = rw other at e in by_fields line found (fields_in line) refl h
+      | inr other ↦ let h : row_reading (line_fields line) ≡ rows found = rw other at e in by_fields line found (line_fields line) refl h
     ]
 
 -- ---- any other line
@@ -226,7 +226,7 @@ only_spaces : (many : ℕ) → is_of_spaces (replicate many 32) ≡ true
 only_spaces zero = refl
 only_spaces (suc many) = only_spaces many
 
-no_row_reading : (line : List ℕ) (fields : Option (List (List ℕ))) → fields_in line ≡ fields → ((parts : NcsaParts) → IsNcsaLine line parts → ⊥) → row_reading fields ≡ bad
+no_row_reading : (line : List ℕ) (fields : Option (List (List ℕ))) → line_fields line ≡ fields → ((parts : NcsaParts) → IsNcsaLine line parts → ⊥) → row_reading fields ≡ bad
 no_row_reading line None e none = refl
 no_row_reading line (Some fields) e none = let has : HasParts line fields = parted line fields (fields_behind-spelled 0 shapes line fields e) in absurd (none has.0 has.1.0)
 
@@ -241,7 +241,7 @@ passed_spaces line columns = (there line columns, back line columns)
     there line columns e =
         elim (cases_Bool (is_of_spaces line)) [
           | inl spaces ↦ spaces_are line spaces
-          | inr other ↦ let h : row_reading (fields_in line) ≡ passed = rw other at e in absurd (never_passed (fields_in line) h)
+          | inr other ↦ let h : row_reading (line_fields line) ≡ passed = rw other at e in absurd (never_passed (line_fields line) h)
         ]
 
     back : (line : List ℕ) (columns : Option Columns) → line ≡ replicate (length line) 32 → ncsa_reading line columns ≡ passed
@@ -251,5 +251,5 @@ pub others_bad : (line : List ℕ) (columns : Option Columns) → line ≢ repli
 others_bad line columns some none =
     elim (cases_Bool (is_of_spaces line)) [
       | inl spaces ↦ absurd (some (spaces_are line spaces))
-      | inr other ↦ rw other (no_row_reading line (fields_in line) refl none)
+      | inr other ↦ rw other (no_row_reading line (line_fields line) refl none)
     ]

@@ -8,7 +8,7 @@ use Rattle.line_input.specs.Parts.{field_of}
 use Rattle.line_input.specs.Taken.{part_of, slot_bytes, slots_of}
 use Rattle.ncsa_input.specs.declared.pieces.Piece.{Piece}
 use Rattle.ncsa_input.specs.declared.shape.Shape.{Shape}
-use Rattle.ncsa_input.specs.Lines.{shapes, may_end, behind_spaces, fields_behind, fields_in, row_reading}
+use Rattle.ncsa_input.specs.Lines.{shapes, may_end, behind_spaces, fields_behind, line_fields, row_reading}
 use Rattle.ncsa_input.specs.Pieces.{IsPiece}
 use Rattle.ncsa_input.specs.Shapes.{taken}
 
@@ -56,20 +56,20 @@ pub record ReadTo (line : List ℕ) (at parts : ℕ) (slots : Slots) : Type 0 wh
   pub done : List (List ℕ)
   pub many : length slots ≡ parts
   pub filled : slots ≡ map field_of done
-  pub rest : fields_in line ≡ option_map (λ fields. done ++ fields) (fields_behind parts (drop parts shapes) (drop at line))
+  pub rest : line_fields line ≡ option_map (λ fields. done ++ fields) (fields_behind parts (drop parts shapes) (drop at line))
 
 same_fields : (r : Option (List (List ℕ))) → r ≡ option_map (λ fields. [] ++ fields) r
 same_fields None = refl
 same_fields (Some fields) = refl
 
 pub read_none : (line : List ℕ) → ReadTo line 0 0 []
-read_none line = record { within = omega arith; done = []; many = refl; filled = refl; rest = same_fields (fields_in line) }
+read_none line = record { within = omega arith; done = []; many = refl; filled = refl; rest = same_fields (line_fields line) }
 
 next_shapes : (parts : ℕ) (shape d : Shape) → parts < 10 → shape ≡ get_or shapes parts d → drop parts shapes ≡ shape ∷ drop (parts + 1) shapes
 next_shapes parts shape d below e = drop_more shapes parts d below ∙ ap (λ s. s ∷ drop (parts + 1) shapes) (sym e)
 
 -- the line isn't of this form
-pub read_other : (line : List ℕ) (at parts : ℕ) (slots : Slots) (shape d : Shape) → ReadTo line at parts slots → parts < 10 → shape ≡ get_or shapes parts d → taken shape (drop at line) ≡ None → fields_in line ≡ None
+pub read_other : (line : List ℕ) (at parts : ℕ) (slots : Slots) (shape d : Shape) → ReadTo line at parts slots → parts < 10 → shape ≡ get_or shapes parts d → taken shape (drop at line) ≡ None → line_fields line ≡ None
 read_other line at parts slots shape d read below e none =
     read.rest ∙ ap (option_map (λ fields. read.done ++ fields)) (ap (λ s. fields_behind parts s (drop at line)) (next_shapes parts shape d below e) ∙ none_there parts shape (drop (parts + 1) shapes) (drop at line) none)
 
@@ -77,7 +77,7 @@ field_at : List ℕ → Piece → List ℕ
 field_at line piece = part_of line piece.bytes.from piece.bytes.to
 
 pub read_unparted : (line : List ℕ) (at parts : ℕ) (slots : Slots) (shape d : Shape) (piece : Piece) → ReadTo line at parts slots → parts < 10 → shape ≡ get_or shapes parts d → IsPiece shape line at piece
-    → piece.end ≢ length line → behind_spaces (drop piece.end line) ≡ None → fields_in line ≡ None
+    → piece.end ≢ length line → behind_spaces (drop piece.end line) ≡ None → line_fields line ≡ None
 read_unparted line at parts slots shape d piece read below e is more none =
     let some : length (drop piece.end line) ≢ 0 = λ z. more (omega (arith, length-drop piece.end line, is.within)) in
     read.rest ∙ ap (option_map (λ fields. read.done ++ fields)) (ap (λ s. fields_behind parts s (drop at line)) (next_shapes parts shape d below e)
@@ -110,7 +110,7 @@ told_end false n slots done field e = refl
 
 -- the line ends behind a part
 pub read_end : (line : List ℕ) (at parts : ℕ) (slots new : Slots) (shape d : Shape) (piece : Piece) → ReadTo line at parts slots → parts < 10 → shape ≡ get_or shapes parts d → IsPiece shape line at piece
-    → piece.end ≡ length line → new ≡ slots ++ field_of (part_of line piece.bytes.from piece.bytes.to) ∷ [] → cond (may_end (parts + 1)) (Some new) None ≡ option_map (map field_of) (fields_in line)
+    → piece.end ≡ length line → new ≡ slots ++ field_of (part_of line piece.bytes.from piece.bytes.to) ∷ [] → cond (may_end (parts + 1)) (Some new) None ≡ option_map (map field_of) (line_fields line)
 read_end line at parts slots new shape d piece read below e is end pushes =
     let field : List ℕ = part_of line piece.bytes.from piece.bytes.to in
     let none : length (drop piece.end line) ≡ 0 = omega (arith, length-drop piece.end line) in
@@ -119,7 +119,7 @@ read_end line at parts slots new shape d piece read below e is end pushes =
     ∙ ends_there parts shape (drop (parts + 1) shapes) (drop at line) field (drop piece.end line) is.takes none)))
 
 -- the line goes on behind the last part
-pub read_past : (line : List ℕ) (at parts : ℕ) (slots : Slots) → ReadTo line at parts slots → 10 ≤ parts → fields_in line ≡ None
+pub read_past : (line : List ℕ) (at parts : ℕ) (slots : Slots) → ReadTo line at parts slots → 10 ≤ parts → line_fields line ≡ None
 unfolding fields_behind
 read_past line at parts slots read past =
     read.rest ∙ ap (λ s. option_map (λ fields. read.done ++ fields) (fields_behind parts s (drop at line))) (drop_all parts shapes past)

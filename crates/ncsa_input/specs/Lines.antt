@@ -32,23 +32,23 @@ fields_behind parts (shape ∷ shapes) text = option_and_then (λ part.
     else option_and_then (λ rest. option_map (λ fields. part.0 ∷ fields) (fields_behind (parts + 1) shapes rest)) (behind_spaces part.1)) (taken shape text)
 
 -- the fields of a line
-abbrev pub fields_in : List ℕ → Option (List (List ℕ))
-fields_in text = fields_behind 0 shapes text
+abbrev pub line_fields : List ℕ → Option (List (List ℕ))
+line_fields text = fields_behind 0 shapes text
 
 -- ten slots; `-` is none, in quotes too
-abbrev pub slots_of : List (List ℕ) → Slots
-slots_of fields = map field_of fields ++ replicate (10 - length fields) None
+abbrev pub ten_slots : List (List ℕ) → Slots
+ten_slots fields = map field_of fields ++ replicate (10 - length fields) None
 
 abbrev pub row_reading : Option (List (List ℕ)) → Reading
 row_reading None = bad
-row_reading (Some fields) = rows (slots_of fields ∷ [])
+row_reading (Some fields) = rows (ten_slots fields ∷ [])
 
 abbrev pub is_of_spaces : List ℕ → Bool
 is_of_spaces text = list_all is_space text
 
 -- what a line is
 abbrev pub ncsa_reading : List ℕ → Option Columns → Reading
-ncsa_reading text columns = if is_of_spaces text then passed else row_reading (fields_in text)
+ncsa_reading text columns = if is_of_spaces text then passed else row_reading (line_fields text)
 
 -- no line sets columns
 unfoldable pub ncsa_lines : Format

@@ -6,21 +6,21 @@ use Rattle.slot_reading.specs.declared.reading.Reading.{Reading}
 use Rattle.slot_reading.specs.declared.reading.Reading.TheVariants.{Integer, Text, Clf}
 
 -- a field, and how it is read
-pub record Field : Type 0 where
+pub record NcsaField : Type 0 where
   pub name : List ℕ
   pub reading : Reading
 
-abbrev pub text_field : List ℕ → Field
+abbrev pub text_field : List ℕ → NcsaField
 text_field name = record { name = name; reading = Text }
 
-abbrev pub number_field : List ℕ → Field
+abbrev pub number_field : List ℕ → NcsaField
 number_field name = record { name = name; reading = Integer }
 
-abbrev pub time_field : List ℕ → Field
+abbrev pub time_field : List ℕ → NcsaField
 time_field name = record { name = name; reading = Clf }
 
 -- all fields of a row: the log and the line's number stand first
-abbrev pub ncsa_fields : List Field
+abbrev pub ncsa_fields : List NcsaField
 ncsa_fields =
     text_field (codes "LogFilename")
     ∷ number_field (codes "LogRow")
@@ -37,5 +37,5 @@ ncsa_fields =
     ∷ []
 
 -- how the field of a name is read, whatever the name's case
-unfoldable pub reading_of : List ℕ → Option Reading
-reading_of name = option_map (λ (field : Field). field.reading) (find (λ (field : Field). is_same_name name field.name) ncsa_fields)
+unfoldable pub field_reading : List ℕ → Option Reading
+field_reading name = option_map (λ (field : NcsaField). field.reading) (find (λ (field : NcsaField). is_same_name name field.name) ncsa_fields)

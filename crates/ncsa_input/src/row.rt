@@ -1,8 +1,8 @@
 // Rows.
 ghost use Rattle.std.specs.Prelude.{◌≡◌, ◌++◌, ◌-◌, ℕ, List, Some, None, OnOk, IfOk, map, length, replicate, option_map, if◌then◌else◌};
 ghost use Rattle.line_input.specs.Parts.{field_of};
-ghost use Rattle.line_input.specs.Taken.{slots_of as bytes_of, reading_in};
-ghost use Rattle.ncsa_input.specs.Lines.{may_end, fields_in, slots_of, row_reading};
+ghost use Rattle.line_input.specs.Taken.{slots_of, reading_in};
+ghost use Rattle.ncsa_input.specs.Lines.{may_end, line_fields, row_reading};
 
 use crate::pieces::{behind_spaces, piece_at};
 use crate::shape::Shape;
@@ -31,7 +31,7 @@ fn may_end(parts: usize) -> bool
 
 // Puts the fields of a line into `row`, and tells whether it has the form of a row.
 fn read_fields(alloc: Global, line: &[u8], row: &mut Fields) -> Result<bool, AllocError>
-    ensures { IfOk result (λ is_row. (if is_row then Some (bytes_of line.now row.new) else None) ≡ option_map (map field_of) (fields_in line.now)) }
+    ensures { IfOk result (λ is_row. (if is_row then Some (slots_of line.now row.new) else None) ≡ option_map (map field_of) (line_fields line.now)) }
 {
     row.clear();
     let mut at = 0;
@@ -53,7 +53,7 @@ fn read_fields(alloc: Global, line: &[u8], row: &mut Fields) -> Result<bool, All
 
 // Puts none in place of the fields that are missing.
 fn pad(row: &mut Fields) -> Result<(), AllocError>
-    ensures { OnOk result ((line : List ℕ) → bytes_of line row.new ≡ bytes_of line row.old ++ replicate (10 - length row.old) None) }
+    ensures { OnOk result ((line : List ℕ) → slots_of line row.new ≡ slots_of line row.old ++ replicate (10 - length row.old) None) }
 {
     while row.len() < 10 {
         row.push(Slot::Absent)?;
@@ -63,7 +63,7 @@ fn pad(row: &mut Fields) -> Result<(), AllocError>
 
 /// What a line is that isn't of spaces alone.
 pub(crate) fn take_row(alloc: Global, line: &[u8], row: &mut Fields) -> Result<Taken, AllocError>
-    ensures { IfOk result (λ taken. reading_in line.now row.new taken ≡ row_reading (fields_in line.now)) }
+    ensures { IfOk result (λ taken. reading_in line.now row.new taken ≡ row_reading (line_fields line.now)) }
 {
     if read_fields(alloc, line, row)? {
         pad(row)?;

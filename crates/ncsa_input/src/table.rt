@@ -1,12 +1,12 @@
 // The fields of NCSA logs.
 ghost use Rattle.std.specs.Prelude.{◌≡◌, map};
-ghost use Rattle.ncsa_input.specs.Table.{Field, ncsa_fields, reading_of};
+ghost use Rattle.ncsa_input.specs.Table.{NcsaField, ncsa_fields, field_reading};
 
 use slot_reading::{Reading, is_same_name};
 
 /// The names of all fields of a row, in order.
 pub fn ncsa_names() -> [&'static str; 12]
-    ensures { map (λ s. s.now) result ≡ map (λ (field : Field). field.name) ncsa_fields }
+    ensures { map (λ s. s.now) result ≡ map (λ (field : NcsaField). field.name) ncsa_fields }
 {
     [
         "LogFilename",
@@ -25,9 +25,9 @@ pub fn ncsa_names() -> [&'static str; 12]
 }
 
 /// How a field is read, by its name, whatever the name's case; `None` for a name that isn't in the table.
-#[tactic(auto, unfolding(crate::specs::Table::reading_of))]
+#[tactic(auto, unfolding(crate::specs::Table::field_reading))]
 pub fn ncsa_reading(name: &str) -> Option<Reading>
-    ensures { result ≡ reading_of name.now }
+    ensures { result ≡ field_reading name.now }
 {
     if is_same_name(name, "LogFilename") {
         Some(Reading::Text)
