@@ -1,5 +1,5 @@
 -- What the calls of outputs in files come to.
-use Rattle.std.proofs.Common.{◌≡◌, inl, ◌<◌, ℕ, ℤ, true, List, [], ◌∷◌, ◌++◌, length, take, drop, set, get_or, slice_get, Some, Result, Ok, Err, IfErr, IsErrAnd, refl, sym, ◌∙◌, ap, ap₂, subst}
+use Rattle.std.proofs.Common.{◌≡◌, ◌⊎◌, inl, inr, ◌<◌, ℕ, ℤ, true, List, [], ◌∷◌, ◌++◌, length, take, drop, set, get_or, slice_get, Some, Result, Ok, Err, IfErr, IsErrAnd, refl, sym, ◌∙◌, ap, ap₂, subst}
 use Rattle.std.proofs.lemmas.List.{append-nil}
 use Rattle.any_format.specs.declared.wanted.Wanted.{Wanted}
 use Rattle.command_words.specs.declared.modes.FileMode.{FileMode}
@@ -18,10 +18,11 @@ use Rattle.row_output.specs.declared.fault.OutputFault.TheVariants as F
 use Rattle.row_output.specs.declared.fault.Refused.{Refused}
 use Rattle.row_output.specs.Asked.{Files, AreGood, IsRefusedAs, IsRefusedBy}
 use Rattle.row_output.specs.Files.{FilesHold, FilesStop}
-use Rattle.row_output.specs.FileTexts.{Making, AreUnderWay, AreEnding, StopsAmong, StopsFree, SparesFile, TakesRow}
+use Rattle.row_output.specs.FileTexts.{HoldLittle, held_back, Making, AreUnderWay, AreEnding, StopsAmong, StopsFree, SparesFile, TakesRow}
 use Rattle.row_output.specs.FileRows.{AreNamesOf, HasOutputs, HasFileRows, files_of, making_of, output_text, OnRefused}
-use Rattle.row_output.proofs.Naming.{names_plain, names_of_differ, plain_after, starred_are, none_or_some, stops_for, stops_free, refused_plain, refused_row}
-use Rattle.row_output.proofs.States.{outputs_same, rows_more, row_among, plain_among, outputs_stop, files_hold}
+use Rattle.row_output.proofs.Naming.{names_after, names_plain, names_of_differ, plain_after, starred_are, none_or_some, stops_for, stops_free, refused_plain, refused_row}
+use Rattle.row_output.proofs.Little.{little_put, none_more, one_output}
+use Rattle.row_output.proofs.States.{files_length, outputs_same, rows_more, row_among, plain_among, outputs_stop, files_hold}
 
 -- P of a refusal, and so Q
 pub refused_so : (P Q : Refused → Type 0) (fault : OutputFault) → ((why : Refused) → P why → Q why) → OnRefused P fault → OnRefused Q fault
@@ -68,14 +69,36 @@ put_refusals {S} kind f row values a fault are is =
     refused_so (λ why. IsNewName f.outputs (filled f.outputs.pattern values) × IsRefusedAs f.outputs.forbidden f.outputs.names (filled f.outputs.pattern values) why)
     (λ why. (start : S) (rows more : List Row) → HasFileRows kind f start rows a → IsRefusedBy (files_of f) (rows ++ (row ∷ more)) why) fault (λ why own start rows more has. put_refused kind f start rows row values more a why are has own) is
 
+-- where each output held little, or no row was put, each holds little behind the next
+pub put_little : {S : Type 0} (kind : StageKind S) (f g : FileOutputs) (start : S) (rows : List Row) (row values : Row) (a b : S) (i : ℕ) (file : FileOutput) (more now : List FileOutput) → values ≡ take f.stars row
+    → g.outputs.names ≡ with_name f.outputs.names (filled f.outputs.pattern values) → slice_get g.outputs.names i ≡ Some (filled f.outputs.pattern values) → i < length g.files.items → HasOutputs kind g start rows b
+    → g.files.items ≡ f.files.items ++ more → now ≡ set g.files.items i file → held_back file < 4096 → HasFileRows kind f start rows a → HoldLittle now
+put_little kind f g start rows row values a b i file more now are names at less placed front files small has =
+    let own = f.outputs.names in
+    let pattern = f.outputs.pattern in
+    let name = filled pattern values in
+    let all : length g.outputs.names ≡ length g.files.items = files_length kind (making_of g) start b (rows_named g.outputs.pattern rows) 0 g.outputs.names g.files.items placed.under_way.each in
+    let old : length own ≡ length f.files.items = files_length kind (making_of f) start a (rows_named pattern rows) 0 own f.files.items has.outputs.under_way.each in
+    let long : length (f.files.items ++ more) ≡ length (with_name own name) = ap length (sym front) ∙ (sym all ∙ ap length names) in
+    let one : rows ≡ [] → length (with_name own name) ≡ 1 = λ none.
+    ap (λ (n : List ℕ). length (with_name own n)) (named_by f row values has.outputs.stars_are are)
+    ∙ (ap length (names_after f.outputs rows row has.names) ∙ (ap (λ (l : List Row). length (output_names pattern (l ++ row ∷ []))) none ∙ one_output pattern row)) in
+    let known : (length (with_name own name) ≡ 1) ⊎ HoldLittle f.files.items = first_or one has.little in
+    subst HoldLittle (sym (files ∙ ap (λ (l : List FileOutput). set l i file) front))
+    (little_put own name f.files.items more i file (ap (λ (l : List (List ℕ)). slice_get l i) (sym names) ∙ at) long (sym old) (subst (λ (l : List FileOutput). i < length l) front less) small known)
+  where
+    first_or : {A B C : Type 0} → (A → C) → A ⊎ B → C ⊎ B
+    first_or so (inl is) = inl (so is)
+    first_or so (inr is) = inr is
+
 -- a row is placed and handed on
 pub put_has : {S : Type 0} (kind : StageKind S) (f g h : FileOutputs) (start : S) (rows : List Row) (row values : Row) (a b c : S) (i : ℕ) (file : FileOutput) → values ≡ take f.stars row → files_of g ≡ files_of f
     → g.outputs.names ≡ with_name f.outputs.names (filled f.outputs.pattern values) → slice_get g.outputs.names i ≡ Some (filled f.outputs.pattern values) → i < length g.files.items → HasOutputs kind g start rows b
     → h.outputs ≡ g.outputs → h.stars ≡ g.stars → making_of h ≡ making_of g → h.texts ≡ g.texts → h.files.items ≡ set g.files.items i file → ((d : FileOutput) → TakesRow kind (drop g.stars row) (get_or g.files.items i d) file b c)
-    → HasFileRows kind f start rows a → HasFileRows kind h start (rows ++ row ∷ []) c
-put_has kind f g h start rows row values a b c i file are same names at less placed outputs counts making texts files takes has =
+    → HoldLittle h.files.items → HasFileRows kind f start rows a → HasFileRows kind h start (rows ++ row ∷ []) c
+put_has kind f g h start rows row values a b c i file are same names at less placed outputs counts making texts files takes little has =
     let named = named_by f row values has.outputs.stars_are are in
-    rows_more kind f g h start rows row b c i file has.names (ap (λ (x : Files). x.pattern) same) (names ∙ ap (with_name f.outputs.names) named) (at ∙ ap Some named) less outputs counts making texts files takes placed
+    rows_more kind f g h start rows row b c i file has.names (ap (λ (x : Files). x.pattern) same) (names ∙ ap (with_name f.outputs.names) named) (at ∙ ap Some named) less outputs counts making texts files takes little placed
 
 -- a row is placed, and isn't handed on
 pub hand_stops : {S : Type 0} (kind : StageKind S) (f g : FileOutputs) (start : S) (rows : List Row) (row values : Row) (more : List Row) (a b c : S) (i : ℕ) (d : FileOutput) → values ≡ take f.stars row → files_of g ≡ files_of f
@@ -113,9 +136,22 @@ open_all_named kind f g start rows a none same names has =
     let plain : stars f.outputs.pattern ≡ 0 = sym has.outputs.stars_are ∙ none in
     names ∙ (ap (with_name f.outputs.names) (no_values f.outputs.pattern) ∙ (plain_after f.outputs rows plain has.names ∙ (sym (names_plain f.outputs.pattern rows plain) ∙ ap (λ (x : Files). output_names x.pattern rows) (sym same))))
 
-pub open_has : {S : Type 0} (kind : StageKind S) (f g : FileOutputs) (start : S) (rows : List Row) (a b : S) → f.stars ≡ 0 → files_of g ≡ files_of f → g.outputs.names ≡ with_name f.outputs.names (filled f.outputs.pattern []) → HasOutputs kind g start rows b → HasFileRows kind f start rows a
+pub open_has : {S : Type 0} (kind : StageKind S) (f g : FileOutputs) (start : S) (rows : List Row) (a b : S) → f.stars ≡ 0 → files_of g ≡ files_of f → g.outputs.names ≡ with_name f.outputs.names (filled f.outputs.pattern []) → HasOutputs kind g start rows b → (more : List FileOutput) → g.files.items ≡ f.files.items ++ more → HasFileRows kind f start rows a
     → HasFileRows kind g start rows b
-open_has kind f g start rows a b none same names placed has = outputs_same kind g start rows b placed (inl (open_all_named kind f g start rows a none same names has))
+open_has kind f g start rows a b none same names placed more front has = outputs_same kind g start rows b placed (inl all) (little has.names has.little)
+  where
+    all : g.outputs.names ≡ output_names g.outputs.pattern rows
+    all = open_all_named kind f g start rows a none same names has
+
+    -- where a row was put the output is opened
+    little : AreNamesOf f.outputs rows → (rows ≡ []) ⊎ HoldLittle f.files.items → (rows ≡ []) ⊎ HoldLittle g.files.items
+    little are (inl none) = inl none
+    little (inr (names, none)) (inr held) = inl none
+    little (inl are) (inr held) =
+        let now = files_length kind (making_of g) start b (rows_named g.outputs.pattern rows) 0 g.outputs.names g.files.items placed.under_way.each in
+        let old = files_length kind (making_of f) start a (rows_named f.outputs.pattern rows) 0 f.outputs.names f.files.items has.outputs.under_way.each in
+        let names : g.outputs.names ≡ f.outputs.names = all ∙ (ap (λ (x : Files). output_names x.pattern rows) same ∙ sym are) in
+        inr (subst HoldLittle (sym (none_more f.files.items more g.files.items front (sym now ∙ (ap length names ∙ old)))) held)
 
 -- with stars there is nothing to open
 pub open_none_named : {S : Type 0} (kind : StageKind S) (f : FileOutputs) (start : S) (rows : List Row) (a : S) → 0 < f.stars → HasFileRows kind f start rows a → f.outputs.names ≡ output_names f.outputs.pattern rows

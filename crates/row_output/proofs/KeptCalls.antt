@@ -17,7 +17,7 @@ use Rattle.row_output.specs.Asked.{Asked, left_of}
 use Rattle.row_output.specs.FileRows.{OnRefused}
 use Rattle.row_output.specs.Kept.{DropsAll, HasKept, HasPut, HasRows, LetsAllGo, asked_of}
 use Rattle.row_output.specs.Rows.{Holds, HoldsAt, IsRefused, IsRefusedAt, Stops, StopsAt}
-use Rattle.row_output.specs.Sinks.{HasSinkRows, IsOpened, Purpose, files_in, purpose_of, sink_text}
+use Rattle.row_output.specs.Sinks.{HasSinkRows, HoldsLittle, IsOpened, Purpose, files_in, purpose_of, sink_text}
 use Rattle.row_output.specs.Few.{GoOn, places_in}
 use Rattle.row_output.proofs.Plain.{all_left}
 use Rattle.row_output.proofs.Stopping.{kept_stops}
@@ -55,6 +55,11 @@ module _ {S : Type 0} (kind : StageKind S) (kept : Kept) (is : kept ≡ K.All) (
       let had = own start rows has in
       subst (λ (y : Kept). HasKept kind y order t start (after rows) b) (sym (same ∙ is)) (had.0, so start rows had.1)
   plain_has (Err fault) k t after same so = tt
+
+  pub plain_little : {A : Type 0} (r : Result A OutputFault) (t : Sink) → OnOk r ((start : S) (rows : List Row) → HasSinkRows kind s start rows a → HoldsLittle t)
+      → OnOk r (GoOn kept → (start : S) (rows : List Row) → HasKept kind kept order s start rows a → HoldsLittle t)
+  plain_little (Ok x) t so = λ go start rows has. so start rows (own start rows has).1
+  plain_little (Err fault) t so = tt
 
   pub plain_stops : {A : Type 0} (r : Result A OutputFault) (whole : List Row → List Row → List Row) → OnErr r ((start : S) (rows more : List Row) → HasSinkRows kind s start rows a → StopsAt (files_in s) kind (sink_text s) start (whole rows more) b)
       → OnErr r ((start : S) (rows more : List Row) → HasKept kind kept order s start rows a → StopsAt (files_in s) kind (sink_text s) start (finished order (whole rows more)) b)
@@ -104,10 +109,6 @@ places_taken kept old new is less = subst (λ (k : Kept). new.places ≤ places_
 pub ordered_apart : (Q : Type 0) (kept : Kept) (ordering : Ordering) → kept ≡ K.Ordered ordering → GoOn kept → Q
 ordered_apart Q kept ordering is go = absurd (cc)
 
-pub on_ok_given : {T E : Type 0} (P Q : Type 0) (r : Result T E) → OnOk r P → OnOk r (Q → P)
-on_ok_given P Q (Ok value) p = λ q. p
-on_ok_given P Q (Err fault) p = tt
-
 -- a call that lets a sink have its rows
 module _ {S : Type 0} (kind : StageKind S) (o : RowOutput) (a b : S) where
   pub open_has : {A : Type 0} (r : Result A OutputFault) (p : RowOutput) → p.kept ≡ o.kept → p.order ≡ o.order → p.put ≡ o.put → OnOk r ((start : S) (rows : List Row) → HasSinkRows kind o.sink start rows a → HasSinkRows kind p.sink start rows b)
@@ -118,6 +119,10 @@ module _ {S : Type 0} (kind : StageKind S) (o : RowOutput) (a b : S) where
     count = put ∙ has.count;
   }
   open_has (Err fault) p kept order put so = tt
+
+  pub rows_little : (t : Sink) (start : S) (rows : List Row) → (HasKept kind o.kept o.order o.sink start rows a → HoldsLittle t) → HasRows kind o start rows a → HoldsLittle t
+  unfolding HasRows
+  rows_little t start rows so has = so has.has
 
   pub open_opened : {A : Type 0} (r : Result A OutputFault) (t : Sink) → OnOk r ((start : S) (rows : List Row) → HasSinkRows kind o.sink start rows a → IsOpened t) → OnOk r ((start : S) (rows : List Row) → HasRows kind o start rows a → IsOpened t)
   unfolding HasRows

@@ -4,6 +4,7 @@ pub mod Following
 pub mod UnderWay
 pub mod Ending
 pub mod Naming
+pub mod Little
 pub mod Texts
 pub mod States
 pub mod Calls

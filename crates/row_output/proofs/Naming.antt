@@ -37,7 +37,7 @@ or_first a b e = ap (λ (c : Bool). c || b) e
 pub names_plain : (pattern : List ℕ) (rows : List Row) → stars pattern ≡ 0 → output_names pattern rows ≡ pattern ∷ []
 names_plain pattern rows none = ap (λ (b : Bool). if b then pattern ∷ [] else firsts (map (row_name pattern) rows)) ((Decides-eqb (stars pattern) 0).1 none)
 
-names_starred : (pattern : List ℕ) (rows : List Row) → 0 < stars pattern → output_names pattern rows ≡ firsts (map (row_name pattern) rows)
+pub names_starred : (pattern : List ℕ) (rows : List Row) → 0 < stars pattern → output_names pattern rows ≡ firsts (map (row_name pattern) rows)
 names_starred pattern rows some = ap (λ (b : Bool). if b then pattern ∷ [] else firsts (map (row_name pattern) rows)) (not_zero (stars pattern) some)
 
 -- with stars or without
@@ -49,10 +49,10 @@ none_or_some zero = inl refl
 none_or_some (suc n) = inr (omega arith)
 
 -- a name that is among them isn't put there again
-with_known : (names : List (List ℕ)) (name : List ℕ) → is_among names name ≡ true → with_name names name ≡ names
+pub with_known : (names : List (List ℕ)) (name : List ℕ) → is_among names name ≡ true → with_name names name ≡ names
 with_known names name there = ap (λ (b : Bool). if b then names else names ++ name ∷ []) there
 
-with_new : (names : List (List ℕ)) (name : List ℕ) → is_among names name ≡ false → with_name names name ≡ names ++ name ∷ []
+pub with_new : (names : List (List ℕ)) (name : List ℕ) → is_among names name ≡ false → with_name names name ≡ names ++ name ∷ []
 with_new names name new = ap (λ (b : Bool). if b then names else names ++ name ∷ []) new
 
 is_itself : (name : List ℕ) → is_among (name ∷ []) name ≡ true

@@ -28,9 +28,10 @@ use Rattle.row_output.specs.declared.sink.Sink.TheVariants as To
 use Rattle.row_output.specs.Asked.{Files, RowsText, IsRefusedBy, columns_for}
 use Rattle.row_output.specs.Faults.{put_fault}
 use Rattle.row_output.specs.Files.{FilesHold, FilesStop}
+use Rattle.row_output.specs.FileTexts.{HoldLittle}
 use Rattle.row_output.specs.FileRows.{HasFileRows, OnRefused, files_of, output_text}
 use Rattle.row_output.specs.Rows.{HoldsAt, IsRefusedAt, StandardHolds, StopsAt, standard_at}
-use Rattle.row_output.specs.Sinks.{HasSinkRows, HasStandardRows, IsOpened, Purpose, files_for, files_in, purpose_of, sink_text}
+use Rattle.row_output.specs.Sinks.{HoldsLittle, HasSinkRows, HasStandardRows, IsOpened, Purpose, files_for, files_in, purpose_of, sink_text}
 use Rattle.row_output.proofs.Calls.{refused_so}
 use Rattle.row_output.proofs.Naming.{names_plain}
 use Rattle.row_output.proofs.States.{refused_put}
@@ -88,6 +89,11 @@ module _ {S : Type 0} (kind : StageKind S) (s : Sink) (f : FileOutputs) (is : s 
       → OnOk r ((start : S) (rows : List Row) → HasSinkRows kind s start rows a → HasSinkRows kind (To.Files g) start (after rows) b)
   files_have (Ok x) g after so = λ start rows has. so start rows (own start rows has)
   files_have (Err fault) g after so = tt
+
+  pub files_little : {A : Type 0} (r : Result A OutputFault) (g : FileOutputs) → OnOk r ((start : S) (rows : List Row) → HasFileRows kind f start rows a → HoldLittle g.files.items)
+      → OnOk r ((start : S) (rows : List Row) → HasSinkRows kind s start rows a → HoldsLittle (To.Files g))
+  files_little (Ok x) g so = λ start rows has. so start rows (own start rows has)
+  files_little (Err fault) g so = tt
 
   pub files_opened : {A : Type 0} (r : Result A OutputFault) (g : FileOutputs) → OnOk r ((start : S) (rows : List Row) → HasFileRows kind f start rows a → g.outputs.names ≡ output_names g.outputs.pattern rows)
       → OnOk r ((start : S) (rows : List Row) → HasSinkRows kind s start rows a → IsOpened (To.Files g))

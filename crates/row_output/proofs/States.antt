@@ -22,14 +22,14 @@ use Rattle.row_output.specs.declared.fault.Refused.{Refused}
 use Rattle.row_output.specs.Faults.{place_fault, put_fault}
 use Rattle.row_output.specs.Asked.{Files, AreGood, IsRefusedAs}
 use Rattle.row_output.specs.Files.{ArePut, FilesHold, FilesStop, Opened, opened_of, SparesBut}
-use Rattle.row_output.specs.FileTexts.{Making, AreFiles, AreUnderWay, AreEnding, StopsAmong, StopsFree, KeepsStage, TakesRow, SparesFile, IsFile, after_file, opened_in, rows_by, text_by}
+use Rattle.row_output.specs.FileTexts.{HoldLittle, Making, AreFiles, AreUnderWay, AreEnding, StopsAmong, StopsFree, KeepsStage, TakesRow, SparesFile, IsFile, after_file, opened_in, rows_by, text_by}
 use Rattle.row_output.specs.FileRows.{AreNamesOf, HasOutputs, HasFirst, HasFileRows, IsNewFiles, files_of, making_of, output_text, OnRefused}
 use Rattle.row_output.proofs.Naming.{plain_after, starred_are, names_after, names_of_differ, differ_with, no_rows_of, rows_own, rows_other, names_more, names_of_among, stops_for, good_with, among_with, names_plain, take_front, among_take, next_at, off_before}
 use Rattle.row_output.proofs.Sparing.{off_front}
 use Rattle.row_output.proofs.UnderWay.{way_opens, way_takes, way_stops, way_stops_asking, stops_more, stops_with, spares_at}
 
 -- as many names as outputs
-files_length : {S : Type 0} (kind : StageKind S) (making : Making) (start now : S) (rows_of : List ℕ → List Row) (index : ℕ) (names : List (List ℕ)) (files : List FileOutput) → AreFiles kind making start now rows_of index names files → length names ≡ length files
+pub files_length : {S : Type 0} (kind : StageKind S) (making : Making) (start now : S) (rows_of : List ℕ → List Row) (index : ℕ) (names : List (List ℕ)) (files : List FileOutput) → AreFiles kind making start now rows_of index names files → length names ≡ length files
 files_length kind making start now rows_of index [] [] are = refl
 files_length kind making start now rows_of index [] (file ∷ files) are = absurd are
 files_length kind making start now rows_of index (name ∷ names) [] are = absurd are
@@ -64,6 +64,7 @@ new_files_has kind f start new =
             (subst (λ (files : List FileOutput). AreUnderWay kind making rows_of [] start files f.texts start) (sym new.files)
             (subst (λ (texts : ℕ). AreUnderWay kind making rows_of [] start [] texts start) (sym new.texts) (way_none kind making rows_of start)));
       };
+      little = inl refl;
     }
 
 -- outputs whose rows have come so far may stop, whatever rows follow
@@ -104,8 +105,8 @@ outputs_of kind f start rows now stars_are good all first = record {
 }
 
 -- those of a state that differs in nothing that is said
-pub outputs_same : {S : Type 0} (kind : StageKind S) (f : FileOutputs) (start : S) (rows : List Row) (now : S) → HasOutputs kind f start rows now → AreNamesOf f.outputs rows → HasFileRows kind f start rows now
-outputs_same kind f start rows now has names = record { names = names; outputs = has }
+pub outputs_same : {S : Type 0} (kind : StageKind S) (f : FileOutputs) (start : S) (rows : List Row) (now : S) → HasOutputs kind f start rows now → AreNamesOf f.outputs rows → (rows ≡ []) ⊎ HoldLittle f.files.items → HasFileRows kind f start rows now
+outputs_same kind f start rows now has names little = record { names = names; outputs = has; little = little }
 
 -- where calls failed while one was opened, some of the names have outputs
 pub first_stops : {S : Type 0} (kind : StageKind S) (f : FileOutputs) (start : S) (rows : List Row) (a b : S) → KeepsStage kind a b → HasFirst kind f start rows a → StopsAmong kind f.mode f.outputs.names start b
@@ -149,8 +150,8 @@ first_opens kind f g start rows a b name file outputs making at files texts is k
 -- an output took a row
 pub rows_more : {S : Type 0} (kind : StageKind S) (f g h : FileOutputs) (start : S) (rows : List Row) (row : Row) (a b : S) (i : ℕ) (file : FileOutput) → AreNamesOf f.outputs rows → g.outputs.pattern ≡ f.outputs.pattern → g.outputs.names ≡ with_name f.outputs.names (row_name f.outputs.pattern row)
     → slice_get g.outputs.names i ≡ Some (row_name f.outputs.pattern row) → i < length g.files.items → h.outputs ≡ g.outputs → h.stars ≡ g.stars → making_of h ≡ making_of g → h.texts ≡ g.texts → h.files.items ≡ set g.files.items i file
-    → ((d : FileOutput) → TakesRow kind (drop g.stars row) (get_or g.files.items i d) file a b) → HasOutputs kind g start rows a → HasFileRows kind h start (rows ++ row ∷ []) b
-rows_more kind f g h start rows row a b i file old pattern names at less outputs counts making texts files takes has =
+    → ((d : FileOutput) → TakesRow kind (drop g.stars row) (get_or g.files.items i d) file a b) → HoldLittle h.files.items → HasOutputs kind g start rows a → HasFileRows kind h start (rows ++ row ∷ []) b
+rows_more kind f g h start rows row a b i file old pattern names at less outputs counts making texts files takes little has =
     let p = g.outputs.pattern in
     let own : row_name f.outputs.pattern row ≡ row_name p row = ap (λ (q : List ℕ). row_name q row) (sym pattern) in
     let all : g.outputs.names ≡ output_names p (rows ++ row ∷ []) = names ∙ (names_after f.outputs rows row old ∙ ap (λ (q : List ℕ). output_names q (rows ++ row ∷ [])) (sym pattern)) in
@@ -170,6 +171,7 @@ rows_more kind f g h start rows row a b i file old pattern names at less outputs
             (subst (λ (l : List FileOutput). AreUnderWay kind (making_of g) now_rows g.outputs.names start l h.texts b) (sym files)
             (subst (λ (t : ℕ). AreUnderWay kind (making_of g) now_rows g.outputs.names start (set g.files.items i file) t b) (sym texts) way)));
       };
+      little = inr little;
     }
 
 -- the names after a row are among those of all rows

@@ -9,7 +9,7 @@ use Rattle.multiplex.specs.Splitting.{output_names, rows_named}
 use Rattle.order_top.specs.Finish.{Row}
 use Rattle.text_output.specs.Output.{StageKind}
 use Rattle.row_output.specs.Asked.{Files, OutputText, AreGood}
-use Rattle.row_output.specs.FileTexts.{Making, AreUnderWay, opened_in}
+use Rattle.row_output.specs.FileTexts.{HoldLittle, Making, AreUnderWay, opened_in}
 use Rattle.row_output.specs.declared.fault.OutputFault.{OutputFault}
 use Rattle.row_output.specs.declared.fault.OutputFault.TheVariants as F
 use Rattle.row_output.specs.declared.fault.Refused.{Refused}
@@ -40,10 +40,11 @@ pub record HasFirst {S : Type 0} (kind : StageKind S) (f : FileOutputs) (start :
   pub known : (name : List ℕ) → is_among (take (length f.files.items) f.outputs.names) name ≡ false → rows_named f.outputs.pattern rows name ≡ []
   pub under_way : AreUnderWay kind (making_of f) (rows_named f.outputs.pattern rows) (take (length f.files.items) f.outputs.names) start f.files.items f.texts now
 
--- Since the start these rows were put, each to the output of its name.
+-- Since the start these rows were put, each to the output of its name. Once there is a row no output holds back a whole piece.
 pub record HasFileRows {S : Type 0} (kind : StageKind S) (f : FileOutputs) (start : S) (rows : List Row) (now : S) : Type 0 where
   pub names : AreNamesOf f.outputs rows
   pub outputs : HasOutputs kind f start rows now
+  pub little : (rows ≡ []) ⊎ HoldLittle f.files.items
 
 -- No output is opened.
 pub record IsNewFiles (f : FileOutputs) : Type 0 where

@@ -57,9 +57,9 @@ abbrev pub held_back : FileOutput → ℕ
 held_back O.LeftAlone = 0
 held_back (O.Text text) = length text.held
 
--- the output of an index holds back less than a whole piece
-abbrev pub HoldsLittleAt : List FileOutput → ℕ → Type 0
-HoldsLittleAt files index = (d : FileOutput) → held_back (slice_index_or files index d) < 4096
+-- each output holds back less than a whole piece
+abbrev pub HoldLittle : List FileOutput → Type 0
+HoldLittle files = All (λ file. held_back file < 4096) files
 
 -- the outputs of these names, in order and numbered from an index
 abbrev pub AreFiles : {S : Type 0} → StageKind S → Making → S → S → (List ℕ → List Row) → ℕ → List (List ℕ) → List FileOutput → Type 0

@@ -9,7 +9,7 @@ use Rattle.lp_outside.specs.Stages.{no_mark}
 use Rattle.text_output.specs.Output.{StageKind, IsUnderWay, reached}
 use Rattle.text_output.specs.declared.target.Target.{Target}
 use Rattle.row_output.specs.Asked.{Files, OutputText, RowsText}
-use Rattle.row_output.specs.FileTexts.{HoldsLittleAt}
+use Rattle.row_output.specs.FileTexts.{HoldLittle}
 use Rattle.row_output.specs.FileRows.{HasFileRows, IsNewFiles, files_of}
 use Rattle.row_output.specs.Rows.{standard_at}
 use Rattle.row_output.specs.declared.into.Into.{Into}
@@ -68,10 +68,10 @@ abbrev pub HasSinkRows : {S : Type 0} → StageKind S → Sink → S → List Ro
 HasSinkRows kind (S.Standard s) start rows now = HasStandardRows kind s start rows now
 HasSinkRows kind (S.Files f) start rows now = HasFileRows kind f start rows now
 
--- standard output holds back less of its text than 64 KiB, or some output in a file less than a piece of a stage
+-- standard output holds back less of its text than 64 KiB, or each output in a file less than a piece of a stage
 abbrev pub HoldsLittle : Sink → Type 0
 HoldsLittle (S.Standard s) = length s.text.held < 65_536
-HoldsLittle (S.Files f) = (index : ℕ) × HoldsLittleAt f.files.items index
+HoldsLittle (S.Files f) = HoldLittle f.files.items
 
 -- standard output holds back less of its text than a piece of a stage
 abbrev pub HoldsNoPiece : Sink → Type 0

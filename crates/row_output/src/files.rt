@@ -48,7 +48,7 @@ impl FileOutputs {
     ghost use Rattle.row_output.specs.declared.file_output.FileOutput.{FileOutput as O};
     ghost use Rattle.row_output.specs.Asked.{IsRefusedAs, IsRefusedBy};
     ghost use Rattle.row_output.specs.Files.{FilesHold, FilesStop};
-    ghost use Rattle.row_output.specs.FileTexts.{HoldsLittleAt, IsFile, KeepsStage, StopsAmong, StopsFree, SparesFile, TakesRow, after_file};
+    ghost use Rattle.row_output.specs.FileTexts.{HoldLittle, IsFile, held_back, KeepsStage, StopsAmong, StopsFree, SparesFile, TakesRow, after_file};
     ghost use Rattle.row_output.specs.FileRows.{HasFileRows, HasOutputs, HasFirst, IsNewFiles, files_of, making_of, output_text, OnRefused};
 
     // Opens an output under the next index, unless its file is left alone.
@@ -96,6 +96,7 @@ impl FileOutputs {
     fn open_all<G: Stage>(&mut self, stage: &mut G) -> Result<(), PutFault>
         ensures same { (self.new.outputs ≡ self.old.outputs) × (self.new.stars ≡ self.old.stars) × (making_of self.new ≡ making_of self.old) }
         ensures all { OnOk result (length self.new.outputs.names ≤ length self.new.files.items) }
+        ensures front { OnOk result ((more : List O) × (self.new.files.items ≡ self.old.files.items ++ more)) }
         ensures has { OnOk result ((start : G) (rows : List Row) → HasFirst (kind_of G.state G.ended) self.old start rows stage.old → HasFirst (kind_of G.state G.ended) self.new start rows stage.new) }
         ensures stop { OnErr result ((start : G) (rows : List Row) → HasFirst (kind_of G.state G.ended) self.old start rows stage.old → StopsAmong (kind_of G.state G.ended) self.old.mode self.old.outputs.names start stage.new) }
         ensures goes { G.goes stage.old stage.new }
@@ -114,6 +115,7 @@ impl FileOutputs {
         ensures names { OnOk result (self.new.outputs.names ≡ with_name self.old.outputs.names (filled self.old.outputs.pattern values.now)) }
         ensures named { IfOk result (λ index. slice_get self.new.outputs.names index ≡ Some (filled self.old.outputs.pattern values.now)) }
         ensures there { IfOk result (λ index. index < length self.new.files.items) }
+        ensures front { OnOk result ((more : List O) × (self.new.files.items ≡ self.old.files.items ++ more)) }
         ensures has { OnOk result ((start : G) (rows : List Row) → HasFileRows (kind_of G.state G.ended) self.old start rows stage.old → HasOutputs (kind_of G.state G.ended) self.new start rows stage.new) }
         ensures stop { OnErr result ((start : G) (rows : List Row) → HasFileRows (kind_of G.state G.ended) self.old start rows stage.old
             → StopsFree (kind_of G.state G.ended) (files_of self.old) (with_name self.old.outputs.names (filled self.old.outputs.pattern values.now)) start stage.new) }
@@ -144,8 +146,8 @@ impl FileOutputs {
         requires there { index < length self.old.files.items }
         ensures same { (self.new.outputs ≡ self.old.outputs) × (self.new.stars ≡ self.old.stars) × (making_of self.new ≡ making_of self.old) × (self.new.texts ≡ self.old.texts) }
         ensures takes { OnOk result ((file : O) × (self.new.files.items ≡ slice_set self.old.files.items index file)
-            × ((d : O) → TakesRow (kind_of G.state G.ended) (drop self.old.stars row.old) (slice_index_or self.old.files.items index d) file stage.old stage.new)) }
-        ensures small { OnOk result (HoldsLittleAt self.new.files.items index) }
+            × ((d : O) → TakesRow (kind_of G.state G.ended) (drop self.old.stars row.old) (slice_index_or self.old.files.items index d) file stage.old stage.new)
+            × (held_back file < 4096)) }
         ensures spares { (d : O) → SparesFile (kind_of G.state G.ended) (slice_index_or self.old.files.items index d) stage.old stage.new }
         ensures goes { G.goes stage.old stage.new }
         ensures later { G.faults stage.old ≤ G.faults stage.new }
@@ -218,7 +220,7 @@ impl FileOutputs {
     ) -> Result<(), OutputFault>
         ensures same { (files_of self.new ≡ files_of self.old) × (self.new.wanted ≡ self.old.wanted) × (self.new.moment ≡ self.old.moment) × (self.new.columns ≡ self.old.columns) }
         ensures has { OnOk result ((start : G) (rows : List Row) → HasFileRows (kind_of G.state G.ended) self.old start rows stage.old → HasFileRows (kind_of G.state G.ended) self.new start (rows ++ row.old ∷ []) stage.new) }
-        ensures small { OnOk result ((index : ℕ) × HoldsLittleAt self.new.files.items index) }
+        ensures small { OnOk result ((start : G) (rows : List Row) → HasFileRows (kind_of G.state G.ended) self.old start rows stage.old → HoldLittle self.new.files.items) }
         ensures stop { OnErr result ((start : G) (rows more : List Row) → HasFileRows (kind_of G.state G.ended) self.old start rows stage.old → FilesStop (kind_of G.state G.ended) (files_of self.old) start (rows ++ (row.old ∷ more)) stage.new) }
         ensures refused { IfErr result (OnRefused (λ fault. (start : G) (rows more : List Row) → HasFileRows (kind_of G.state G.ended) self.old start rows stage.old → IsRefusedBy (files_of self.old) (rows ++ (row.old ∷ more)) fault)) }
         ensures goes { G.goes stage.old stage.new }

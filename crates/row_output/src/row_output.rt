@@ -83,7 +83,7 @@ fn put_all<G: Stage>(
 ) -> Result<(), OutputFault>
     ensures purpose { purpose_of sink.new ≡ purpose_of sink.old }
     ensures has { OnOk result ((start : G) → HasSinkRows (kind_of G.state G.ended) sink.old start [] stage.old → HasSinkRows (kind_of G.state G.ended) sink.new start rows.old stage.new) }
-    ensures little { OnOk result (0 < length rows.old → HoldsLittle sink.new) }
+    ensures little { OnOk result (0 < length rows.old → (start : G) → HasSinkRows (kind_of G.state G.ended) sink.old start [] stage.old → HoldsLittle sink.new) }
     ensures stop { OnErr result ((start : G) → HasSinkRows (kind_of G.state G.ended) sink.old start [] stage.old → StopsAt (files_in sink.old) (kind_of G.state G.ended) (sink_text sink.old) start rows.old stage.new) }
     ensures refused { IfErr result (OnRefused (λ fault. (start : G) → HasSinkRows (kind_of G.state G.ended) sink.old start [] stage.old → IsRefusedAt (files_in sink.old) rows.old fault)) }
     ensures goes { G.goes stage.old stage.new }
@@ -111,7 +111,7 @@ fn take<G: Stage>(
     ensures places { places_in kept.new ≤ places_in kept.old + 1 }
     ensures err { OnErr result (kept.new ≡ kept.old) }
     ensures streams { GoOn kept.old → GoOn kept.new }
-    ensures little { OnOk result (GoOn kept.old → HoldsLittle sink.new) }
+    ensures little { OnOk result (GoOn kept.old → (start : G) (rows : List Row) → HasKept (kind_of G.state G.ended) kept.old order.now sink.old start rows stage.old → HoldsLittle sink.new) }
     ensures purpose { purpose_of sink.new ≡ purpose_of sink.old }
     ensures has { OnOk result ((start : G) (rows : List Row) → HasKept (kind_of G.state G.ended) kept.old order.now sink.old start rows stage.old → HasKept (kind_of G.state G.ended) kept.new order.now sink.new start (rows ++ row.old ∷ []) stage.new) }
     ensures stop { OnErr result ((start : G) (rows more : List Row) → HasKept (kind_of G.state G.ended) kept.old order.now sink.old start rows stage.old → StopsAt (files_in sink.old) (kind_of G.state G.ended) (sink_text sink.old) start (finished order.now (rows ++ (row.old ∷ more))) stage.new) }
@@ -217,7 +217,7 @@ impl RowOutput {
         ensures count { OnOk result (self.new.put ≡ self.old.put + 1) }
         ensures uncounted { OnErr result (self.new.put ≡ self.old.put) }
         ensures streams { KeepsNone self.old → KeepsNone self.new }
-        ensures little { OnOk result (KeepsNone self.old → HoldsLittle self.new.sink) }
+        ensures little { OnOk result (KeepsNone self.old → (start : G) (rows : List Row) → HasRows (kind_of G.state G.ended) self.old start rows stage.old → HoldsLittle self.new.sink) }
         ensures goes { G.goes stage.old stage.new }
         ensures later { G.faults stage.old ≤ G.faults stage.new }
         ensures failed { IsErrOf result OutputFault.Failed → Rose (G.faults stage.old) (G.faults stage.new) }

@@ -114,7 +114,7 @@ impl Sink {
         ensures has { OnOk result ((start : G) (rows : List Row) → HasSinkRows (kind_of G.state G.ended) self.old start rows stage.old → HasSinkRows (kind_of G.state G.ended) self.new start (rows ++ row.old ∷ []) stage.new) }
         ensures stop { OnErr result ((start : G) (rows more : List Row) → HasSinkRows (kind_of G.state G.ended) self.old start rows stage.old → StopsAt (files_in self.old) (kind_of G.state G.ended) (sink_text self.old) start (rows ++ (row.old ∷ more)) stage.new) }
         ensures refused { IfErr result (OnRefused (λ fault. (start : G) (rows more : List Row) → HasSinkRows (kind_of G.state G.ended) self.old start rows stage.old → IsRefusedAt (files_in self.old) (rows ++ (row.old ∷ more)) fault)) }
-        ensures little { OnOk result (HoldsLittle self.new) }
+        ensures little { OnOk result ((start : G) (rows : List Row) → HasSinkRows (kind_of G.state G.ended) self.old start rows stage.old → HoldsLittle self.new) }
         ensures goes { G.goes stage.old stage.new }
         ensures later { G.faults stage.old ≤ G.faults stage.new }
         ensures failed { IsErrOf result OutputFault.Failed → Rose (G.faults stage.old) (G.faults stage.new) }

@@ -33,7 +33,7 @@ loop-index-preserved g c =
       has = λ start had.
           subst (λ (l : List Row). HasSinkRows (kind_of g.G.Stage.state g.G.Stage.ended) c.put.new.self start l c.put.new.stage) (with_next all i row c.new.result within is)
           (here.has start (take i all) (so_far.has start had));
-      little = λ some. here.little;
+      little = λ some start had. here.little start (take i all) (so_far.has start had);
       goes = g.met.G.Stage.goes_on _ _ _ so_far.goes here.goes;
       later = omega arith;
     }
@@ -81,3 +81,6 @@ returns-clause-has g c = λ start had.
     let i = c.loop-index.index in
     let none = take_all i all (omega (arith, c.len-index-end.ensures)) in
     subst (λ (l : List Row). HasSinkRows (kind_of g.G.Stage.state g.G.Stage.ended) c.loop-index.sink start l c.loop-index.stage) none (c.loop-index.invariant.has start had)
+
+pub returns-clause-little : goal.returns-clause-little
+returns-clause-little g c = λ some start had. c.loop-index.invariant.little (omega (arith, some, c.len-index-end.ensures)) start had

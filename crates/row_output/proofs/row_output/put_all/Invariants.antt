@@ -10,7 +10,7 @@ invariant-loop-index g l = record {
   behind : drop l.index l.rows ≡ drop l.index l.initial.rows;
   size : length l.rows ≡ length l.initial.rows;
   has : (start : _) → HasSinkRows (kind_of g.G.Stage.state g.G.Stage.ended) l.initial.sink start [] l.initial.stage → HasSinkRows (kind_of g.G.Stage.state g.G.Stage.ended) l.sink start (take l.index l.initial.rows) l.stage;
-  little : 0 < l.index → HoldsLittle l.sink;
+  little : 0 < l.index → (start : _) → HasSinkRows (kind_of g.G.Stage.state g.G.Stage.ended) l.initial.sink start [] l.initial.stage → HoldsLittle l.sink;
   goes : g.G.Stage.goes l.initial.stage l.stage;
   later : g.G.Stage.faults l.initial.stage ≤ g.G.Stage.faults l.stage;
 }

@@ -4,7 +4,7 @@ use Rattle.text_output.specs.Output.{kind_of}
 use Rattle.row_output.specs.Few.{places_in}
 use Rattle.row_output.specs.declared.kept.Kept.{Kept}
 use Rattle.row_output.specs.declared.kept.Kept.TheVariants as K
-use Rattle.row_output.proofs.KeptCalls.{plain_has, plain_stops, plain_refuses, ordered_takes, places_taken, ordered_apart, on_ok_given}
+use Rattle.row_output.proofs.KeptCalls.{plain_has, plain_little, plain_stops, plain_refuses, ordered_takes, places_taken, ordered_apart}
 use Rattle.row_output.proofs.Stopping.{kept_stops}
 use Rattle.row_output.proofs.row_output.take.Goals as goal
 
@@ -16,7 +16,8 @@ returns-in-All-clause-has g c =
     plain_has (kind_of g.G.Stage.state g.G.Stage.ended) c.args.kept.now c.in-All.is c.args.order.now c.args.sink.now c.args.stage.now c.put.new.stage c.put.result c.args.kept.now c.put.new.self (λ rows. rows ++ c.args.row.now ∷ []) refl c.put.ensures.has
 
 pub returns-in-All-clause-little : goal.returns-in-All-clause-little
-returns-in-All-clause-little g c = on_ok_given _ _ c.put.result c.put.ensures.little
+returns-in-All-clause-little g c =
+    plain_little (kind_of g.G.Stage.state g.G.Stage.ended) c.args.kept.now c.in-All.is c.args.order.now c.args.sink.now c.args.stage.now c.put.new.stage c.put.result c.put.new.self c.put.ensures.little
 
 pub returns-in-All-clause-stop : goal.returns-in-All-clause-stop
 returns-in-All-clause-stop g c =

@@ -12,7 +12,7 @@ returns-clause-all g c = λ start rows has.
 pub returns-clause-has : goal.returns-clause-has
 returns-clause-has g c = λ start rows has.
     let placed = c.in_ok-place.ensures in
-    open_has (kind_of g.G.Stage.state g.G.Stage.ended) c.args.self.now c.place.new.self start rows c.args.stage.now c.place.new.stage (omega arith) placed.same.0 placed.names (placed.has start rows has) has
+    open_has (kind_of g.G.Stage.state g.G.Stage.ended) c.args.self.now c.place.new.self start rows c.args.stage.now c.place.new.stage (omega arith) placed.same.0 placed.names (placed.has start rows has) placed.front.0 placed.front.1 has
 
 pub returns-in_err-place-clause-stop : goal.returns-in_err-place-clause-stop
 returns-in_err-place-clause-stop g c = on_err _ c.from_residual.result (λ start rows more has.

@@ -6,7 +6,7 @@ use Rattle.row_output.specs.declared.fault.Refused.{Refused}
 use Rattle.row_output.specs.Kept.{HasKept, HasRows, asked_of}
 use Rattle.row_output.specs.Rows.{IsRefused, IsRefusedAt}
 use Rattle.row_output.specs.Sinks.{Purpose, files_in}
-use Rattle.row_output.proofs.KeptCalls.{asked_for, rows_have, rows_stop_at, rows_refused, one_more}
+use Rattle.row_output.proofs.KeptCalls.{asked_for, rows_have, rows_little, rows_stop_at, rows_refused, one_more}
 use Rattle.row_output.proofs.SinkCalls.{refused_on}
 use Rattle.row_output.proofs.kept.RowOutput.put.Goals as goal
 
@@ -39,3 +39,7 @@ returns-clause-asked g c = ap (λ (p : Purpose). asked_for p c.args.self.now.ord
 pub returns-clause-has : goal.returns-clause-has
 returns-clause-has g c = λ start rows has.
     rows_have (kind_of g.G.Stage.state g.G.Stage.ended) c.args.self.now c.args.stage.now c.take.new.stage _ start rows (rows ++ c.args.row.now ∷ []) (c.in_ok-take.ensures.has start rows) (one_more c.args.self.now.put rows c.args.row.now) has
+
+pub returns-clause-little : goal.returns-clause-little
+returns-clause-little g c = λ keeps start rows has.
+    rows_little (kind_of g.G.Stage.state g.G.Stage.ended) c.args.self.now c.args.stage.now c.take.new.stage c.take.new.sink start rows (c.in_ok-take.ensures.little keeps start rows) has

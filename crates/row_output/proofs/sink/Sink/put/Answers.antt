@@ -4,7 +4,7 @@ use Rattle.text_output.specs.Output.{kind_of}
 use Rattle.row_output.specs.declared.fault.Refused.{Refused}
 use Rattle.row_output.specs.Rows.{IsRefusedAt, standard_at}
 use Rattle.row_output.specs.Sinks.{HasSinkRows, files_in}
-use Rattle.row_output.proofs.SinkCalls.{files_same, files_have, files_stop_in, files_refuse_in, same_text, standard_same, text_had, text_stops, told_put, failed_put}
+use Rattle.row_output.proofs.SinkCalls.{files_same, files_have, files_little, files_stop_in, files_refuse_in, same_text, standard_same, text_had, text_stops, told_put, failed_put}
 use Rattle.row_output.proofs.sink.Sink.put.Goals as goal
 
 pub returns-in-Ok-clause-purpose : goal.returns-in-Ok-clause-purpose
@@ -16,7 +16,7 @@ returns-in-Ok-clause-has g c = λ start rows has.
     c.in-Ok.ensures.text true c.in-Standard.standard.names rows (standard_at kind start) (text_had kind c.args.self.now c.in-Standard.standard c.in-Standard.is c.args.stage.now c.row.new.stage start rows has)
 
 pub returns-in-Ok-clause-little : goal.returns-in-Ok-clause-little
-returns-in-Ok-clause-little g c = c.in-Ok.ensures.small
+returns-in-Ok-clause-little g c = λ start rows has. c.in-Ok.ensures.small
 
 pub returns-in-Err-clause-purpose : goal.returns-in-Err-clause-purpose
 returns-in-Err-clause-purpose g c = standard_same (kind_of g.G.Stage.state g.G.Stage.ended) c.args.self.now c.in-Standard.standard c.in-Standard.is c.args.stage.now c.row.new.stage (record c.in-Standard.standard { text = c.row.new.self }) (same_text c.row.new.self.shape c.in-Standard.standard.text.shape c.row.ensures.format c.row.ensures.at_once) refl
@@ -49,4 +49,4 @@ pub returns-in-Files-clause-refused : goal.returns-in-Files-clause-refused
 returns-in-Files-clause-refused g c = files_refuse_in (kind_of g.G.Stage.state g.G.Stage.ended) c.args.self.now c.in-Files.files c.in-Files.is c.args.stage.now c.put.new.stage c.put.result (λ rows more. rows ++ (c.args.row.now ∷ more)) c.put.ensures.refused
 
 pub returns-in-Files-clause-little : goal.returns-in-Files-clause-little
-returns-in-Files-clause-little g c = c.put.ensures.small
+returns-in-Files-clause-little g c = files_little (kind_of g.G.Stage.state g.G.Stage.ended) c.args.self.now c.in-Files.files c.in-Files.is c.args.stage.now c.put.new.stage c.put.result c.put.new.self c.put.ensures.small
