@@ -26,7 +26,7 @@ use Rattle.query_types.specs.declared.fault.TypeFault.{TypeFault}
 use Rattle.query_types.specs.declared.table.TableColumns.{TableColumns}
 use Rattle.subqueries.specs.Giving.{Gives, GivesOver, Remembers, expression_place, keep_for}
 use Rattle.subqueries.specs.Listing.{AreWhole, first_own, lines_wait}
-use Rattle.subqueries.specs.Refusing.{IsClash, IsRefusedOne, read_fault}
+use Rattle.subqueries.specs.Refusing.{IsClash, IsRefusedOne, IsTyped, read_fault}
 use Rattle.subqueries.specs.Valuing.{GivesValues, HasValues}
 use Rattle.subqueries.proofs.Wholes.{listed_later, on_whole, whole_told}
 
@@ -76,22 +76,24 @@ gives_waiting before mid now format spec moment q spans list given kept found no
 -- of a fault of the logs' records, with what is known of it
 refused_waiting : (before mid now : Option Folder) (format : LogFormat) (spec : Spec) (moment : ℤ) (q : model.Query) (spans : List Span) (most : Option ℕ) (fault : ReadFault) → AreWhole before mid q spans → None ≡ first_own spec.checkpoint (map (λ (span : Span). span.name) spans) → OnlyGrow mid now
     → OnUnplanned (λ (fault : TypeFault). OnTable format (lines_wait spec) spec.ts_format now spans (λ table. subquery_plan_of table moment q ≡ Err fault)) fault
+    → OnBad (λ (line : BadLine). IsTyped format moment q) fault
     → OnBad (λ (line : BadLine). Told now (λ folder. AreKept (lines_in format) (lines_wait spec) spans folder → IsTooMany most 0 (spans_bad_lines (lines_in format) (lines_wait spec) folder spans) line)) fault
     → IsRefusedOne format spec moment before now q most (read_fault fault)
-refused_waiting before mid now format spec moment q spans most (R.Plan fault) found none grow unplanned bad = record {
+refused_waiting before mid now format spec moment q spans most (R.Plan fault) found none grow unplanned typed bad = record {
   logs = found.logs;
   are_listed = listed_later before mid now q found.logs grow found.are_listed;
   free = own_names_of before mid spec q spans found ∙ sym none;
   unplanned = on_whole now format (lines_wait spec) spec.ts_format found.logs spans (λ table. subquery_plan_of table moment q ≡ Err fault) (λ table. subquery_plan_of table moment q ≡ Err fault) found.wholes (λ table is. is) unplanned;
 }
-refused_waiting before mid now format spec moment q spans most R.Logs found none grow unplanned bad = tt
-refused_waiting before mid now format spec moment q spans most (R.Bad log row) found none grow unplanned bad = record {
+refused_waiting before mid now format spec moment q spans most R.Logs found none grow unplanned typed bad = tt
+refused_waiting before mid now format spec moment q spans most (R.Bad log row) found none grow unplanned typed bad = record {
   logs = found.logs;
   are_listed = listed_later before mid now q found.logs grow found.are_listed;
   free = own_names_of before mid spec q spans found ∙ sym none;
+  typed = typed;
   exceeds = whole_told now format (lines_wait spec) found.logs spans (λ s folder. IsTooMany most 0 (spans_bad_lines (lines_in format) (lines_wait spec) folder s) (record { log = log; row = row })) found.wholes bad;
 }
-refused_waiting before mid now format spec moment q spans most R.Memory found none grow unplanned bad = tt
+refused_waiting before mid now format spec moment q spans most R.Memory found none grow unplanned typed bad = tt
 
 -- where lines wait as the run wants it, and what it keeps is kept
 module _ (before mid now : Option Folder) (format : LogFormat) (spec : Spec) (moment : ℤ) (q : model.Query) (spans : List Span) (waits : Bool) (same : waits ≡ lines_wait spec) where
@@ -106,9 +108,10 @@ module _ (before mid now : Option Folder) (format : LogFormat) (spec : Spec) (mo
 
   pub refused_read : (most : Option ℕ) (fault : ReadFault) → AreWhole before mid q spans → None ≡ first_own spec.checkpoint (map (λ (span : Span). span.name) spans) → OnlyGrow mid now
       → OnUnplanned (λ (fault : TypeFault). OnTable format waits spec.ts_format now spans (λ table. subquery_plan_of table moment q ≡ Err fault)) fault
+      → OnBad (λ (line : BadLine). IsTyped format moment q) fault
       → OnBad (λ (line : BadLine). Told now (λ folder. AreKept (lines_in format) waits spans folder → IsTooMany most 0 (spans_bad_lines (lines_in format) waits folder spans) line)) fault
       → IsRefusedOne format spec moment before now q most (read_fault fault)
-  refused_read most fault found none grow unplanned bad =
+  refused_read most fault found none grow unplanned typed bad =
       let Unplanned : Bool → Type 0 = λ waits. OnUnplanned (λ (fault : TypeFault). OnTable format waits spec.ts_format now spans (λ table. subquery_plan_of table moment q ≡ Err fault)) fault in
       let Bad : Bool → Type 0 = λ waits. OnBad (λ (line : BadLine). Told now (λ folder. AreKept (lines_in format) waits spans folder → IsTooMany most 0 (spans_bad_lines (lines_in format) waits folder spans) line)) fault in
-      refused_waiting before mid now format spec moment q spans most fault found none grow (subst Unplanned same unplanned) (subst Bad same bad)
+      refused_waiting before mid now format spec moment q spans most fault found none grow (subst Unplanned same unplanned) typed (subst Bad same bad)

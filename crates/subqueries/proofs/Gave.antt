@@ -96,8 +96,8 @@ module _ (format : LogFormat) (spec : Spec) (moment : ℤ) where
   unplanned_earlier : (before mid now : Option Folder) (q : Query) → OnlyGrow before mid → {fault : _} → IsUnplanned format spec moment mid now q fault → IsUnplanned format spec moment before now q fault
   unplanned_earlier before mid now q grow u = record { logs = u.logs; are_listed = listed_earlier before mid now q u.logs grow u.are_listed; free = u.free; unplanned = u.unplanned }
 
-  exceeded_earlier : (before mid now : Option Folder) (q : Query) (most : Option ℕ) (bad : ℕ) → OnlyGrow before mid → {line : _} → IsExceeded format spec mid now q most bad line → IsExceeded format spec before now q most bad line
-  exceeded_earlier before mid now q most bad grow e = record { logs = e.logs; are_listed = listed_earlier before mid now q e.logs grow e.are_listed; free = e.free; exceeds = e.exceeds }
+  exceeded_earlier : (before mid now : Option Folder) (q : Query) (most : Option ℕ) (bad : ℕ) → OnlyGrow before mid → {line : _} → IsExceeded format spec moment mid now q most bad line → IsExceeded format spec moment before now q most bad line
+  exceeded_earlier before mid now q most bad grow e = record { logs = e.logs; are_listed = listed_earlier before mid now q e.logs grow e.are_listed; free = e.free; typed = e.typed; exceeds = e.exceeds }
 
   pub why_earlier : (before mid now : Option Folder) (q : Query) (most : Option ℕ) (bad : ℕ) (fault : SubqueryFault) → OnlyGrow before mid → IsRefusedWith format spec moment mid now q most bad fault → IsRefusedWith format spec moment before now q most bad fault
   why_earlier before mid now q most bad (F.BadName fault) grow why = why
@@ -195,6 +195,7 @@ module _ (format : LogFormat) (spec : Spec) (moment : ℤ) where
     logs = why.logs;
     are_listed = why.are_listed;
     free = why.free;
+    typed = why.typed;
     exceeds = told_many now spec.errors bad left (λ folder. spans_bad_lines (lines_in format) (lines_wait spec) folder (whole_spans why.logs)) (bad_line log row) is why.exceeds;
   }
   why_first before now q bad left F.Logs is why = tt

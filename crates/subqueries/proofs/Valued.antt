@@ -8,15 +8,19 @@ use Rattle.group_planning.specs.Subquery.{subquery_plan_of}
 use Rattle.in_set.specs.Facts.{facts_of}
 use Rattle.input_tables.specs.declared.format.TableFormat.{TableFormat}
 use Rattle.input_tables.specs.Tables.{lines_of, readings_of, table_of}
+use Rattle.list_run.specs.Faults.{OnBad}
+use Rattle.list_run.specs.declared.fault.ListFault.{ListFault}
+use Rattle.list_run.specs.declared.fault.ListFault.TheVariants as R
 use Rattle.list_run.specs.declared.keep.Keep.{Keep}
 use Rattle.list_run.specs.Keeping.{kept_values}
 use Rattle.list_run.specs.Lists.{values_of}
 use Rattle.list_run.specs.Rules.{kind_first}
 use Rattle.list_run.specs.declared.given.SampledValues.{SampledValues}
 use Rattle.log_reading.specs.declared.span.Span.{Span}
-use Rattle.log_reading.specs.Spans.{AreKept, spans_bad}
+use Rattle.log_reading.specs.Spans.{AreKept, BadLine, spans_bad}
 use Rattle.plan_run.specs.Rows.{plan_rows}
 use Rattle.query_types.specs.Planned.{Planned}
+use Rattle.subqueries.specs.Refusing.{IsTyped}
 use Rattle.subqueries.specs.Valuing.{GivesValues, HasValues}
 
 has_tabled : (told : Option Folder) (format : TableFormat) (waits : Bool) (keep : Keep) (pattern : List Piece) (plan : Planned) (list : SampledValues) (spans : List Span)
@@ -36,3 +40,10 @@ pub gives_tabled : (told : Option Folder) (format : TableFormat) (waits : Bool) 
 gives_tabled told format waits keep pattern moment q plan list slice spans listed planned kind values kept bad =
     let Of : List Span → Type 0 = λ s. Told told (λ folder. AreKept (lines_of format) waits s folder → HasValues (F.Tabled format) waits keep pattern plan list s folder) in
     record { plan = plan; is_planned = planned; kind = kind; has = subst Of listed (has_tabled told format waits keep pattern plan list slice values kept bad) }
+
+-- where there is a plan, it was made before a bad line is told
+pub typed_tabled : (format : TableFormat) (moment : ℤ) (q : model.Query) (plan : Planned) (fault : ListFault) → subquery_plan_of (table_of format) moment q ≡ Ok plan → OnBad (λ (line : BadLine). IsTyped (F.Tabled format) moment q) fault
+typed_tabled format moment q plan (R.Plan why) planned = tt
+typed_tabled format moment q plan R.Logs planned = tt
+typed_tabled format moment q plan (R.Bad log row) planned = (plan, planned)
+typed_tabled format moment q plan R.Memory planned = tt

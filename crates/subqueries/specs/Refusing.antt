@@ -1,5 +1,5 @@
 -- Why a subquery of a query gives nothing.
-use Rattle.std.specs.Prelude.{◌≡◌, ◌+◌, ℕ, ℤ, List, ◌∷◌, ◌++◌, Option, Some, None, Err, ⊤}
+use Rattle.std.specs.Prelude.{◌≡◌, ◌+◌, ℕ, ℤ, List, ◌∷◌, ◌++◌, Option, Some, None, Ok, Err, ⊤}
 use Rattle.grammar.specs.Filled.{PlacedGiven, asked_places}
 use Rattle.grammar.specs.Trees.{Query}
 use Rattle.lp_model.specs.Outside.{Folder, Told}
@@ -7,8 +7,10 @@ use Rattle.lp_values.specs.declared.value.Value.{Value}
 use Rattle.command_words.specs.declared.spec.Spec.{Spec}
 use Rattle.checkpoint.specs.Wholes.{whole_spans}
 use Rattle.execution.specs.declared.formats.LogFormat.{LogFormat}
+use Rattle.execution.specs.declared.formats.LogFormat.TheVariants as LF
 use Rattle.execution.specs.Formats.{lines_in, log_format}
 use Rattle.group_planning.specs.Subquery.{subquery_plan_of}
+use Rattle.input_tables.specs.Tables.{table_of}
 use Rattle.list_run.specs.declared.fault.ListFault.{ListFault as ReadFault}
 use Rattle.list_run.specs.declared.fault.ListFault.TheVariants as R
 use Rattle.log_listing.specs.declared.fault.ListFault.{ListFault}
@@ -18,6 +20,7 @@ use Rattle.log_listing.specs.Lengths.{names_in as listed_names}
 use Rattle.log_listing.specs.Listed.{IsRefused}
 use Rattle.log_reading.specs.Page.{IsTooMany}
 use Rattle.log_reading.specs.Spans.{BadLine, bad_line, spans_bad_lines}
+use Rattle.query_types.specs.Planned.{Planned}
 use Rattle.query_types.specs.declared.fault.TypeFault.{TypeFault}
 use Rattle.subqueries.specs.declared.fault.SubqueryFault.{SubqueryFault}
 use Rattle.subqueries.specs.declared.fault.SubqueryFault.TheVariants as F
@@ -37,11 +40,17 @@ pub record IsUnplanned (format : LogFormat) (spec : Spec) (moment : ℤ) (before
   pub free : first_own spec.checkpoint (listed_names logs) ≡ None
   pub unplanned : OnWhole format (lines_wait spec) spec.ts_format now logs (λ table. subquery_plan_of table moment q ≡ Err fault)
 
+-- over a table that is known before a log is read, a subquery has a plan
+abbrev pub IsTyped : LogFormat → ℤ → Query → Type 0
+IsTyped (LF.Tabled format) moment q = (plan : Planned) × (subquery_plan_of (table_of format) moment q ≡ Ok plan)
+IsTyped (LF.Sampled options limit) moment q = ⊤
+
 -- of the bad lines of its logs, in order, with so many before them, this is the first that is one too many
-pub record IsExceeded (format : LogFormat) (spec : Spec) (before now : Option Folder) (q : Query) (most : Option ℕ) (bad : ℕ) (line : BadLine) : Type 0 where
+pub record IsExceeded (format : LogFormat) (spec : Spec) (moment : ℤ) (before now : Option Folder) (q : Query) (most : Option ℕ) (bad : ℕ) (line : BadLine) : Type 0 where
   pub logs : List NameLength
   pub are_listed : AreListed before now q logs
   pub free : first_own spec.checkpoint (listed_names logs) ≡ None
+  pub typed : IsTyped format moment q
   pub exceeds : Told now (λ folder. IsTooMany most bad (spans_bad_lines (lines_in format) (lines_wait spec) folder (whole_spans logs)) line)
 
 -- why a subquery is refused, of whose logs so many bad lines more are one too many behind so many
@@ -51,7 +60,7 @@ IsRefusedWith format spec moment before now q most bad (F.NoSuchLog name) = IsRe
 IsRefusedWith format spec moment before now q most bad F.TooManyLogs = IsRefused now (from_names q) L.TooManyLogs
 IsRefusedWith format spec moment before now q most bad (F.Clash name) = IsClash spec before now q name
 IsRefusedWith format spec moment before now q most bad (F.Plan fault) = IsUnplanned format spec moment before now q fault
-IsRefusedWith format spec moment before now q most bad (F.Bad log row) = IsExceeded format spec before now q most bad (bad_line log row)
+IsRefusedWith format spec moment before now q most bad (F.Bad log row) = IsExceeded format spec moment before now q most bad (bad_line log row)
 IsRefusedWith format spec moment before now q most bad F.Logs = ⊤
 IsRefusedWith format spec moment before now q most bad F.Memory = ⊤
 

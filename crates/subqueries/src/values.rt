@@ -10,6 +10,7 @@ ghost use Rattle.list_run.specs.Faults.{OnBad, OnUnplanned};
 ghost use Rattle.list_run.specs.Rules.{kind_first};
 ghost use Rattle.log_reading.specs.Page.{IsTooMany, IsWithin};
 ghost use Rattle.log_reading.specs.Spans.{AllSpans, AreKept, AreReadable, IsSpan, spans_bad_lines, spans_size};
+ghost use Rattle.subqueries.specs.Refusing.{IsTyped};
 ghost use Rattle.subqueries.specs.Valuing.{GivesValues, HasSeparator, unplanned};
 
 use checkpoint::Spans;
@@ -65,6 +66,7 @@ fn give_tabled<L: LogSource>(
     ensures values { IfOk result (λ list. OnTable (F.Tabled format) waits pattern.now (L.folder logs.new) spans.now (GivesValues (F.Tabled format) waits keep pattern.now (L.folder logs.new) moment (query_of query.now) list spans.now)) }
     ensures unplanned { IfErr result (OnUnplanned (λ fault. OnTable (F.Tabled format) waits pattern.now (L.folder logs.new) spans.now (λ table. subquery_plan_of table moment (query_of query.now) ≡ Err fault))) }
     ensures within { IfOk result (λ list. IsWithin most_bad list.bad) }
+    ensures typed { IfErr result (OnBad (λ line. IsTyped (F.Tabled format) moment (query_of query.now))) }
     ensures too_many { IfErr result (OnBad (λ line. Told (L.folder logs.new) (λ folder. AreKept (lines_in (F.Tabled format)) waits spans.now folder
         → IsTooMany most_bad 0 (spans_bad_lines (lines_in (F.Tabled format)) waits folder spans.now) line))) }
     ensures given { L.given logs.new ≤ L.given logs.old + spans_size spans.now }
@@ -120,6 +122,7 @@ pub(crate) fn give_values<L: LogSource>(
     ensures values { IfOk result (λ list. OnTable format waits pattern.now (L.folder logs.new) spans.now (GivesValues format waits keep pattern.now (L.folder logs.new) moment (query_of query.now) list spans.now)) }
     ensures unplanned { IfErr result (OnUnplanned (λ fault. OnTable format waits pattern.now (L.folder logs.new) spans.now (λ table. subquery_plan_of table moment (query_of query.now) ≡ Err fault))) }
     ensures within { IfOk result (λ list. IsWithin most_bad list.bad) }
+    ensures typed { IfErr result (OnBad (λ line. IsTyped format moment (query_of query.now))) }
     ensures too_many { IfErr result (OnBad (λ line. Told (L.folder logs.new) (λ folder. AreKept (lines_in format) waits spans.now folder
         → IsTooMany most_bad 0 (spans_bad_lines (lines_in format) waits folder spans.now) line))) }
     ensures given { L.given logs.new ≤ L.given logs.old + spans_size spans.now }

@@ -16,7 +16,7 @@ returns-in-Err-give_values-clause-refused g c =
     let q = query_of c.args.query.now in
     subst (λ (fault : SubqueryFault). IsRefusedOne c.args.format c.args.spec.now c.args.moment old new q c.args.most_bad fault) (sym c.read_fault.ensures)
     (refused_read old (g.L.Logs.folder c.list_spans.new.logs) new c.args.format c.args.spec.now c.args.moment q c.in-Ok.spans c.is_some-waits.result c.is_some-waits.ensures c.args.most_bad c.in-Err-give_values.fault c.in-Ok.ensures.found (sym c.in_default.is ∙ c.clash_in.ensures) c.in-Err-give_values.ensures.grows
-    (simp to_z-of_z at c.in-Err-give_values.ensures.unplanned) c.in-Err-give_values.ensures.too_many)
+    (simp to_z-of_z at c.in-Err-give_values.ensures.unplanned) (simp to_z-of_z at c.in-Err-give_values.ensures.typed) c.in-Err-give_values.ensures.too_many)
 
 pub returns-in-Err-give_values-clause-read : goal.returns-in-Err-give_values-clause-read
 returns-in-Err-give_values-clause-read g c =
