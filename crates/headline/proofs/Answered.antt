@@ -63,12 +63,12 @@ no_given_usage F.Memory word same = cc
 
 given_no_clock : (old new : World) (template : Sections) (spec : Spec) (moment : ℤ) (q : model.Query) (at : ℤ) → AnswersOver old new template spec moment q (S.Clock at) → ⊥
 given_no_clock old new template spec moment q at (inl u) = u.unlisted
-given_no_clock old new template spec moment q at (inr (inl u)) = no_given_clock u.refused.fault at u.refused.status_is
+given_no_clock old new template spec moment q at (inr (inl u)) = no_given_clock u.refused.refused.fault at u.refused.refused.status_is
 given_no_clock old new template spec moment q at (inr (inr r)) = over_no_clock (reads_stdin (names_in q)) old new template spec moment r.whole at r.answers
 
 given_no_usage : (old new : World) (template : Sections) (spec : Spec) (moment : ℤ) (q : model.Query) (fault : UsageFault) → AnswersOver old new template spec moment q (S.Usage fault) → ⊥
 given_no_usage old new template spec moment q fault (inl u) = u.unlisted
-given_no_usage old new template spec moment q fault (inr (inl u)) = no_given_usage u.refused.fault fault u.refused.status_is
+given_no_usage old new template spec moment q fault (inr (inl u)) = no_given_usage u.refused.refused.fault fault u.refused.refused.status_is
 given_no_usage old new template spec moment q fault (inr (inr r)) = over_no_usage (reads_stdin (names_in q)) old new template spec moment r.whole fault r.answers
 
 -- a query's answer tells of no clock

@@ -51,7 +51,7 @@ use Rattle.standard_input.specs.Streams.{stream_files}
 use Rattle.logparser_cli.specs.Templates.{IsTemplate, IsUntemplated, IsWithoutTemplate}
 use Rattle.requests.proofs.Templates.{template_grown, template_since, fault_since}
 use Rattle.tpl_output.specs.Sections.{Sections}
-use Rattle.logparser_cli.specs.Subqueries.{IsFilled, IsRefusedAs}
+use Rattle.logparser_cli.specs.Subqueries.{IsFilled, IsRefusedBehind}
 use Rattle.logparser_cli.proofs.Prepared.{filled_earlier, filled_later, refused_earlier}
 use Rattle.logparser_cli.proofs.Wholes.{logs_earlier, logs_later, on_whole, whole_told}
 
@@ -315,10 +315,10 @@ run_filled mid new before faults template spec moment q whole status grow later 
 }))
 
 -- its logs aren't listed, or a subquery is refused
-pub unprepared : (old new : World) (template : Sections) (spec : Spec) (moment : ℤ) (q : model.Query) (status : Status) → IsUnlisted new.folder q status ⊎ IsRefusedAs spec moment old.folder new.folder q status → IsUnwritten old.held new.held
+pub unprepared : (old new : World) (template : Sections) (spec : Spec) (moment : ℤ) (q : model.Query) (status : Status) (Unread : Type 0) → IsUnlisted new.folder q status × Unread ⊎ IsRefusedBehind spec moment old.folder new.folder q status → IsUnwritten old.held new.held
     → (status ≡ LogsFault → Rose old.logs_faults new.logs_faults) → AnswersOver old new template spec moment q status
-unprepared old new template spec moment q status (inl unlisted) same rose = inl (record { unlisted = unlisted; unwritten = same; rose = rose })
-unprepared old new template spec moment q status (inr refused) same rose = inr (inl (record { refused = refused; unwritten = same; rose = rose }))
+unprepared old new template spec moment q status Unread (inl unlisted) same rose = inl (record { unlisted = unlisted.0; unwritten = same; rose = rose })
+unprepared old new template spec moment q status Unread (inr refused) same rose = inr (inl (record { refused = refused; unwritten = same; rose = rose }))
 
 untemplated_since : (before mid now : Option Folder) (name : List ℕ) (status : Status) → OnlyGrow before mid → IsUntemplated mid now name status → IsUntemplated before now name status
 untemplated_since before mid now name Done grow s = s

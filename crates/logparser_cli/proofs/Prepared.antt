@@ -1,12 +1,18 @@
 -- What stands of the subqueries of a query, once it is run with what they gave.
-use Rattle.std.proofs.Common.{◌≡◌, ◌∙◌, ◌⊎◌, ◌++◌, ◌∷◌, [], ℕ, ℤ, List, map, Option, Some, None, refl, inl, inr, ap, sym, subst, append_assoc, append-nil}
+use Rattle.std.proofs.Common.{◌≡◌, ◌==◌, ◌∙◌, ◌⊎◌, ◌++◌, ◌∷◌, [], ℕ, ℤ, List, length, map, arith, true, Option, Some, None, refl, inl, inr, ap, sym, subst, append_assoc, append-nil}
+use Rattle.std.proofs.lemmas.Bool.Decides.{nat_tests}
 use Rattle.grammar.specs.Filled.{PlacedGiven, filled}
 use Rattle.grammar.specs.Trees as model
 use Rattle.grammar.specs.Trees.{Query as query}
+use Rattle.query_tree.proofs.Lists.{queries_list}
+use Rattle.query_tree.specs.Views.{query_of, queries_in}
+use Rattle.query_tree.specs.declared.query.Query.{Query, Query', out-Query}
+use Rattle.query_tree.specs.declared.query.QueryList.{out-QueryList}
 use Rattle.lp_model.specs.Outside.{Folder, OnlyGrow}
 use Rattle.lp_model.proofs.Growing.{OnlyGrow-refl, OnlyGrow-trans}
 use Rattle.command_words.specs.declared.spec.Spec.{Spec}
-use Rattle.checkpointed_command.specs.Built.{all_built}
+use Rattle.checkpoint.specs.Wholes.{whole_spans}
+use Rattle.checkpointed_command.specs.Built.{all_built, reads_stdin}
 use Rattle.checkpointed_command.specs.Texts.{output_of}
 use Rattle.log_listing.specs.Lengths.{names_in as listed_names}
 use Rattle.log_listing.specs.Listed.{Lists}
@@ -16,19 +22,22 @@ use Rattle.requests.specs.Given.{ReadsOnce}
 use Rattle.requests.proofs.Given.{reads_on}
 use Rattle.checkpointed_command.specs.SubqueryFault.{SubqueryFault}
 use Rattle.checkpointed_command.specs.SubqueryFault.TheVariants as F
-use Rattle.checkpointed_command.specs.Giving.{subqueries_of}
+use Rattle.checkpointed_command.specs.Giving.{listed_queries, subqueries_of}
 use Rattle.checkpointed_command.specs.SubqueriesReading.{AllRead, ReadsAll}
 use Rattle.checkpointed_command.specs.SubqueriesReading.{AreRead as AreOwn}
 use Rattle.checkpointed_command.specs.Listing.{first_own}
 use Rattle.checkpointed_command.specs.Refusing.{StopsBy}
 use Rattle.checkpointed_command.proofs.Clashing.{none_own}
-use Rattle.checkpointed_command.proofs.SubqueriesSteps.{given_between, stops_earlier}
+use Rattle.checkpointed_command.proofs.SubqueriesSteps.{given_between}
 use Rattle.checkpointed_command.specs.Given.{template_files}
 use Rattle.logparser_cli.specs.Given.{ReadsLogs, ReadsQuery}
-use Rattle.logparser_cli.specs.Logs.{from_names}
+use Rattle.logparser_cli.specs.Logs.{AreSpans, from_names}
+use Rattle.logparser_cli.proofs.Wholes.{from_input, logs_earlier}
+use Rattle.log_reading.specs.declared.span.Span.{Span}
+use Rattle.standard_input.specs.Streams.{input_logs}
 use Rattle.reports.specs.declared.status.Status.{Status}
 use Rattle.reports.specs.declared.status.Status.TheVariants.{LogsFault}
-use Rattle.logparser_cli.specs.Subqueries.{IsFilled, IsPlainFault, IsRefusedAs, ungiven}
+use Rattle.logparser_cli.specs.Subqueries.{IsFilled, IsListedFirst, IsPlainFault, IsRefusedBehind, ungiven}
 
 -- what a query has besides its conditions stays
 
@@ -58,6 +67,38 @@ filled_earlier spec moment before mid now q whole grow f = record { givens = f.g
 
 pub filled_later : (spec : Spec) (moment : ℤ) (before mid now : Option Folder) (q whole : model.Query) → OnlyGrow mid now → IsFilled spec moment before mid q whole → IsFilled spec moment before now q whole
 filled_later spec moment before mid now q whole grow f = record { givens = f.givens; lists = f.lists; give = given_between spec moment before before mid now q f.givens f.lists (OnlyGrow-refl before) grow f.give; whole_is = f.whole_is }
+
+-- what a query reads is listed before its subqueries are run
+
+subqueries_in : (q : Query) → subqueries_of (query_of q) ≡ listed_queries (queries_in (out-Query q).subqueries)
+unfolding out-Query denote.Hole.Carrier.out
+subqueries_in (Query' top distinct star items aliases into names condition keys rollup having order descending subqueries) = refl
+
+no_queries : (qs : List Query) → length qs == 0 ≡ true → qs ≡ []
+no_queries [] e = refl
+no_queries (q ∷ qs) e = absurd (grind (arith, nat_tests))
+
+pub without_subqueries : (q : Query) → (out-QueryList (out-Query q).subqueries).items.len == 0 ≡ true → subqueries_of (query_of q) ≡ []
+without_subqueries q none =
+    let list = (out-QueryList (out-Query q).subqueries).items in
+    let none_there : length list.items == 0 ≡ true = ap (λ (n : ℕ). n == 0) (sym list.ok.0) ∙ none in
+    subqueries_in q
+    ∙ (ap listed_queries (queries_list (out-Query q).subqueries) ∙ ap (λ (qs : List Query). listed_queries (model.queries_of (map query_of qs))) (no_queries list.items none_there))
+
+pub none_first : (before now : Option Folder) (q : model.Query) → subqueries_of q ≡ [] → IsListedFirst (subqueries_of q) before now q
+none_first before now q none = subst (λ (qs : List model.Query). IsListedFirst qs before now q) (sym none) tt
+
+pub listed_first : (qs : List model.Query) (before now : Option Folder) (q : model.Query) (spans : List Span) → AreSpans before now q spans → IsListedFirst qs before now q
+listed_first [] before now q spans are = tt
+listed_first (first ∷ rest) before now q spans are = record { logs = are.logs; are_logs = are.are_logs }
+
+-- over standard input there is nothing to list
+pub input_first : (before now : Option Folder) (q : model.Query) → reads_stdin (names_in q) ≡ true → IsListedFirst (subqueries_of q) before now q
+input_first before now q stdin = listed_first (subqueries_of q) before now q (whole_spans input_logs) (from_input before now q (whole_spans input_logs) stdin refl)
+
+first_earlier : (qs : List model.Query) (before mid now : Option Folder) (q : model.Query) → OnlyGrow before mid → IsListedFirst qs mid now q → IsListedFirst qs before now q
+first_earlier [] before mid now q grow first = tt
+first_earlier (some ∷ rest) before mid now q grow first = record { logs = first.logs; are_logs = logs_earlier before mid now q first.logs grow first.are_logs }
 
 -- how much is read
 
@@ -109,8 +150,8 @@ logs_whole {q = q} {whole = whole} now start later f reads = record {
 
 -- why it isn't run
 
-pub refused_earlier : (spec : Spec) (moment : ℤ) (before mid now : Option Folder) (q : model.Query) (status : Status) → OnlyGrow before mid → IsRefusedAs spec moment mid now q status → IsRefusedAs spec moment before now q status
-refused_earlier spec moment before mid now q status grow r = record { fault = r.fault; status_is = r.status_is; stops = stops_earlier spec moment before mid now q r.fault grow r.stops }
+pub refused_earlier : (spec : Spec) (moment : ℤ) (before mid now : Option Folder) (q : model.Query) (status : Status) → OnlyGrow before mid → IsRefusedBehind spec moment mid now q status → IsRefusedBehind spec moment before now q status
+refused_earlier spec moment before mid now q status grow r = record { listed = r.listed; first = first_earlier (subqueries_of q) before mid r.listed q grow r.first; grew = OnlyGrow-trans before mid r.listed grow r.grew; grows = r.grows; refused = r.refused }
 
 pub given_failed : (fault : SubqueryFault) → ungiven fault ≡ LogsFault → fault ≡ F.Logs
 given_failed (F.BadName fault) e = absurd (cc)

@@ -9,7 +9,7 @@ ghost use Rattle.reports.specs.declared.status.Status.TheVariants as S;
 ghost use Rattle.checkpointed_command.specs.Giving.{subqueries_of};
 ghost use Rattle.checkpointed_command.specs.SubqueriesReading.{ReadsAll};
 ghost use Rattle.logparser_cli.specs.Logs.{IsUnlisted};
-ghost use Rattle.logparser_cli.specs.Subqueries.{IsFilled, IsPlainFault, IsRefusedAs, ungiven};
+ghost use Rattle.logparser_cli.specs.Subqueries.{IsFilled, IsListedFirst, IsPlainFault, IsRefusedAs, IsRefusedBehind, ungiven};
 
 use crate::listing::find_spans;
 use checkpointed_command::{SubqueryFault, reads_stdin, run_subqueries};
@@ -42,6 +42,7 @@ fn check_logs<L: Logs>(alloc: Global, logs: &mut L, query: &Query) -> Result<(),
     requires files { reads_stdin (names_in (query_of query.now)) ≡ false }
     ensures grows { OnlyGrow (L.folder logs.old) (L.folder logs.new) }
     ensures later { L.faults logs.old ≤ L.faults logs.new }
+    ensures found { OnOk result (IsListedFirst (subqueries_of (query_of query.now)) (L.folder logs.old) (L.folder logs.new) (query_of query.now)) }
     ensures refused { IfErr result (IsUnlisted (L.folder logs.new) (query_of query.now)) }
     ensures failed { IsErrOf result S.LogsFault → Rose (L.faults logs.old) (L.faults logs.new) }
     ensures given { L.given logs.new ≡ L.given logs.old }
@@ -98,7 +99,7 @@ pub(crate) fn prepare<L: Logs>(
     ensures grows { OnlyGrow (L.folder logs.old) (L.folder logs.new) }
     ensures later { L.faults logs.old ≤ L.faults logs.new }
     ensures fills { OnOk result (IsFilled spec.now moment (L.folder logs.old) (L.folder logs.new) (query_of query.old) (query_of query.new)) }
-    ensures refused { IfErr result (λ status. IsUnlisted (L.folder logs.new) (query_of query.old) status ⊎ IsRefusedAs spec.now moment (L.folder logs.old) (L.folder logs.new) (query_of query.old) status) }
+    ensures refused { IfErr result (λ status. IsUnlisted (L.folder logs.new) (query_of query.old) status × (L.given logs.new ≡ L.given logs.old) ⊎ IsRefusedBehind spec.now moment (L.folder logs.old) (L.folder logs.new) (query_of query.old) status) }
     ensures failed { IsErrOf result S.LogsFault → Rose (L.faults logs.old) (L.faults logs.new) }
     ensures read { ReadsAll (L.folder logs.new) (subqueries_of (query_of query.old)) (L.given logs.old) (L.given logs.new) }
 {

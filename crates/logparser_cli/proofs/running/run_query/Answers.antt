@@ -64,7 +64,7 @@ returns-in-Err-prepare-clause-answers g c =
     let template : Sections = sections_in (λ t. t.value) c.in-Ok.template in
     read_answers first new (g.L.Logs.folder c.args.logs.now) (g.L.Logs.faults c.args.logs.now) c.args.spec.now c.args.moment q template c.in-Err-prepare.status
     c.in-Ok.ensures.grows c.in-Ok.ensures.later c.in-Err-prepare.ensures.grows c.in-Ok.ensures.found
-    (unprepared first new template c.args.spec.now c.args.moment q c.in-Err-prepare.status (simp to_z-of_z at c.in-Err-prepare.ensures.refused) (record { out = refl; files = refl }) (λ e. c.in-Err-prepare.ensures.failed (ap Err e)))
+    (unprepared first new template c.args.spec.now c.args.moment q c.in-Err-prepare.status (g.L.Logs.given c.prepare.new.logs ≡ g.L.Logs.given c.find_template.new.logs) (simp to_z-of_z at c.in-Err-prepare.ensures.refused) (record { out = refl; files = refl }) (λ e. c.in-Err-prepare.ensures.failed (ap Err e)))
 
 pub returns-in-Err-prepare-clause-given : goal.returns-in-Err-prepare-clause-given
 returns-in-Err-prepare-clause-given g c =
