@@ -65,6 +65,9 @@ impl<F: Shape + Drop> TextOutput<F> {
         ensures format { F.text self.new.shape ≡ F.text self.old.shape }
         ensures at_once { F.at_once self.new.shape ≡ F.at_once self.old.shape }
         ensures small { OnOk result (length self.new.held < full) }
+        // Nothing is asked of the stage before so many bytes are held.
+        ensures quiet { OnOk result ((added : List ℕ) × (length (self.old.held ++ added) < full → stage.new ≡ stage.old)
+            × ((fresh : Bool) (names : List (List ℕ)) (rows : List (List Value)) (so_far : List ℕ) → F.has_text self.old.shape fresh names rows so_far → F.has_text self.new.shape fresh names (rows ++ row.now ∷ []) (so_far ++ added))) }
         ensures spares { Spares (kind_of G.state G.ended) self.old.target.output self.old.target.name self.old.target.base stage.old stage.new }
         ensures output { (self.new.target.output ≡ self.old.target.output) × (self.new.target.name ≡ self.old.target.name) × (self.new.target.base ≡ self.old.target.base) }
         ensures later { G.faults stage.old ≤ G.faults stage.new }
@@ -88,6 +91,8 @@ impl<F: Shape + Drop> TextOutput<F> {
             → GainsFront start stage.new (F.text self.old.shape fresh names (rows ++ more))) }
         ensures shape { self.new.shape ≡ self.old.shape }
         ensures small { OnOk result (length self.new.held < 4096) }
+        // Nothing is asked of the stage where no whole piece is held.
+        ensures quiet { length self.old.held < 4096 → stage.new ≡ stage.old }
         ensures spares { Spares (kind_of G.state G.ended) self.old.target.output self.old.target.name self.old.target.base stage.old stage.new }
         ensures output { (self.new.target.output ≡ self.old.target.output) × (self.new.target.name ≡ self.old.target.name) × (self.new.target.base ≡ self.old.target.base) }
         ensures later { G.faults stage.old ≤ G.faults stage.new }
