@@ -1,5 +1,5 @@
 -- What is kept stands for the rows given.
-use Rattle.std.proofs.Common.{◌≡◌, ◌≤◌, ◌+◌, ◌-◌, ◌&&◌, ◌++◌, ℕ, zero, suc, Bool, true, false, not, List, [], ◌∷◌, length, take, slice_get, nat_le, is_some, Option, Some, None, refl, sym, ◌∙◌, ap, subst, inl, inr, arith}
+use Rattle.std.proofs.Common.{◌≡◌, ◌≤◌, ◌+◌, ◌-◌, ◌&&◌, ◌++◌, ℕ, zero, suc, Bool, true, false, not, if◌then◌else◌, List, [], ◌∷◌, length, take, slice_get, nat_le, is_some, Option, Some, None, refl, sym, ◌∙◌, ap, subst, inl, inr, arith}
 use Rattle.std.proofs.lemmas.Bool.{cases_Bool, true≢false}
 use Rattle.std.proofs.lemmas.Bool.Decides.{nat_tests}
 use Rattle.std.proofs.lemmas.List.{length-take, length-append, take_all, take-append-le}
@@ -170,10 +170,18 @@ module _ (columns : List ℕ) (descending : Bool) (kept : List Row) (s : Orderin
   pub distinct_put : all_distinct columns descending kept' ≡ with_distinct s row
   distinct_put = ap (all_distinct columns descending) put ∙ ap (λ (t : Ordering). with_distinct t row) seen
 
+  -- a row that is there leaves all as it is
+  pub distinct_stays : list_any (same_row row) s.kept ≡ true → all_distinct columns descending kept' ≡ s
+  distinct_stays known = distinct_put ∙ ap (λ (b : Bool). record { finish = s.finish; kept = if b then s.kept else s.kept ++ row ∷ []; places = s.places }) known
+
   pub distinct_put_stands : (rows : List Row) → StandsFor s rows → StandsFor (all_distinct columns descending kept') (rows ++ row ∷ [])
   distinct_put_stands rows stands =
       let before : StandsFor (all_distinct columns descending kept) rows = subst (λ (t : Ordering). StandsFor t rows) (sym seen) stands in
       record { kept = distinct_stands kept rows row before.kept kept' put; places = omega arith }
+
+-- a row that isn't among those kept isn't there already
+pub not_known : (before s : Ordering) → before ≡ s → (row : Row) → list_any (same_row row) before.kept ≡ false → list_any (same_row row) s.kept ≡ true → ⊥
+not_known before s seen row new known = true≢false (sym known ∙ (sym (ap (λ (t : Ordering). list_any (same_row row) t.kept) seen) ∙ new))
 
 -- DISTINCT with TOP: a row that is kept, and one that isn't
 known_at : (columns : List ℕ) (descending : Bool) (top : Option ℕ) → is_some top ≡ true → (kept rows : List Row) (row : Row) → list_any (same_row row) kept ≡ true →

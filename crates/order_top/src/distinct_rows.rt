@@ -1,5 +1,6 @@
 // Rows without those that came before, sorted at the end.
 ghost use Rattle.std.specs.Prelude.{◌≡◌, ◌++◌, ◌∷◌, [], List, None, true, length, IfOk, IsOk, OnOk, OnErr};
+ghost use Rattle.std.specs.List.{list_any};
 ghost use Rattle.indexmap.specs.IndexSet.{insert_key};
 ghost use Rattle.order_top.specs.Finish.{Row, keys_at, same_row, finished};
 ghost use Rattle.order_top.specs.Ordering.{StandsFor, is_past};
@@ -73,6 +74,8 @@ impl DistinctRows {
         ensures err { OnErr result (self.new ≡ self.old) }
         // A row that goes behind as many as are wanted takes no memory, and leaves all as it is.
         ensures past { is_past self.old.finish (keys_at self.old.finish.columns row) self.old.kept ≡ true → IsOk result × (self.new ≡ self.old) }
+        // A row that is there already takes no memory, and leaves all as it is.
+        ensures known { list_any (same_row row) self.old.kept ≡ true → IsOk result × (self.new ≡ self.old) }
     {
         self.rows.insert(row)?;
         Ok(())

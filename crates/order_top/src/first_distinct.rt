@@ -113,6 +113,8 @@ impl FirstDistinct {
         ensures err { OnErr result (self.new ≡ self.old) }
         // A row that goes behind as many as are wanted takes no memory, and leaves all as it is.
         ensures past { is_past self.old.finish (keys_at self.old.finish.columns row) self.old.kept ≡ true → IsOk result × (self.new ≡ self.old) }
+        // A row that is there already takes no memory, and leaves all as it is.
+        ensures known { list_any (same_row row) self.old.kept ≡ true → IsOk result × (self.new ≡ self.old) }
     {
         if self.first.is_past_row(&row) {
             return Ok(());

@@ -159,6 +159,8 @@ impl FirstRows {
         ensures err { OnErr result (self.new ≡ self.old) }
         // A row that goes behind as many as are wanted takes no memory, and leaves all as it is.
         ensures past { is_past self.old.finish (keys_at self.old.finish.columns row) self.old.kept ≡ true → IsOk result × (self.new ≡ self.old) }
+        // No row is left out for being there already.
+        ensures plain { self.old.finish.distinct ≡ false }
     {
         if self.is_past_row(&row) {
             return Ok(());

@@ -1,6 +1,7 @@
 // The rows of a query on their way to its finish.
 ghost use Rattle.std.specs.Prelude.{◌≡◌, ◌≤◌, ◌<◌, ◌+◌, ◌^◌, ◌++◌, ◌∷◌, [], List, length, IfOk, IsOk, OnOk, OnErr, IfSome, IsTrue, true};
-ghost use Rattle.order_top.specs.Finish.{Row, keys_at, finished};
+ghost use Rattle.std.specs.List.{list_any};
+ghost use Rattle.order_top.specs.Finish.{Row, same_row, keys_at, finished};
 ghost use Rattle.order_top.specs.Ordering.{StandsFor, is_past};
 
 use crate::all_rows::AllRows;
@@ -68,6 +69,8 @@ impl Orderer {
         ensures err { OnErr result (self.new ≡ self.old) }
         // A row that goes behind as many as are wanted takes no memory, and leaves all as it is.
         ensures past { is_past self.old.finish (keys_at self.old.finish.columns row) self.old.kept ≡ true → IsOk result × (self.new ≡ self.old) }
+        // A row that is there already takes no memory, and leaves all as it is.
+        ensures known { self.old.finish.distinct ≡ true → list_any (same_row row) self.old.kept ≡ true → IsOk result × (self.new ≡ self.old) }
     {
         let alloc = self.alloc;
         match &mut self.store {
