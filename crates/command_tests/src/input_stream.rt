@@ -88,6 +88,7 @@ fn standard_input_may_fail(rt: HostRuntime) -> Result<(), Fail> {
 struct Lines<'a> {
     left: usize,
     given: u64,
+    reads: u64,
     faults: u64,
     shared: &'a Cell<u64>,
 }
@@ -97,9 +98,12 @@ impl<'a> Source for Lines<'a> {
 
     ghost given = { λ s. s.given };
 
+    ghost reads = { λ s. s.reads };
+
     ghost faults = { λ s. s.faults };
 
     fn read(&mut self, into: &mut [u8]) -> Result<usize, SourceFailed> {
+        self.reads = self.reads.saturating_add(1);
         let count = into.len().min(self.left);
         let Some(given) = self.given.checked_add(count as u64) else {
             self.faults = self.faults.saturating_add(1);
@@ -141,6 +145,7 @@ fn first_write(alloc: Global, query: &str) -> Result<Option<u64>, Fail> {
     let mut input = Lines {
         left: 1_048_576,
         given: 0,
+        reads: 0,
         faults: 0,
         shared: &shared,
     };

@@ -86,6 +86,8 @@ fn read_piece<R: LineReader, L: LogSource, T: Taker<O>, O>(
     ensures spends { OnOk result (Spends T.count page.old page.new ((page.new.splitter.place + length page.new.splitter.left) - (page.old.splitter.place + length page.old.splitter.left))) }
     ensures given { OnOk result (L.given logs.new + (page.old.splitter.place + length page.old.splitter.left) ≡ L.given logs.old + (page.new.splitter.place + length page.new.splitter.left)) }
     ensures once { L.given logs.new ≤ L.given logs.old + length chunk.new }
+    // The source is read at most once before what may go on is handed on.
+    ensures asked { L.reads logs.new ≤ L.reads logs.old + 1 }
     ensures given_at_most { OnErr result (L.given logs.new + (page.old.splitter.place + length page.old.splitter.left) ≤ L.given logs.old + span.now.listed) }
     ensures handed { OnOk result (T.handed_on page.new.taker out.new) }
     ensures later_logs { L.faults logs.old ≤ L.faults logs.new }

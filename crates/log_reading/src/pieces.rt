@@ -95,6 +95,7 @@ pub fn read_some<L: LogSource>(
     ensures below { IfOk result (λ count. at + count ≤ cut) }
     ensures ready { IfOk result (λ count. L.ready logs.new name.now (at + count)) }
     ensures given { MatchResult result (λ count. L.given logs.new ≡ L.given logs.old + count) (λ _. L.given logs.new ≡ L.given logs.old) }
+    ensures reads { L.reads logs.new ≤ L.reads logs.old + 1 }
     ensures cause { HasCause (L.faults logs.old) (L.faults logs.new) result }
 {
     let want = (cut - at).min(chunk.len() as u64) as usize;

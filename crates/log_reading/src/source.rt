@@ -13,6 +13,9 @@ pub trait LogSource {
     /// How many bytes it has given.
     ghost given: { Self → ℕ };
 
+    /// How often it was read.
+    ghost reads: { Self → ℕ };
+
     /// How often it has failed.
     ghost faults: { Self → ℕ };
 
@@ -32,6 +35,7 @@ pub trait LogSource {
         ensures bytes { IfOk result (λ count. AreBytesAt (folder self.new) name.now at count into.new) }
         ensures ready { IfOk result (λ count. ready self.new name.now (at + count)) }
         ensures given { MatchResult result (λ count. given self.new ≡ given self.old + count) (λ _. given self.new ≡ given self.old) }
+        ensures reads { reads self.new ≤ reads self.old + 1 }
         ensures cause { HasCause (faults self.old) (faults self.new) result };
 
     /// No call at all lets all stand.
@@ -50,6 +54,8 @@ impl<L: Logs> LogSource for L {
     ghost folder = { L.folder };
 
     ghost given = { L.given };
+
+    ghost reads = { L.reads };
 
     ghost faults = { L.faults };
 

@@ -23,6 +23,9 @@ folder_of left log = option_map stream_files (whole_of left log)
 abbrev pub given_of : {I : Type 0} → (I → ℕ) → InputLog I → ℕ
 given_of given log = given log.input.now
 
+abbrev pub reads_of : {I : Type 0} → (I → ℕ) → InputLog I → ℕ
+reads_of reads log = reads log.input.now
+
 -- that more was wanted of a stream than it may give is a fault too
 abbrev pub faults_of : {I : Type 0} → (I → ℕ) → InputLog I → ℕ
 faults_of faults log = faults log.input.now + (if log.is_refused then 1 else 0)

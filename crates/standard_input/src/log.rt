@@ -1,6 +1,6 @@
 // A stream as a log.
 ghost use Rattle.std.specs.Prelude.{◌≡◌, ◌^◌, [], true, false};
-ghost use Rattle.standard_input.specs.Streams.{faults_of, folder_of, given_of, Goes, goes_nowhere, goes_on, IsReady};
+ghost use Rattle.standard_input.specs.Streams.{faults_of, folder_of, given_of, Goes, goes_nowhere, goes_on, reads_of, IsReady};
 
 use crate::gone::Gone;
 use log_reading::LogSource;
@@ -62,6 +62,8 @@ impl<'i, I: Source> LogSource for InputLog<'i, I> {
     ghost folder = { folder_of I.left };
 
     ghost given = { given_of I.given };
+
+    ghost reads = { reads_of I.reads };
 
     ghost faults = { faults_of I.faults };
 
