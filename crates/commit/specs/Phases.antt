@@ -5,6 +5,7 @@ use Rattle.disk_model.specs.Disk.{Files, DiskState, Works, Shows, At, LeavesOnly
 use Rattle.disk_changes.specs.Changes.{Anything}
 use Rattle.ledger_model.specs.Entries.{Entry}
 use Rattle.ledger_model.specs.Grammar.{payload_of}
+use Rattle.ledger.specs.Outputs.{HoldsEntry}
 use Rattle.lp_outside.specs.Stages.{StageState}
 use Rattle.recovery_model.specs.Recovered.{RecoversEither}
 use Rattle.commit.specs.States.{IsSettled, IsSealed, IsOpen, HasStaged, Preserves, KeepsEither}
@@ -61,6 +62,10 @@ Sealed state c entry entries before after = IsSealed (disk_of state c) (ledger_o
 -- its gate is open
 abbrev pub Opened : {D : Type 0} → (D → DiskState) → Commit D → Entry → List Entry → Files → Type 0
 Opened state c entry entries files = IsOpen (disk_of state c) (ledger_of c) (stage_of c) c.place entry entries files × (c.next ≡ c.place + 10 + length (payload_of entry))
+
+-- the disk tells an entry between its gate and the place behind it
+abbrev pub ShowsEntry : {D : Type 0} → (D → DiskState) → Commit D → Entry → Type 0
+ShowsEntry state c entry = HoldsEntry (disk_of state c) (ledger_of c) (c.place + 10) c.next entry × (c.next ≡ c.place + 10 + length (payload_of entry))
 
 -- what a crash at each moment between two states of a commit left, and now leaves
 

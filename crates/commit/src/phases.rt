@@ -8,9 +8,12 @@ ghost use Rattle.ledger.specs.Written.{entry_of};
 ghost use Rattle.ledger.specs.Reader.{HasReason};
 ghost use Rattle.ledger.specs.declared.refused.LedgerRefused.TheVariants.{LedgerFault};
 ghost use Rattle.ledger.specs.declared.refused.Part2.{Part2};
-ghost use Rattle.recovery_model.specs.Recovered.{Recovers};
+ghost use Rattle.ledger.specs.declared.refused.Part2.TheVariants.{Stage};
+ghost use Rattle.recovery_model.specs.Recovered.{AreApart, Recovers};
 ghost use Rattle.commit.specs.States.{ShowsFiles, LiesIn};
 ghost use Rattle.commit.specs.Faults.{IsApart, FitsWhole, BreaksAt};
+ghost use Rattle.commit.specs.Redo.{frames_in};
+ghost use Rattle.commit.specs.Outputs.{AllStaged, BreaksOutputs};
 
 use crate::{CommitFault, finish, open_gate, seal, settle_disk, start};
 use lp_outside::{Disk, DiskFailed, Name};
@@ -52,7 +55,7 @@ impl<'d, D> Drop for Commit<'d, D> {
 }
 
 impl<'d, D: Disk> Commit<'d, D> {
-    ghost use Rattle.commit.specs.Phases.{disk_of, ledger_of, stage_of, staged_of, Same, Goes, Unsettled, Settled, Staged, Sealed, Opened, PreservesHeld, SettlesHeld, LeavesEither, HasFrames};
+    ghost use Rattle.commit.specs.Phases.{disk_of, ledger_of, stage_of, staged_of, Same, Goes, Unsettled, Settled, Staged, Sealed, Opened, ShowsEntry, PreservesHeld, SettlesHeld, LeavesEither, HasFrames};
 
     /// A disk that may have been stopped anywhere.
     pub fn new(disk: &'d mut D, files: CommitFiles) -> Self
@@ -155,6 +158,10 @@ impl<'d, D: Disk> Commit<'d, D> {
         ensures done { OnOk result ((entry : Entry) (entries : List Entry) (files : Files) → Opened D.state self.old entry entries files → Settled D.state self.new entries files) }
         // From the state that the gate leaves the bytes always fit.
         ensures no_fault { (part : Part2) (p : ℕ) → IsErrOf result (LedgerFault part p) → (entry : Entry) (entries : List Entry) (files : Files) → Opened D.state self.old entry entries files → ⊥ }
+        // The frames of each output fit, or those of the first that don't break at the place that is answered.
+        ensures fit { OnOk result ((entry : Entry) → ShowsEntry D.state self.old entry → AreApart (ledger_of self.old) (stage_of self.old) entry.outputs → AllStaged (frames_in (disk_of D.state self.old) (stage_of self.old) entry.staged) entry.outputs) }
+        ensures fault { (part : Part2) (p : ℕ) → IsErrOf result (LedgerFault part p) → (entry : Entry) → ShowsEntry D.state self.old entry → AreApart (ledger_of self.old) (stage_of self.old) entry.outputs
+            → (part ≡ Stage) × BreaksOutputs (frames_in (disk_of D.state self.old) (stage_of self.old) entry.staged) entry.outputs p }
         ensures reason { HasReason (D.faults self.old.disk.now) (D.faults self.new.disk.now) result }
     {
         let size = self.next.saturating_sub(self.place + 10);

@@ -72,9 +72,9 @@ impl DistinctRows {
         ensures places { self.new.places ≡ self.old.places }
         ensures stands { OnOk result ((rows : List Row) → StandsFor self.old rows → StandsFor self.new (rows ++ row ∷ [])) }
         ensures err { OnErr result (self.new ≡ self.old) }
-        // A row that goes behind as many as are wanted takes no memory, and leaves all as it is.
+        // A row that goes behind as many as are wanted fails for no want of memory, and leaves all as it is.
         ensures past { is_past self.old.finish (keys_at self.old.finish.columns row) self.old.kept ≡ true → IsOk result × (self.new ≡ self.old) }
-        // A row that is there already takes no memory, and leaves all as it is.
+        // A row that is there already fails for no want of memory, and leaves all as it is.
         ensures known { list_any (same_row row) self.old.kept ≡ true → IsOk result × (self.new ≡ self.old) }
     {
         self.rows.insert(row)?;
