@@ -19,6 +19,7 @@ a.log a;b
 g.log x;y;x;
 g.csv k,v;a,1;,2;a,3;
 k.csv k,v;
+d.csv w;b;
 s.csv n;9223372036854775807;1;
 n.csv n;-3;0;
 w.csv k,v;é€,1;a\t\u{7f},2;,3;
@@ -121,6 +122,9 @@ none -o:CSV \"SELECT k, GROUPING(k) AS r, COUNT(*), SUM(v) FROM g.csv GROUP BY k
 none -o:CSV \"SELECT k, GROUPING(k) AS r, COUNT(*), SUM(v) FROM k.csv GROUP BY k WITH ROLLUP\" => 0 k,r,COUNT(ALL *),SUM(ALL v);,1,0,;|Statistics:;-----------;Elements processed: 0;Elements output:    1;|
 none -o:CSV \"SELECT SUM(n) AS s, MAX(n) AS m FROM s.csv\" => 0 s,m;,9223372036854775807;|Statistics:;-----------;Elements processed: 2;Elements output:    1;|
 none -o:CSV \"SELECT AVG(n) AS a FROM n.csv\" => 0 a;-1;|Statistics:;-----------;Elements processed: 2;Elements output:    1;|
+none -o:CSV \"SELECT TOP 2 u, h FROM t.csv ORDER BY h DESC\" => 0 u,h;b,7;a,5;|Statistics:;-----------;Elements processed: 3;Elements output:    2;|
+none -o:CSV \"SELECT u FROM t.csv WHERE u NOT IN (SELECT w FROM d.csv)\" => 0 u;a;c;|Statistics:;-----------;Elements processed: 3;Elements output:    2;|
+none -o:CSV \"SELECT DISTINCT k FROM g.csv ORDER BY k\" => 0 k;\"\";a;|Statistics:;-----------;Elements processed: 3;Elements output:    2;|
 none \"SELECT k, v FROM g.csv GROUP BY k\" => 3 |logparser: query: at 10: not grouped;|";
 
 // Further ones, without statistics.
