@@ -2,7 +2,7 @@
 use headline::{
     a_call_is_a_run, calls_go_on, calls_reach_worlds, each_line_once_by_calls, run_in_world,
 };
-use lp_outside::Name;
+use lp_outside::{Logs, Name};
 use lp_values::{Bytes, Text, TextList};
 use memory_outside::{MemoryDisk, MemoryLogs, MemorySink, MemorySource, Torn, TornList};
 use std::alloc::Global;
@@ -59,8 +59,36 @@ fn told(
     Ok(told)
 }
 
-// A step in the life of logs and a disk: bytes are put behind a log or a file, a log goes, the next call of the disk but so many
-// fails, a run is made and tells something, or a file holds something.
+// Gives a log another name, and says whether it was there and the name was free.
+fn moves(logs: &mut MemoryLogs, from: &Name, to: &Name) -> Result<bool, Fail> {
+    if logs.length(from)?.is_some() && logs.length(to)?.is_none() {
+        logs.rename(from, to);
+        return Ok(true);
+    }
+    Ok(false)
+}
+
+// Whether a run ends where the disk stops behind so many calls. Of what it hadn't synced a crash makes sevens.
+fn stops(
+    alloc: Global,
+    logs: &mut MemoryLogs,
+    disk: &mut MemoryDisk,
+    typed: &str,
+    calls: u64,
+) -> Result<bool, Fail> {
+    disk.stop_after(calls);
+    let stopped = told(alloc, logs, disk, typed)?;
+    disk.crash(&torn_list(alloc, Torn::Filled(b'7'))?)?;
+    are_lines(alloc, stopped.as_slice(), "6 logparser: disk fault;")
+}
+
+// How many calls there are as dots.
+fn dots(text: &str) -> Result<u64, Fail> {
+    Ok(u64::try_from(text.len()).map_err(|_| "no calls")?)
+}
+
+// A step in the life of logs and a disk: bytes are put behind a log or a file, a log goes or is moved, the next call of the disk
+// but so many fails, a run is made and tells something, a run stops behind so many calls, or a file holds something.
 fn takes(
     alloc: Global,
     logs: &mut MemoryLogs,
@@ -72,8 +100,10 @@ fn takes(
     match verb {
         "log" => logs.put(&name(what)?, lines(alloc, text)?.as_slice())?,
         "gone" => logs.remove(&name(what)?),
+        "moves" => return moves(logs, &name(what)?, &name(text)?),
         "disk" => disk.put(&name(what)?, lines(alloc, text)?.as_slice())?,
-        "fails" => disk.fail(u64::try_from(text.len()).map_err(|_| "no call")?)?,
+        "fails" => disk.fail(dots(text)?)?,
+        "stops" => return stops(alloc, logs, disk, what, dots(text)?),
         "run" => return are_lines(alloc, told(alloc, logs, disk, what)?.as_slice(), text),
         "file" => return are_lines(alloc, disk.bytes(&name(what)?), text),
         "size" => {
@@ -130,9 +160,26 @@ run -stats:OFF -i:TEXTLINE -iCheckpoint:cp -iRotation:NUMBERS -fileMode:0 \"SELE
 log acc.log.2 => c;
 run -i:TEXTLINE -iCheckpoint:cp -iRotation:NUMBERS -fileMode:0 \"SELECT LogFilename, Text INTO o.csv FROM acc.log\" => 4 logparser: input: lost log acc.log.1;
 
-disk cp => ;;;;;;;;;;;;;;;;;;;
+log acc.log => a;
+run -stats:OFF -i:TEXTLINE -iCheckpoint:cp -iRotation:NUMBERS -fileMode:0 \"SELECT LogFilename, Text INTO o.csv FROM acc.log\" => 0 
+log acc.log => b;
+moves acc.log => acc.log.1
+log acc.log => c;
+stops -stats:OFF -i:TEXTLINE -iCheckpoint:cp -iRotation:NUMBERS -fileMode:0 \"SELECT LogFilename, Text INTO o.csv FROM acc.log\" => .......................................
+file o.csv => LogFilename,Text;acc.log.1,a;
+stops -stats:OFF -i:TEXTLINE -iCheckpoint:cp -iRotation:NUMBERS -fileMode:0 \"SELECT LogFilename, Text INTO o.csv FROM acc.log\" => ...............................................
+run -stats:OFF -i:TEXTLINE -iCheckpoint:cp -iRotation:NUMBERS -fileMode:0 \"SELECT LogFilename, Text INTO o.csv FROM acc.log\" => 0 
+file o.csv => LogFilename,Text;acc.log.1,a;acc.log.1,b;acc.log.2,c;
+
+disk cp => \0\0\0\0\0\0\0\0\0\0\0\0\0\0\0\0\0\0\0
 log a.log => a;
 run -i:TEXTLINE -iCheckpoint:cp \"SELECT Text INTO o.csv FROM a.log\" => 9 logparser: ledger: ledger at 0;
+
+log u_ex240305.log => #Software: Microsoft Internet Information Services 10.0;#Version: 1.0;#Date: 2024-03-05 00:00:01;#Fields: date time s-ip cs-method cs-uri-stem cs-uri-query s-port cs-username c-ip cs(User-Agent) cs(Referer) sc-status sc-substatus sc-win32-status time-taken;2024-03-05 00:00:01 10.0.0.4 GET /p1 - 80 - 203.0.113.7 Mozilla/5.0+(Windows+NT+10.0) - 200 0 0 10;2024-03-05 00:00:02 10.0.0.4 GET /p2 - 80 - 203.0.113.7 Mozilla/5.0+(Windows+NT+10.0) - 200 0 0 20;2024-03-05 00:00:03 10.0.0.4 GET /p3 - 80 - 203.0.113.7 Mozilla/5.0+(Windows+NT+10.0) - 304 0 0 30;2024-03-05 00:00:04 10.0.0.4 GET /p4 - 80 - 203.0.113.7 Mozilla/5.0+(Windows+NT+10.0) - 200 0 0 40;2024-03-05 00:00:05 10.0.0.4 GET /p5 - 80 - 203.0.113.7 Mozilla/5.0+(Windows+NT+10.0) - 404 0 0 50;2024-03-05 00:00:06 10.0.0.4 GET /p6 - 80 - 203.0.113.7 Mozilla/5.0+(Windows+NT+10.0) - 304 0 0 60;2024-03-05 00:00:07 10.0.0.4 GET /p7 - 80 - 203.0.113.7 Mozilla/5.0+(Windows+NT+10.0) - 200 0 0 70;2024-03-05 00:00:08 10.0.0.4 GET /p8 - 80 - 203.0.113.7 Mozilla/5.0+(Windows+NT+10.0) - 200 0 0 80;2024-03-05 00:00:09 10.0.0.4 GET /p9 - 80 - 203.0.113.7 Mozilla/5.0+(Windows+NT+10.0) - 304 0 0 90;2024-03-05 00:00:10 10.0.0.4 GET /p10 - 80 - 203.0.113.7 Mozilla/5.0+(Windows+NT+10.0) - 404 0 0 100;2024-03-05 00:00:11 10.0.0.4 GET /p11 - 80 - 203.0.113.7 Mozilla/5.0+(Windows+NT+10.0) - 200 0 0 110;2024-03-05 00:00:12 10.0.0.4 GET /p12 - 80 - 203.0.113.7 Mozilla/5.0+(Windows+NT+10.0) - 304 0 0 120;2024-03-05 00:00:13 10.0.0.4 GET /p13 - 80 - 203.0.113.7 Mozilla/5.0+(Windows+NT+10.0) - 200 0 0 130;2024-03-05 00:00:14 10.0.0.4 GET /p14 - 80 - 203.0.113.7 Mozilla/5.0+(Windows+NT+10.0) - 200 0 0 140;2024-03-05 00:00:15 10.0.0.4 GET /p15 - 80 - 203.0.113.7 Mozilla/5.0+(Windows+NT+10.0) - 404 0 0 150;2024-03-05 00:00:16 10.0.0.4 GET /p16 - 80 - 203.0.113.7 Mozilla/5.0+(Windows+NT+10.0) - 200 0 0 160;2024-03-05 00:00:17 10.0.0.4 GET /p17 - 80 - 203.0.113.7 Mozilla/5.0+(Windows+NT+10.0) - 200 0 0 170;2024-03-05 00:00:18 10.0.0.4 GET /p18 - 80 - 203.0.113.7 Mozilla/5.0+(Windows+NT+10.0) - 304 0 0 180;2024-03-05 00:00:19 10.0.0.4 GET /p19 - 80 - 203.0.113.7 Mozilla/5.0+(Windows+NT+10.0) - 200 0 0 190;2024-03-05 00:00:20 10.0.0.4 GET /p20 - 80 - 203.0.113.7 Mozilla/5.0+(Windows+NT+10.0) - 404 0 0 200;
+run -iCheckpoint:day.cp \"SELECT sc-status, COUNT(*) AS hits, AVG(time-taken) AS ms INTO day.csv FROM u_ex240305.log GROUP BY sc-status ORDER BY hits DESC\" => 0 Statistics:;-----------;Elements processed: 20;Elements output:    3;
+file day.csv => sc-status,hits,ms;200,11,101;304,5,96;404,4,125;
+run -iCheckpoint:day.cp \"SELECT sc-status, COUNT(*) AS hits, AVG(time-taken) AS ms INTO day.csv FROM u_ex240305.log GROUP BY sc-status ORDER BY hits DESC\" => 0 Statistics:;-----------;Elements processed: 0;Elements output:    0;
+file day.csv => sc-status,hits,ms;
 
 log r.log => 2001-01-01 00:00:01 /a;
 run -stats:OFF -i:IISW3C -iCheckpoint:cp -e:0 \"SELECT LogRow INTO o.csv FROM r.log\" => 8 logparser: parse errors: r.log row 1;
@@ -235,6 +282,8 @@ fn a_stopped_run_takes_each_line_once(rt: HostRuntime) -> Result<(), Fail> {
     Ok(())
 }
 
+const NONE: &str = "0 Statistics:;-----------;Elements processed: 0;Elements output:    0;";
+
 const COUNTED: &str =
     "-i:TEXTLINE -iCheckpoint:cp -fileMode:0 \"SELECT Index, Text INTO o.csv FROM a.log\"";
 
@@ -250,11 +299,7 @@ fn left_behind(alloc: Global, torn: Torn, call: u64) -> Result<u8, Fail> {
     disk.crash(&torn_list(alloc, torn)?)?;
     let last = told(alloc, &mut logs, &mut disk, COUNTED)?;
     let once = are_lines(alloc, disk.bytes(&name("o.csv")?), "Index,Text;1,a;2,b;")?;
-    let none = are_lines(
-        alloc,
-        last.as_slice(),
-        "0 Statistics:;-----------;Elements processed: 0;Elements output:    0;",
-    )?;
+    let none = are_lines(alloc, last.as_slice(), NONE)?;
     let one = are_lines(
         alloc,
         last.as_slice(),
@@ -288,8 +333,9 @@ fn the_gate_decides(rt: HostRuntime) -> Result<(), Fail> {
     Ok(())
 }
 
-const SPLIT: &str =
-    "-stats:OFF -iCheckpoint:cm -fileMode:0 \"SELECT k, v INTO out_*.csv FROM m.csv\"";
+const SPLIT: &str = "-iCheckpoint:cm -fileMode:0 \"SELECT k, v INTO out_*.csv FROM m.csv\"";
+
+const THREE: &str = "0 Statistics:;-----------;Elements processed: 3;Elements output:    3;";
 
 // Whether each of three outputs has its row once.
 fn are_split(alloc: Global, disk: &MemoryDisk) -> Result<bool, Fail> {
@@ -300,31 +346,55 @@ fn are_split(alloc: Global, disk: &MemoryDisk) -> Result<bool, Fail> {
     )
 }
 
-// A run into three outputs stops behind so many calls of the disk, the next one behind so many, as crashes leave them, and a third
-// is made. Whether the outputs are right then.
-fn splits_at(alloc: Global, call: u64, next: u64) -> Result<bool, Fail> {
+// A run into three outputs stops behind so many calls of the disk, and of what it hadn't synced a crash makes one byte.
+fn stop_split(
+    alloc: Global,
+    logs: &mut MemoryLogs,
+    disk: &mut MemoryDisk,
+    call: u64,
+    byte: u8,
+) -> Result<(), Fail> {
+    disk.stop_after(call);
+    let _told = told(alloc, logs, disk, SPLIT)?;
+    disk.crash(&torn_list(alloc, Torn::Filled(byte))?)?;
+    Ok(())
+}
+
+// Two runs into three outputs stop, each behind so many calls of the disk, and a third is made. Whether the outputs are right then
+// and it took the lines exactly where the first had not opened its gate; and whether the first stop tore the second output, and the
+// second the first.
+fn splits_at(alloc: Global, call: u64, next: u64) -> Result<(bool, bool), Fail> {
     let mut logs = MemoryLogs::new(alloc);
     let mut disk = MemoryDisk::new(alloc);
     logs.put(&name("m.csv")?, b"k,v\na,1\nb,2\nc,3\n")?;
-    disk.stop_after(call);
-    let _first = told(alloc, &mut logs, &mut disk, SPLIT)?;
-    disk.crash(&torn_list(alloc, Torn::Filled(0xA5))?)?;
-    disk.stop_after(next);
-    let _second = told(alloc, &mut logs, &mut disk, SPLIT)?;
-    disk.crash(&torn_list(alloc, Torn::Filled(0x37))?)?;
+    stop_split(alloc, &mut logs, &mut disk, call, 0xA5)?;
+    let open = disk
+        .bytes(&name("cm")?)
+        .starts_with(b"LPCHECKPOINT0001\xA5");
+    let second = disk.bytes(&name("out_b.csv")?).starts_with(b"\xA5");
+    stop_split(alloc, &mut logs, &mut disk, next, 0x37)?;
+    let first = disk.bytes(&name("out_a.csv")?).starts_with(b"7");
     let last = told(alloc, &mut logs, &mut disk, SPLIT)?;
-    Ok(are_lines(alloc, last.as_slice(), "0 ")? && are_split(alloc, &disk)?)
+    let counts = if open { NONE } else { THREE };
+    let right = are_lines(alloc, last.as_slice(), counts)? && are_split(alloc, &disk)?;
+    Ok((right, first && second))
 }
 
-// What a settling run does first, the cut, the write and the sync of an output among it, are fewer than eight calls.
+// A run that settles reads the ledger before it writes an output, so that the sync of the first one is its fifteenth call. The
+// write, the cut and the sync of an output are the three calls at which a stop tears it.
 #[test]
 fn a_run_that_stops_twice_splits_once(rt: HostRuntime) -> Result<(), Fail> {
-    for call in 0..48 {
-        for next in 0..8 {
-            let right = splits_at(rt.alloc(), call, next)?;
+    let mut torn = 0u64;
+    for call in 20..52 {
+        for next in 0..18 {
+            let (right, both) = splits_at(rt.alloc(), call, next)?;
             assert!(rt; right, "stops behind {call} and {next} calls");
+            if both {
+                torn = torn.saturating_add(1);
+            }
         }
     }
+    assert!(rt; torn == 9, "{torn}");
     Ok(())
 }
 
