@@ -382,6 +382,7 @@ fn run_words<L: Logs, D: Disk, I: Source, S: Sink, E: Sink>(
         (progress (L.folder logs.old) (L.given logs.old) (input_at I.left I.given I.faults input.old) (S.written out.old))
         (progress (L.folder logs.new) (L.given logs.new) (input_at I.left I.given I.faults input.new) (S.written out.new)) }
     ensures input { AsksNoInput (L.folder logs.old) (L.folder logs.new) words.now → input.new ≡ input.old }
+    ensures unread { IsSome (checkpoint_of words.now) → input.new ≡ input.old }
     ensures read { IsReadOn (input_at I.left I.given I.faults input.old) (input_at I.left I.given I.faults input.new) }
     ensures too_long { I.given input.new ≡ I.given input.old + 2 ^ 40 → result ≡ Status.InputTooLong }
     ensures silent { OnRefused result (err.new ≡ err.old) }
@@ -442,6 +443,7 @@ pub fn run<L: Logs, D: Disk, I: Source, S: Sink, E: Sink>(
         (progress (L.folder logs.old) (L.given logs.old) (input_at I.left I.given I.faults input.old) (S.written out.old))
         (progress (L.folder logs.new) (L.given logs.new) (input_at I.left I.given I.faults input.new) (S.written out.new)) }
     ensures input { AsksNoInput (L.folder logs.old) (L.folder logs.new) words.now → input.new ≡ input.old }
+    ensures unread { IsSome (checkpoint_of words.now) → input.new ≡ input.old }
     ensures read { IsReadOn (input_at I.left I.given I.faults input.old) (input_at I.left I.given I.faults input.new) }
     ensures too_long { I.given input.new ≡ I.given input.old + 2 ^ 40 → result ≡ Status.InputTooLong }
 {

@@ -35,6 +35,7 @@ returns-in_default g c =
       kept = c.run_words.ensures.kept;
       one_pass = subst (λ (moment : ℤ). (spec : Spec) (q : model.Query) (format : TableFormat) → AsksInPass (g.L.Logs.folder c.args.logs.now) (g.L.Logs.folder c.run_words.new.logs) c.args.words.now spec q format → IsOnePass spec moment q format (progress (g.L.Logs.folder c.args.logs.now) (g.L.Logs.given c.args.logs.now) (input_at g.I.Source.left g.I.Source.given g.I.Source.faults c.args.input.now) (g.S.Sink.written c.args.out.now)) (progress (g.L.Logs.folder c.run_words.new.logs) (g.L.Logs.given c.run_words.new.logs) (input_at g.I.Source.left g.I.Source.given g.I.Source.faults c.run_words.new.input) (g.S.Sink.written c.run_words.new.out))) (to_z-of_z _ c.args.moment c.ranges.moment) c.run_words.ensures.one_pass;
       input = c.run_words.ensures.input;
+      unread = c.run_words.ensures.unread;
       read = c.run_words.ensures.read;
       too_long = c.run_words.ensures.too_long;
     }
