@@ -26,7 +26,7 @@ pub settled_by : (old new : DiskState) (ledger stage l s : List ℕ) → ledger 
 settled_by old new ledger stage l s ledger_is stage_is near fits = record { settles = near_as old new ledger stage l s ledger_is stage_is near; fits = fits_as old ledger stage l s ledger_is stage_is fits }
 
 module _ {D : Type 0} (state : D → DiskState) (old settled : D) (ledger stage : List ℕ) where
-  asking_behind : (before now : Option Folder) (spec : Spec) (moment : ℤ) (status : Status) → IsUnread before now spec status ⊎ IsUnsuited before now spec status → IsRefusedBehind (state settled) ledger stage before now spec moment status
+  asking_behind : (before now : Option Folder) (spec : Spec) (moment : ℤ) (status : Status) → IsUnread before now spec status ⊎ IsUnsuited before now spec status → IsRefusedBehind state (state settled) ledger stage before now spec moment status
   asking_behind before now spec moment status (inl unread) = inl unread
   asking_behind before now spec moment status (inr unsuited) = inr (inl unsuited)
 
@@ -35,7 +35,7 @@ module _ {D : Type 0} (state : D → DiskState) (old settled : D) (ledger stage 
   refused_asking before now spec moment status by why = inr (record { settled = settled; settles = by; refused = asking_behind before now spec moment status why })
 
   pub refused_settled : (before mid now : Option Folder) (spec : Spec) (moment : ℤ) (text : List ℕ) (q : Query) (result : Result Counts Status) → IsSettledBy (state old) (state settled) ledger stage → OnlyGrow before mid → HoldsQuery before mid spec.query text q
-      → IfErr result (λ status. (since : Option Folder) → OnlyGrow since mid → HoldsQuery since mid spec.query text q → IsRefusedBehind (state settled) ledger stage since now spec moment status)
+      → IfErr result (λ status. (since : Option Folder) → OnlyGrow since mid → HoldsQuery since mid spec.query text q → IsRefusedBehind state (state settled) ledger stage since now spec moment status)
       → IfErr result (IsRefused state old ledger stage before now spec moment)
   refused_settled before mid now spec moment text q (Ok counts) by grow holds refused = tt
   refused_settled before mid now spec moment text q (Err status) by grow holds refused = inr (record { settled = settled; settles = by; refused = refused before grow holds })

@@ -148,11 +148,11 @@ module _ {D : Type 0} (state : D → DiskState)
       record { step = subst (λ (e : Ending). RunStep meaning setting (asked_by_request request) e before after (state old) (state new)) ends.0 s.step; undamaged = ends.1; counted = tt }
 
 -- why a run that was prepared comes to no counts, from the moment on at which its query was read
-pub refused_behind : (disk : DiskState) (ledger stage : List ℕ) (old mid now : Option Folder) (spec : Spec) (moment : ℤ) (text : List ℕ) (q : Query) (bytes : List ℕ) (template : Sections) (result : Result Counts Status)
-    → OnlyGrow old mid → OnlyGrow mid now → IsFit q → FindsTemplate old mid spec q bytes template → IfErr result (λ status. IsCountless disk ledger stage mid now (request_of spec q text bytes moment) template status ⊎ (status ≡ S.Memory))
-    → IfErr result (λ status. (since : Option Folder) → OnlyGrow since old → HoldsQuery since old spec.query text q → IsRefusedBehind disk ledger stage since now spec moment status)
-refused_behind disk ledger stage old mid now spec moment text q bytes template (Ok counts) grow grown fit found none = tt
-refused_behind disk ledger stage old mid now spec moment text q bytes template (Err status) grow grown fit found (inl countless) = λ since early holds. inr (inr (inr (inl (record {
+pub refused_behind : {D : Type 0} (state : D → DiskState) (disk : DiskState) (ledger stage : List ℕ) (old mid now : Option Folder) (spec : Spec) (moment : ℤ) (text : List ℕ) (q : Query) (bytes : List ℕ) (template : Sections) (result : Result Counts Status)
+    → OnlyGrow old mid → OnlyGrow mid now → IsFit q → FindsTemplate old mid spec q bytes template → IfErr result (λ status. IsCountless state disk ledger stage mid now (request_of spec q text bytes moment) template status ⊎ (status ≡ S.Memory))
+    → IfErr result (λ status. (since : Option Folder) → OnlyGrow since old → HoldsQuery since old spec.query text q → IsRefusedBehind state disk ledger stage since now spec moment status)
+refused_behind state disk ledger stage old mid now spec moment text q bytes template (Ok counts) grow grown fit found none = tt
+refused_behind state disk ledger stage old mid now spec moment text q bytes template (Err status) grow grown fit found (inl countless) = λ since early holds. inr (inr (inr (inl (record {
   text = text;
   q = q;
   bytes = bytes;
@@ -166,7 +166,7 @@ refused_behind disk ledger stage old mid now spec moment text q bytes template (
   since = OnlyGrow-trans since old mid early grow;
   countless = countless;
 }))))
-refused_behind disk ledger stage old mid now spec moment text q bytes template (Err status) grow grown fit found (inr memory) = λ since early holds. inr (inr (inr (inr memory)))
+refused_behind state disk ledger stage old mid now spec moment text q bytes template (Err status) grow grown fit found (inr memory) = λ since early holds. inr (inr (inr (inr memory)))
 
 -- or what it did where it comes to them
 pub counted_behind : {D : Type 0} (state : D → DiskState) (disk : DiskState) (ledger stage : List ℕ) (old mid now : Option Folder) (spec : Spec) (moment : ℤ) (text : List ℕ) (q : Query) (bytes : List ℕ) (template : Sections) (result : Result Counts Status)

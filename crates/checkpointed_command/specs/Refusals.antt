@@ -63,14 +63,14 @@ pub record HasNoTemplate (before now : Option Folder) (spec : Spec) (status : St
   pub status_is : status ≡ untemplated fault
 
 -- a run of a request over the logs gives no counts
-pub record IsCountless (disk : DiskState) (ledger stage : List ℕ) (began now : Option Folder) (request : Request) (template : Sections) (status : Status) : Type 0 where
+pub record IsCountless {D : Type 0} (state : D → DiskState) (disk : DiskState) (ledger stage : List ℕ) (began now : Option Folder) (request : Request) (template : Sections) (status : Status) : Type 0 where
   pub stop : LedgerStop
-  pub why : IsWithoutCounts disk ledger stage (rule_of request.spec.rotation) (input_text (input_for request.spec request.q)) (map (λ name. name.text) (names_in request.q)) request template began now stop
+  pub why : IsWithoutCounts state disk ledger stage (rule_of request.spec.rotation) (input_text (input_for request.spec request.q)) (map (λ name. name.text) (names_in request.q)) request template began now stop
   pub damage : IsAtDamage disk ledger stage stop
   pub answers : IsAnswerTo stop status
 
 -- all that comes before the logs was read, and the run over them gives no counts
-pub record IsUncounted (disk : DiskState) (ledger stage : List ℕ) (before now : Option Folder) (spec : Spec) (moment : ℤ) (status : Status) : Type 0 where
+pub record IsUncounted {D : Type 0} (state : D → DiskState) (disk : DiskState) (ledger stage : List ℕ) (before now : Option Folder) (spec : Spec) (moment : ℤ) (status : Status) : Type 0 where
   pub text : List ℕ
   pub q : Query
   pub bytes : List ℕ
@@ -78,18 +78,18 @@ pub record IsUncounted (disk : DiskState) (ledger stage : List ℕ) (before now 
   pub prepared : IsPrepared before now spec text q bytes template
   pub began : Option Folder
   pub since : OnlyGrow before began
-  pub countless : IsCountless disk ledger stage began now (request_of spec q text bytes moment) template status
+  pub countless : IsCountless state disk ledger stage began now (request_of spec q text bytes moment) template status
 
 -- why a run that begins with a settled disk comes to no counts
-abbrev pub IsRefusedBehind : DiskState → List ℕ → List ℕ → Option Folder → Option Folder → Spec → ℤ → Status → Type 0
-IsRefusedBehind disk ledger stage before now spec moment status =
-    IsUnread before now spec status ⊎ IsUnsuited before now spec status ⊎ HasNoTemplate before now spec status ⊎ IsUncounted disk ledger stage before now spec moment status ⊎ (status ≡ S.Memory)
+abbrev pub IsRefusedBehind : {D : Type 0} → (D → DiskState) → DiskState → List ℕ → List ℕ → Option Folder → Option Folder → Spec → ℤ → Status → Type 0
+IsRefusedBehind state disk ledger stage before now spec moment status =
+    IsUnread before now spec status ⊎ IsUnsuited before now spec status ⊎ HasNoTemplate before now spec status ⊎ IsUncounted state disk ledger stage before now spec moment status ⊎ (status ≡ S.Memory)
 
 -- the disk was settled, and the run is refused then
 pub record IsRefusedThen {D : Type 0} (state : D → DiskState) (old : D) (ledger stage : List ℕ) (before now : Option Folder) (spec : Spec) (moment : ℤ) (status : Status) : Type 0 where
   pub settled : D
   pub settles : IsSettledBy (state old) (state settled) ledger stage
-  pub refused : IsRefusedBehind (state settled) ledger stage before now spec moment status
+  pub refused : IsRefusedBehind state (state settled) ledger stage before now spec moment status
 
 -- why a run with a checkpoint comes to no counts
 abbrev pub IsRefused : {D : Type 0} → (D → DiskState) → D → List ℕ → List ℕ → Option Folder → Option Folder → Spec → ℤ → Status → Type 0

@@ -1,7 +1,7 @@
 -- Why a run was refused, and which damage stopped it or that none did, from what its calls tell.
 use Rattle.std.proofs.Common.{◌≡◌, ℕ, true, List, Option, Err, refl, sym, subst}
 use Rattle.std.specs.Result.{IsErrOf}
-use Rattle.commit.specs.Faults.{BreaksAt, IsApart}
+use Rattle.commit.specs.Faults.{BreaksAt, FitsWhole, IsApart}
 use Rattle.commit.specs.Resume.{CanSettle}
 use Rattle.disk_model.specs.Disk.{DiskState, Files, IsImage}
 use Rattle.run_entry.specs.Executed.{IsParseError, IsUnplaced, IsUnplanned}
@@ -21,7 +21,7 @@ use Rattle.ledger.specs.declared.refused.LedgerRefused.{LedgerRefused}
 use Rattle.ledger.specs.declared.refused.LedgerRefused.TheVariants as C
 use Rattle.ledger.specs.declared.refused.Part2.{Part2}
 use Rattle.log_reading.specs.declared.span.Span.{Span}
-use Rattle.checkpointed_run.specs.Reasons.{IsDamage, RefusedFor, StopsAtDamage}
+use Rattle.checkpointed_run.specs.Reasons.{FitsAsRead, IsDamage, RefusedFor, StopsAtDamage}
 use Rattle.checkpointed_run.specs.Refusals.{IsNotBegun}
 use Rattle.checkpointed_run.specs.Steps.{IsDamaged}
 use Rattle.run_entry.specs.SubqueryFault.{SubqueryFault}
@@ -51,24 +51,31 @@ pub damage_is : {T : Type 0} (disk : DiskState) (ledger stage : List ℕ) (fault
 damage_is disk ledger stage C.DiskFault breaks = tt
 damage_is disk ledger stage (C.LedgerFault part at) breaks = breaks part at refl
 
--- was broken before some reads
+-- what fits fitted before some reads
+pub fits_rested : (a b : DiskState) (ledger stage : List ℕ) → Rests a b → FitsAsRead b ledger stage → FitsAsRead a ledger stage
+fits_rested a b ledger stage rests fits = λ tells apart.
+    let shows = rests.shows tells in
+    let same : b.seen ≡ a.seen = λ i name. shows.seen name i in
+    subst (λ (seen : Files). FitsWhole ledger stage seen) same (fits shows.tells (subst (λ (seen : Files). IsApart ledger stage seen) (sym same) apart))
+
+-- and what breaks was broken
 pub damage_rested : (a b : DiskState) (ledger stage : List ℕ) → Rests a b → (stop : RunStop) → StopsAtDamage b ledger stage stop → StopsAtDamage a ledger stage stop
-damage_rested a b ledger stage rests (R.Subquery fault) is = tt
-damage_rested a b ledger stage rests (R.Refused fault) is = tt
+damage_rested a b ledger stage rests (R.Subquery fault) is = fits_rested a b ledger stage rests is
+damage_rested a b ledger stage rests (R.Refused fault) is = fits_rested a b ledger stage rests is
 damage_rested a b ledger stage rests (R.BeforeGate C.DiskFault) is = tt
 damage_rested a b ledger stage rests (R.BeforeGate (C.LedgerFault part at)) is = λ tells apart.
     let shows = rests.shows tells in
     let same : b.seen ≡ a.seen = λ i name. shows.seen name i in
     subst (λ (seen : Files). BreaksAt ledger stage seen part at) same (is shows.tells (subst (λ (seen : Files). IsApart ledger stage seen) (sym same) apart))
-damage_rested a b ledger stage rests (R.FromGate fault) is = tt
+damage_rested a b ledger stage rests (R.FromGate fault) is = fits_rested a b ledger stage rests is
 
--- a run that tells no damage has found none
-pub not_damaged : (disk : DiskState) (ledger stage : List ℕ) (stop : RunStop) → (IsDamagedStop stop → ⊥) → StopsAtDamage disk ledger stage stop
-not_damaged disk ledger stage (R.Subquery fault) none = tt
-not_damaged disk ledger stage (R.Refused fault) none = tt
-not_damaged disk ledger stage (R.BeforeGate C.DiskFault) none = tt
-not_damaged disk ledger stage (R.BeforeGate (C.LedgerFault part at)) none = absurd (none tt)
-not_damaged disk ledger stage (R.FromGate fault) none = tt
+-- a run that tells no damage has found none, where what was read fits
+pub not_damaged : (disk : DiskState) (ledger stage : List ℕ) (stop : RunStop) → (IsDamagedStop stop → ⊥) → FitsAsRead disk ledger stage → StopsAtDamage disk ledger stage stop
+not_damaged disk ledger stage (R.Subquery fault) none fits = fits
+not_damaged disk ledger stage (R.Refused fault) none fits = fits
+not_damaged disk ledger stage (R.BeforeGate C.DiskFault) none fits = tt
+not_damaged disk ledger stage (R.BeforeGate (C.LedgerFault part at)) none fits = absurd (none tt)
+not_damaged disk ledger stage (R.FromGate fault) none fits = fits
 
 -- a fault that was counted behind a moment was counted behind an earlier one
 pub reason_earlier : (logs disk since : Type 0) (stop : RunStop) → (disk → since) → HasReason logs disk stop → HasReason logs since stop

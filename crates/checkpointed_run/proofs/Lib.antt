@@ -23,6 +23,7 @@ pub mod Rested
 pub mod Loaded
 pub mod FromLoad
 pub mod Causes
+pub mod Stopped
 pub mod OverDisk
 pub mod Asking
 pub mod Subqueries

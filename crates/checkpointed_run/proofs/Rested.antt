@@ -96,6 +96,25 @@ module _ {D : Type 0} (state : D → DiskState)
   settles_rested settles rests = settles_then (state first) (state old) (state now) ledger stage (λ t image honest le is. counts_now old t image honest le is) settles
       (rested (state old) (state now) ledger stage (λ image honest left. only_now old image honest left) settles.again (rests.crash settles.again.honest))
 
+-- a disk that is read, and then settled
+module _ {D : Type 0} (state : D → DiskState)
+    (only_now : (disk : D) (image : Files) → (state disk).honest → (state disk).left_since (state disk).moment image → IsImage (state disk) image)
+    (counts_now : (disk : D) (t : ℕ) (image : Files) → (state disk).honest → t ≤ (state disk).moment → IsImage (state disk) image → (state disk).left_since t image)
+    (files : CommitFiles) (old mid : D) (rests : Rests (state old) (state mid)) where
+  -- reads alone settle it at most
+  pub settles_read : CanSettle (state old) files.ledger files.stage → Settles (state old) (state mid) files.ledger files.stage
+  settles_read can = rested (state old) (state mid) files.ledger files.stage (λ image honest left. only_now old image honest left) can (rests.crash can.honest)
+
+  -- and so does a commit behind them that settles it at most
+  pub settles_held : (new : D) (first last : Commit D) → first.files ≡ files → first.disk.now ≡ mid → new ≡ last.disk.now → (Unsettled state first → SettlesHeld state first last) → CanSettle (state old) files.ledger files.stage → Settles (state old) (state new) files.ledger files.stage
+  settles_held new first last files_are mid_is new_is settles can =
+      let read = settles_read can in
+      let held : Unsettled state first = subst (λ (f : CommitFiles). CanSettle (disk_of state first) f.ledger f.stage) (sym files_are) (subst (λ (d : D). CanSettle (state d) files.ledger files.stage) (sym mid_is) read.again) in
+      let of_files : Settles (disk_of state first) (disk_of state last) files.ledger files.stage = subst (λ (f : CommitFiles). Settles (disk_of state first) (disk_of state last) f.ledger f.stage) files_are (settles held) in
+      let of_old : Settles (state mid) (disk_of state last) files.ledger files.stage = subst (λ (d : D). Settles (state d) (disk_of state last) files.ledger files.stage) mid_is of_files in
+      let of_new : Settles (state mid) (state new) files.ledger files.stage = subst (λ (d : D). Settles (state mid) (state d) files.ledger files.stage) (sym new_is) of_old in
+      settles_then (state old) (state mid) (state new) files.ledger files.stage (λ t image honest le is. counts_now mid t image honest le is) read of_new
+
 -- what holds of a run from a disk on holds from one on that was settled since
 module _ {D : Type 0} (state : D → DiskState)
     (counts_now : (disk : D) (t : ℕ) (image : Files) → (state disk).honest → t ≤ (state disk).moment → IsImage (state disk) image → (state disk).left_since t image)
@@ -152,6 +171,7 @@ module _ {D : Type 0} (state : D → DiskState)
     comes = comes_behind request template early began told spans is.gate is.entry counts front is.comes;
     opens = is.opens;
     done = is.done;
+    finished = is.finished;
   }
 
   -- or was stopped there
@@ -164,4 +184,5 @@ module _ {D : Type 0} (state : D → DiskState)
     comes = comes_behind request template early began told spans is.gate is.entry is.counts front is.comes;
     opens = is.opens;
     undamaged = is.undamaged;
+    damage = is.damage;
   }

@@ -1,7 +1,7 @@
 -- Why a run over spans is refused before its gate.
 use Rattle.std.specs.Prelude.{ℕ, true, List, Option}
 use Rattle.std.specs.Bool.{⊤}
-use Rattle.commit.specs.Faults.{BreaksAt, IsApart}
+use Rattle.commit.specs.Faults.{BreaksAt, FitsWhole, IsApart}
 use Rattle.disk_model.specs.Disk.{DiskState}
 use Rattle.run_entry.specs.Executed.{IsParseError, IsUnplaced, IsUnplanned}
 use Rattle.run_entry.specs.Formats.{log_format}
@@ -50,8 +50,13 @@ abbrev pub IsDamage : DiskState → List ℕ → List ℕ → LedgerRefused → 
 IsDamage disk ledger stage C.DiskFault = ⊤
 IsDamage disk ledger stage (C.LedgerFault part at) = disk.tells → IsApart ledger stage disk.seen → BreaksAt ledger stage disk.seen part at
 
+-- what a read gave fits, likewise
+abbrev pub FitsAsRead : DiskState → List ℕ → List ℕ → Type 0
+FitsAsRead disk ledger stage = disk.tells → IsApart ledger stage disk.seen → FitsWhole ledger stage disk.seen
+
+-- a damage of what a read gave is told before anything else that stops a run, and only where it breaks
 abbrev pub StopsAtDamage : DiskState → List ℕ → List ℕ → RunStop → Type 0
-StopsAtDamage disk ledger stage (R.Subquery fault) = ⊤
-StopsAtDamage disk ledger stage (R.Refused fault) = ⊤
+StopsAtDamage disk ledger stage (R.Subquery fault) = FitsAsRead disk ledger stage
+StopsAtDamage disk ledger stage (R.Refused fault) = FitsAsRead disk ledger stage
 StopsAtDamage disk ledger stage (R.BeforeGate fault) = IsDamage disk ledger stage fault
-StopsAtDamage disk ledger stage (R.FromGate fault) = ⊤
+StopsAtDamage disk ledger stage (R.FromGate fault) = FitsAsRead disk ledger stage

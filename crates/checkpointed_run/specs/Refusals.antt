@@ -2,7 +2,9 @@
 use Rattle.std.specs.Prelude.{◌≡◌, ℕ, List, Option, None}
 use Rattle.std.specs.Bool.{⊤}
 use Rattle.disk_model.specs.Disk.{DiskState}
-use Rattle.ledger.specs.Reader.{Holds}
+use Rattle.commit.specs.declared.phases.Commit.{Commit}
+use Rattle.commit.specs.Phases.{disk_of, ledger_of, stage_of}
+use Rattle.ledger.specs.Reader.{Holds, Rests}
 use Rattle.log_reading.specs.declared.span.Span.{Span}
 use Rattle.lp_model.specs.Outside.{Folder, OnlyGrow}
 use Rattle.positions.specs.Loads.{RefusedLoad}
@@ -15,8 +17,9 @@ use Rattle.tpl_output.specs.Sections.{Sections}
 use Rattle.run_entry.specs.Entries.{Request}
 use Rattle.checkpointed_run.specs.Begun.{HasClash, HasNoSpans, HasSpans}
 use Rattle.checkpointed_run.specs.Clash.{first_clash}
+use Rattle.checkpointed_run.specs.Committed.{StopsAtGate}
 use Rattle.checkpointed_run.specs.Reasons.{StopsAtDamage, StopsFor}
-use Rattle.checkpointed_run.specs.Stops.{HasReason}
+use Rattle.checkpointed_run.specs.Stops.{HasReason, IsBeforeGate, IsFromGate}
 use Rattle.checkpointed_run.specs.declared.running.RunStop.{RunStop}
 use Rattle.checkpointed_run.specs.declared.over.LedgerStop.{LedgerStop}
 use Rattle.checkpointed_run.specs.declared.over.LedgerStop.TheVariants as L
@@ -44,22 +47,41 @@ HasCauses logs disk (L.Clash name) = ⊤
 HasCauses logs disk (L.Run stop) = HasReason logs disk stop
 HasCauses logs disk L.Memory = ⊤
 
+-- A run over spans was stopped from its gate on: by one commit, over what reads alone left of the disk, it was carried out and its entry
+-- sealed, and a damage that it was told behind the gate is one of the frames there.
+pub record StopsBehind {D : Type 0} (state : D → DiskState) (disk : DiskState) (ledger stage : List ℕ) (request : Request) (template : Sections) (began told : Option Folder) (spans : List Span) (stop : RunStop) : Type 0 where
+  pub first : Commit D
+  pub last : Commit D
+  pub ledger_is : ledger_of first ≡ ledger
+  pub stage_is : stage_of first ≡ stage
+  pub rests : Rests disk (disk_of state first)
+  pub stops : StopsAtGate state request template began told spans first last stop
+
 -- a run over the spans that the logs have was stopped
-pub record HasStopped (disk : DiskState) (ledger stage : List ℕ) (rotation : Rotation) (input : List ℕ) (texts : List (List ℕ)) (request : Request) (template : Sections) (before now : Option Folder) (stop : RunStop) : Type 0 where
+pub record HasStopped {D : Type 0} (state : D → DiskState) (disk : DiskState) (ledger stage : List ℕ) (rotation : Rotation) (input : List ℕ) (texts : List (List ℕ)) (request : Request) (template : Sections) (before now : Option Folder) (stop : RunStop) : Type 0 where
   pub listed : Option Folder
   pub grows : OnlyGrow listed now
   pub spans : List Span
   pub has : HasSpans disk ledger rotation input texts before listed spans
   pub free : first_clash ledger stage spans ≡ None
   pub stops : StopsFor request template listed now spans stop
+  pub behind : IsFromGate stop → StopsBehind state disk ledger stage request template listed now spans stop
 
--- why there are no counts: the ledger that a read gives is damaged, the logs behind FROM have no spans from where its runs left them, one of them is the ledger or the stage, or the run over them is stopped
-abbrev pub IsWithoutCounts : DiskState → List ℕ → List ℕ → Rotation → List ℕ → List (List ℕ) → Request → Sections → Option Folder → Option Folder → LedgerStop → Type 0
-IsWithoutCounts disk ledger stage rotation input texts request template before now (L.Ledger fault) = (file : List ℕ) → Holds disk ledger file → RefusedLoad file fault
-IsWithoutCounts disk ledger stage rotation input texts request template before now (L.Logs fault) = HasNoSpans disk ledger rotation input texts before now fault
-IsWithoutCounts disk ledger stage rotation input texts request template before now (L.Clash name) = HasClash disk ledger stage rotation input texts before now name
-IsWithoutCounts disk ledger stage rotation input texts request template before now (L.Run stop) = HasStopped disk ledger stage rotation input texts request template before now stop
-IsWithoutCounts disk ledger stage rotation input texts request template before now L.Memory = ⊤
+-- why there are no counts: the ledger that a read gives is damaged, the logs behind FROM have no spans from where its runs left them, one of them is the ledger or the stage, or the run over them is stopped; memory is wanted only where the ledger fits
+abbrev pub IsWithoutCounts : {D : Type 0} → (D → DiskState) → DiskState → List ℕ → List ℕ → Rotation → List ℕ → List (List ℕ) → Request → Sections → Option Folder → Option Folder → LedgerStop → Type 0
+IsWithoutCounts state disk ledger stage rotation input texts request template before now (L.Ledger fault) = (file : List ℕ) → Holds disk ledger file → RefusedLoad file fault
+IsWithoutCounts state disk ledger stage rotation input texts request template before now (L.Logs fault) = HasNoSpans disk ledger rotation input texts before now fault
+IsWithoutCounts state disk ledger stage rotation input texts request template before now (L.Clash name) = HasClash disk ledger stage rotation input texts before now name
+IsWithoutCounts state disk ledger stage rotation input texts request template before now (L.Run stop) = HasStopped state disk ledger stage rotation input texts request template before now stop
+IsWithoutCounts state disk ledger stage rotation input texts request template before now L.Memory = (file : List ℕ) → Holds disk ledger file → RefusedLoad file P.Memory
+
+-- it was stopped before its gate, or hadn't begun
+abbrev pub IsStoppedBefore : LedgerStop → Type 0
+IsStoppedBefore (L.Ledger fault) = ⊤
+IsStoppedBefore (L.Logs fault) = ⊤
+IsStoppedBefore (L.Clash name) = ⊤
+IsStoppedBefore (L.Run stop) = IsBeforeGate stop
+IsStoppedBefore L.Memory = ⊤
 
 -- a damage that the run is told behind the load of the ledger
 abbrev pub IsAtDamage : DiskState → List ℕ → List ℕ → LedgerStop → Type 0
@@ -75,4 +97,4 @@ IsNotBegun disk ledger rotation input texts before now (L.Ledger fault) = (file 
 IsNotBegun disk ledger rotation input texts before now (L.Logs fault) = HasNoSpans disk ledger rotation input texts before now fault
 IsNotBegun disk ledger rotation input texts before now (L.Clash name) = ⊥
 IsNotBegun disk ledger rotation input texts before now (L.Run stop) = ⊥
-IsNotBegun disk ledger rotation input texts before now L.Memory = ⊤
+IsNotBegun disk ledger rotation input texts before now L.Memory = (file : List ℕ) → Holds disk ledger file → RefusedLoad file P.Memory

@@ -1,5 +1,5 @@
 // A run over the logs behind FROM, from where the runs of a ledger left them.
-ghost use Rattle.std.specs.Prelude.{◌≡◌, ◌≤◌, ◌+◌, ◌++◌, true, length, map, codes, None, Some, Option, IfOk, IfErr, IsSome};
+ghost use Rattle.std.specs.Prelude.{◌≡◌, ◌≤◌, ◌+◌, ◌++◌, true, length, map, codes, None, Some, Option, OnOk, IfOk, IfErr, IsSome};
 ghost use Rattle.lp_model.specs.Outside.{Folder, Rose, OnlyGrow, Told, bytes_in};
 ghost use Rattle.command_words.specs.Table.{IsInRange};
 ghost use Rattle.command_words.specs.declared.formats.OutputFormat.TheVariants as O;
@@ -19,8 +19,8 @@ ghost use Rattle.checkpointed_run.specs.Begun.{GivesSpans, HasSpans};
 ghost use Rattle.checkpointed_run.specs.Counted.{HasRun};
 ghost use Rattle.checkpointed_run.specs.Clash.{first_clash};
 ghost use Rattle.checkpointed_run.specs.Reading.{ReadsThen};
-ghost use Rattle.checkpointed_run.specs.Reasons.{StopsAtDamage, StopsFor};
-ghost use Rattle.checkpointed_run.specs.Refusals.{HasCauses, IsAtDamage, IsNotBegun, IsWithoutCounts};
+ghost use Rattle.checkpointed_run.specs.Reasons.{FitsAsRead, StopsAtDamage, StopsFor};
+ghost use Rattle.checkpointed_run.specs.Refusals.{HasCauses, IsAtDamage, IsNotBegun, IsStoppedBefore, IsWithoutCounts};
 ghost use Rattle.checkpointed_run.specs.Runs.{RunsOver};
 ghost use Rattle.checkpointed_run.specs.Staged.{request_of};
 ghost use Rattle.checkpointed_run.specs.Steps.{TakesStep};
@@ -124,6 +124,7 @@ fn run_over_spans<L: Logs, D: Disk>(
     ensures grows { OnlyGrow (L.folder logs.old) (L.folder logs.new) }
     ensures runs { RunsOver D.state (request_of spec.now (query_of query.old) text bytes moment) (sections_in (λ t. t.value) template) (L.folder logs.old) (L.folder logs.new) spans.now files disk.old disk.new result }
     ensures refused { IfErr result (StopsFor (request_of spec.now (query_of query.old) text bytes moment) (sections_in (λ t. t.value) template) (L.folder logs.old) (L.folder logs.new) spans.now) }
+    ensures fits { OnOk result (FitsAsRead (D.state disk.old) files.ledger files.stage) }
     ensures damaged { IfErr result (StopsAtDamage (D.state disk.old) files.ledger files.stage) }
     ensures given { ReadsThen (L.folder logs.new) (query_of query.old) (spans_size spans.now) (L.given logs.old) (L.given logs.new) }
     ensures later_logs { L.faults logs.old ≤ L.faults logs.new }
@@ -191,8 +192,11 @@ pub fn run_over_ledger<L: Logs, D: Disk>(
     // What it did where it came to counts.
     ensures ran { IfOk result (HasRun D.state (D.state disk.old) files.ledger files.stage (rule_of sources.now.rotation) (input_text (input_for spec.now (query_of query.old))) sources.now.names (request_of spec.now (query_of query.old) text bytes moment) (sections_in (λ t. t.value) template) (L.folder logs.old) (L.folder logs.new)) }
     // Why there are no counts.
-    ensures refused { IfErr result (IsWithoutCounts (D.state disk.old) files.ledger files.stage (rule_of sources.now.rotation) (input_text (input_for spec.now (query_of query.old))) sources.now.names (request_of spec.now (query_of query.old) text bytes moment) (sections_in (λ t. t.value) template) (L.folder logs.old) (L.folder logs.new)) }
-    // A damage that settling the disk finds is that of the stage or of the ledger.
+    ensures refused { IfErr result (IsWithoutCounts D.state (D.state disk.old) files.ledger files.stage (rule_of sources.now.rotation) (input_text (input_for spec.now (query_of query.old))) sources.now.names (request_of spec.now (query_of query.old) text bytes moment) (sections_in (λ t. t.value) template) (L.folder logs.old) (L.folder logs.new)) }
+    // Up to its gate the disk was settled at most.
+    ensures before { IfErr result (λ stop. IsStoppedBefore stop → CanSettle (D.state disk.old) files.ledger files.stage → Settles (D.state disk.old) (D.state disk.new) files.ledger files.stage) }
+    // What a read gave fits, or settling the disk finds a damage of the stage or of the ledger, which is told before anything else of the run.
+    ensures fits { OnOk result (FitsAsRead (D.state disk.old) files.ledger files.stage) }
     ensures damaged { IfErr result (IsAtDamage (D.state disk.old) files.ledger files.stage) }
     // A fault of the disk or of the logs is one that was counted in the call.
     ensures reason { IfErr result (HasCauses (Rose (L.faults logs.old) (L.faults logs.new)) (Rose (D.faults disk.old) (D.faults disk.new))) }

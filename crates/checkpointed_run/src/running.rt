@@ -1,5 +1,5 @@
 // A run over a ledger: settled, staged, sealed, opened and finished.
-ghost use Rattle.std.specs.Prelude.{◌≡◌, ◌≤◌, ◌++◌, length, codes, None, IfOk, IfErr, IfSome, IsSome};
+ghost use Rattle.std.specs.Prelude.{◌≡◌, ◌≤◌, ◌++◌, length, codes, None, OnOk, IfOk, IfErr, IfSome, IsSome};
 ghost use Rattle.lp_model.specs.Outside.{Rose, OnlyGrow, Told, bytes_in};
 ghost use Rattle.command_words.specs.Table.{IsInRange};
 ghost use Rattle.command_words.specs.declared.formats.OutputFormat.TheVariants as O;
@@ -11,7 +11,7 @@ ghost use Rattle.log_reading.specs.Spans.{AllSpans, IsSpan, spans_size};
 ghost use Rattle.query_tree.specs.Views.{query_of};
 ghost use Rattle.checkpointed_run.specs.Committed.{IsCommitted, StopsAtGate};
 ghost use Rattle.checkpointed_run.specs.Reading.{ReadsThen};
-ghost use Rattle.checkpointed_run.specs.Reasons.{StopsAtDamage, StopsFor};
+ghost use Rattle.checkpointed_run.specs.Reasons.{FitsAsRead, StopsAtDamage, StopsFor};
 ghost use Rattle.checkpointed_run.specs.Staged.{request_of};
 ghost use Rattle.checkpointed_run.specs.Stops.{IsBeforeGate, IsDamagedStop, IsFromGate, HasReason};
 
@@ -70,6 +70,8 @@ pub fn commit_run<'d, L: Logs, D: Disk>(
     // No damage is told of a disk that may be settled.
     ensures undamaged { IfErr result (λ stop. IsBeforeGate stop → IsDamagedStop stop → Unsettled D.state commit.old → ⊥) }
     ensures refused { IfErr result (StopsFor (request_of spec.now (query_of query.old) text bytes moment) (sections_in (λ t. t.value) template) (L.folder logs.old) (L.folder logs.new) spans.now) }
+    // What a read gave fits, or the damage is told before anything else.
+    ensures fits { OnOk result (FitsAsRead (disk_of D.state commit.old) (ledger_of commit.old) (stage_of commit.old)) }
     ensures damaged { IfErr result (StopsAtDamage (disk_of D.state commit.old) (ledger_of commit.old) (stage_of commit.old)) }
     ensures given { ReadsThen (L.folder logs.new) (query_of query.old) (spans_size spans.now) (L.given logs.old) (L.given logs.new) }
     ensures later_logs { L.faults logs.old ≤ L.faults logs.new }

@@ -91,16 +91,16 @@ of_answer (L.Clash name) status (inr is) = at S.Memory status is (λ e. cc)
 of_answer (L.Run stop) status is = of_stop stop status is
 of_answer L.Memory status is = at S.Memory status is (λ e. cc)
 
-behind : (disk : DiskState) (ledger stage : List ℕ) (before now : Option Folder) (spec : Spec) (moment : ℤ) (status : Status) → IsRefusedBehind disk ledger stage before now spec moment status → status ≢ S.Done
-behind disk ledger stage before now spec moment status (inl unread) = at _ status unread.status_is (not_done _ (mild_unasked unread.fault).not_well)
-behind disk ledger stage before now spec moment status (inr (inl unsuited)) = not_done status (mild_unfit unsuited.q status unsuited.why).not_well
-behind disk ledger stage before now spec moment status (inr (inr (inl none))) = at _ status none.status_is (not_done _ (mild_untemplated none.fault).not_well)
-behind disk ledger stage before now spec moment status (inr (inr (inr (inl uncounted)))) = of_answer uncounted.countless.stop status uncounted.countless.answers
-behind disk ledger stage before now spec moment status (inr (inr (inr (inr memory)))) = at S.Memory status memory (λ e. cc)
+behind : {D : Type 0} (state : D → DiskState) (disk : DiskState) (ledger stage : List ℕ) (before now : Option Folder) (spec : Spec) (moment : ℤ) (status : Status) → IsRefusedBehind state disk ledger stage before now spec moment status → status ≢ S.Done
+behind state disk ledger stage before now spec moment status (inl unread) = at _ status unread.status_is (not_done _ (mild_unasked unread.fault).not_well)
+behind state disk ledger stage before now spec moment status (inr (inl unsuited)) = not_done status (mild_unfit unsuited.q status unsuited.why).not_well
+behind state disk ledger stage before now spec moment status (inr (inr (inl none))) = at _ status none.status_is (not_done _ (mild_untemplated none.fault).not_well)
+behind state disk ledger stage before now spec moment status (inr (inr (inr (inl uncounted)))) = of_answer uncounted.countless.stop status uncounted.countless.answers
+behind state disk ledger stage before now spec moment status (inr (inr (inr (inr memory)))) = at S.Memory status memory (λ e. cc)
 
 refused_not_done : {D : Type 0} (state : D → DiskState) (old : D) (ledger stage : List ℕ) (before now : Option Folder) (spec : Spec) (moment : ℤ) (status : Status) → IsRefused state old ledger stage before now spec moment status → status ≢ S.Done
 refused_not_done state old ledger stage before now spec moment status (inl unsettled) = at _ status unsettled.status_is (of_phase unsettled.fault)
-refused_not_done state old ledger stage before now spec moment status (inr then) = behind (state then.settled) ledger stage before now spec moment status then.refused
+refused_not_done state old ledger stage before now spec moment status (inr then) = behind state (state then.settled) ledger stage before now spec moment status then.refused
 
 -- so at `Done` there are counts
 pub done_counts : {D : Type 0} (state : D → DiskState) (old : D) (ledger stage : List ℕ) (before now : Option Folder) (spec : Spec) (moment : ℤ) (status : Status) (result : Result Counts Status) → status ≡ answer_of result → IfErr result (IsRefused state old ledger stage before now spec moment)

@@ -74,7 +74,7 @@ returns-clause-refused g c =
     let now = g.L.Logs.folder c.run_prepared.new.logs in
     let q = query_of c.args.query.now in
     let sections = sections_in (λ t. t.value) c.in-Ok.template.shared in
-    refused_behind (g.D.Disk.state c.args.disk.now) c.args.ledger.now (c.args.ledger.now ++ codes ".stage") old mid now c.args.spec.now c.args.moment c.args.text q c.in-Ok.template.bytes sections c.run_prepared.result
+    refused_behind g.D.Disk.state (g.D.Disk.state c.args.disk.now) c.args.ledger.now (c.args.ledger.now ++ codes ".stage") old mid now c.args.spec.now c.args.moment c.args.text q c.in-Ok.template.bytes sections c.run_prepared.result
     c.find_template.ensures.grows c.run_prepared.ensures.grows c.requires.fit c.in-Ok.ensures.found (simp to_z-of_z at c.run_prepared.ensures.refused)
 
 pub returns-clause-given : goal.returns-clause-given

@@ -7,8 +7,10 @@ use Rattle.query_tree.specs.Views.{query_of}
 use Rattle.checkpointed_run.specs.Reading.{ReadsThen}
 use Rattle.checkpointed_run.specs.Staged.{request_of}
 use Rattle.checkpointed_run.specs.declared.over.LedgerStop.TheVariants as L
-use Rattle.checkpointed_run.proofs.Causes.{damage_rested, none_loaded}
+use Rattle.checkpointed_run.proofs.Causes.{damage_rested, fits_rested, none_loaded}
 use Rattle.checkpointed_run.proofs.OverDisk.{spans_as, steps_not_begun, steps_over}
+use Rattle.checkpointed_run.proofs.Rested.{settles_held, settles_read}
+use Rattle.checkpointed_run.proofs.Stopped.{stops_behind, without_counts}
 use Rattle.checkpointed_run.proofs.over.run_over_ledger.Goals as goal
 
 pub returns-in-Ok-run_over_spans-clause-grows : goal.returns-in-Ok-run_over_spans-clause-grows
@@ -29,6 +31,24 @@ returns-in-Some-clause-step g c = λ earlier since near front.
     steps_not_begun g.D.Disk.state g.met.D.Disk.only_now g.met.D.Disk.seen_left g.met.D.Disk.counts_now g.met.D.Disk.honest_tells
     (request_of c.args.spec.now (query_of c.args.query.now) c.args.text c.args.bytes c.args.moment) (c.input_texts_tell_their_format.ensures c.args.spec.now (query_of c.args.query.now)) (sections_in (λ t. t.value) c.args.template) c.requires.sections
     c.args.files earlier c.args.disk.now c.spans_over.new.disk near c.spans_over.ensures.rests since _ (L.Clash c.in-Some.name) (λ can told. told)
+
+pub returns-in-Err-clause-refused : goal.returns-in-Err-clause-refused
+returns-in-Err-clause-refused g c = without_counts g.D.Disk.state (g.D.Disk.state c.args.disk.now) c.args.files.ledger c.args.files.stage _ _ _ _ _ _ _ c.in-Err.stop c.in-Err.ensures.not_begun
+
+pub returns-in-Err-clause-before : goal.returns-in-Err-clause-before
+returns-in-Err-clause-before g c = λ stopped can. settles_read g.D.Disk.state g.met.D.Disk.only_now g.met.D.Disk.counts_now c.args.files c.args.disk.now c.spans_over.new.disk c.spans_over.ensures.rests can
+
+pub returns-in-Some-clause-before : goal.returns-in-Some-clause-before
+returns-in-Some-clause-before g c = λ stopped can. settles_read g.D.Disk.state g.met.D.Disk.only_now g.met.D.Disk.counts_now c.args.files c.args.disk.now c.spans_over.new.disk c.spans_over.ensures.rests can
+
+pub returns-clause-before : goal.returns-clause-before
+returns-clause-before g c = λ stopped can.
+    let range : FitsSigned w64 c.args.moment = c.ranges.moment in
+    let runs = simp to_z-of_z at c.in-Err-run_over_spans.ensures.runs in
+    settles_held g.D.Disk.state g.met.D.Disk.only_now g.met.D.Disk.counts_now c.args.files c.args.disk.now c.spans_over.new.disk c.spans_over.ensures.rests c.run_over_spans.new.disk runs.first runs.last runs.files_are runs.old_is runs.new_is (runs.before stopped) can
+
+pub returns-in-Ok-run_over_spans-clause-fits : goal.returns-in-Ok-run_over_spans-clause-fits
+returns-in-Ok-run_over_spans-clause-fits g c = fits_rested (g.D.Disk.state c.args.disk.now) (g.D.Disk.state c.spans_over.new.disk) _ _ c.spans_over.ensures.rests c.in-Ok-run_over_spans.ensures.fits
 
 pub returns-in-Some-clause-refused : goal.returns-in-Some-clause-refused
 returns-in-Some-clause-refused g c = record { listed = _; grows = OnlyGrow-refl _; spans = c.in-Ok.spans; has = c.in-Ok.ensures.spans; is = sym c.in-Some.ensures }
@@ -100,6 +120,7 @@ returns-clause-given g c = inr (record {
 pub returns-clause-refused : goal.returns-clause-refused
 returns-clause-refused g c =
     let range : FitsSigned w64 c.args.moment = c.ranges.moment in
+    let runs = simp to_z-of_z at c.in-Err-run_over_spans.ensures.runs in
     record {
       listed = g.L.Logs.folder c.spans_over.new.logs;
       grows = c.run_over_spans.ensures.grows;
@@ -107,4 +128,6 @@ returns-clause-refused g c =
       has = c.in-Ok.ensures.spans;
       free = sym c.clash_in.ensures ∙ c.in_default.is;
       stops = simp to_z-of_z at c.in-Err-run_over_spans.ensures.refused;
+      behind = stops_behind g.D.Disk.state (request_of c.args.spec.now (query_of c.args.query.now) c.args.text c.args.bytes c.args.moment) (sections_in (λ t. t.value) c.args.template) (g.L.Logs.folder c.spans_over.new.logs)
+          (g.L.Logs.folder c.run_over_spans.new.logs) c.in-Ok.spans c.args.files c.args.disk.now c.spans_over.new.disk c.run_over_spans.new.disk c.in-Err-run_over_spans.stop c.spans_over.ensures.rests runs;
     }

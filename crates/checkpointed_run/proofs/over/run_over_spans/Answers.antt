@@ -1,4 +1,7 @@
-use Rattle.std.proofs.Common.{FitsSigned, w64, rules}
+use Rattle.std.proofs.Common.{FitsSigned, w64, rules, subst}
+use Rattle.std.specs.Prelude.{OnOk}
+use Rattle.commit.specs.declared.phases.CommitFiles.{CommitFiles}
+use Rattle.checkpointed_run.specs.Reasons.{FitsAsRead}
 use Rattle.std.proofs.lemmas.Int.{to_z-of_z}
 use Rattle.checkpointed_run.proofs.over.run_over_spans.Goals as goal
 
@@ -16,3 +19,8 @@ returns-clause-runs g c =
       behind = simp to_z-of_z at c.commit_run.ensures.behind;
       undamaged = c.commit_run.ensures.undamaged;
     }
+
+pub returns-clause-fits : goal.returns-clause-fits
+returns-clause-fits g c =
+    subst (λ (disk : g.row.D.Denot). OnOk c.commit_run.result (FitsAsRead (g.D.Disk.state disk) c.args.files.ledger c.args.files.stage)) c.new-commit.ensures.same
+    (subst (λ (files : CommitFiles). OnOk c.commit_run.result (FitsAsRead (g.D.Disk.state c.new-commit.result.disk.now) files.ledger files.stage)) c.new-commit.ensures.files c.commit_run.ensures.fits)

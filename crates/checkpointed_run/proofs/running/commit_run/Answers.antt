@@ -2,6 +2,7 @@ use Rattle.std.proofs.Common.{[], ◌∷◌, ◌++◌, refl, arith, FitsSigned, 
 use Rattle.std.proofs.lemmas.Int.{to_z-of_z}
 use Rattle.ledger.specs.Written.{entry_of}
 use Rattle.checkpointed_run.proofs.Causes.{damage_is, none_told, not_damaged, reason_earlier}
+use Rattle.checkpointed_run.proofs.Stopped.{broken_from}
 use Rattle.checkpointed_run.proofs.Subqueries.{reads_nothing}
 use Rattle.commit.proofs.Composing.{either_on, goes_keeps, preserves_on, same_on, settles_on}
 use Rattle.checkpointed_run.proofs.running.commit_run.Goals as goal
@@ -34,6 +35,7 @@ returns-in-Err-open_gate-clause-behind g c = λ is.
       };
       opens = record { same = c.open_gate.ensures.same; any_moment = c.open_gate.ensures.any_moment };
       undamaged = λ told. absurd told;
+      damage = tt;
     }
 
 pub returns-in-Ok-finish-clause-committed : goal.returns-in-Ok-finish-clause-committed
@@ -57,6 +59,11 @@ returns-in-Ok-finish-clause-committed g c =
       };
       done = λ entries before after is. c.in-Ok-finish.ensures.done (entry_of c.in-Ok-stage_run.run'.entry) (entries ++ entry_of c.in-Ok-stage_run.run'.entry ∷ []) after
           (c.in-Ok-open_gate.ensures.opened (entry_of c.in-Ok-stage_run.run'.entry) entries before after is);
+      finished = record {
+        opened = c.open_gate.new.self;
+        opens = record { opens = record { same = c.open_gate.ensures.same; any_moment = c.open_gate.ensures.any_moment }; lies = c.in-Ok-open_gate.ensures.opened };
+        staged = c.in-Ok-finish.ensures.fit;
+      };
     }
 
 pub returns-clause-behind : goal.returns-clause-behind
@@ -83,6 +90,8 @@ returns-clause-behind g c = λ is.
           (λ part p e. c.in-Err-finish.ensures.no_fault part p e (entry_of c.in-Ok-stage_run.run'.entry) (entries ++ entry_of c.in-Ok-stage_run.run'.entry ∷ []) after
           (c.in-Ok-open_gate.ensures.opened (entry_of c.in-Ok-stage_run.run'.entry) entries before after is))
           told;
+      damage = broken_from g.D.Disk.state c.seal.new.self c.open_gate.new.self
+          (record { opens = record { same = c.open_gate.ensures.same; any_moment = c.open_gate.ensures.any_moment }; lies = c.in-Ok-open_gate.ensures.opened }) c.in-Err-finish.fault c.in-Err-finish.ensures.fault;
     }
 
 pub returns-in-Err-clause-undamaged : goal.returns-in-Err-clause-undamaged
@@ -106,7 +115,16 @@ pub returns-in-Err-stage_run-clause-undamaged : goal.returns-in-Err-stage_run-cl
 returns-in-Err-stage_run-clause-undamaged g c = λ is told can. c.in-Err-stage_run.ensures.undamaged told
 
 pub returns-in-Err-stage_run-clause-damaged : goal.returns-in-Err-stage_run-clause-damaged
-returns-in-Err-stage_run-clause-damaged g c = not_damaged (g.D.Disk.state c.args.commit.now.disk.now) c.args.commit.now.files.ledger c.args.commit.now.files.stage c.in-Err-stage_run.stop c.in-Err-stage_run.ensures.undamaged
+returns-in-Err-stage_run-clause-damaged g c = not_damaged (g.D.Disk.state c.args.commit.now.disk.now) c.args.commit.now.files.ledger c.args.commit.now.files.stage c.in-Err-stage_run.stop c.in-Err-stage_run.ensures.undamaged c.in-Ok.ensures.fits
+
+pub returns-in-Err-open_gate-clause-damaged : goal.returns-in-Err-open_gate-clause-damaged
+returns-in-Err-open_gate-clause-damaged g c = c.in-Ok.ensures.fits
+
+pub returns-clause-damaged : goal.returns-clause-damaged
+returns-clause-damaged g c = c.in-Ok.ensures.fits
+
+pub returns-in-Ok-finish-clause-fits : goal.returns-in-Ok-finish-clause-fits
+returns-in-Ok-finish-clause-fits g c = c.in-Ok.ensures.fits
 
 pub returns-in-Err-stage_run-clause-reason : goal.returns-in-Err-stage_run-clause-reason
 returns-in-Err-stage_run-clause-reason g c = reason_earlier _ _ _ c.in-Err-stage_run.stop (λ rose. omega (arith, rose, c.settle.ensures.reason.later)) c.in-Err-stage_run.ensures.reason
