@@ -71,6 +71,8 @@ impl<'d, D: Disk> Stage for Commit<'d, D> {
 
     ghost goes_on = { goes_on D.state };
 
+    ghost keeps_taken = { λ before now goes. tt };
+
     ghost empty = { λ stage tells output name base. ([], refl, refl) };
 
     ghost one = { λ stage tells output name base mark text other a b. one_read _ _ _ _ _ _ a b };

@@ -115,6 +115,8 @@ impl<'d, D: Disk> Stage for FileStage<'d, D> {
 
     ghost goes_on = { goes_on D.state };
 
+    ghost keeps_taken = { λ before now goes. tt };
+
     ghost empty = { λ stage tells output name base. no_text ((disk_of D.state stage).seen name) base };
 
     ghost one = { λ stage tells output name base mark text other a b. one_text ((disk_of D.state stage).seen name) base mark.length text other a b };

@@ -1,5 +1,6 @@
 -- What a stage holds.
-use Rattle.std.specs.Prelude.{◌≢◌, ℕ, ◌+◌, ◌<◌, ◌^◌, List, ◌++◌, length, Option}
+use Rattle.std.specs.Prelude.{◌≢◌, ℕ, ◌+◌, ◌<◌, ◌≤◌, ◌^◌, List, ◌++◌, length, Option, IsSomeAnd}
+use Rattle.lp_model.specs.Outside.{Told}
 use Rattle.lp_outside.specs.declared.stage.Mark.{Mark}
 
 -- the mark of an empty text
@@ -33,3 +34,7 @@ KeepsOthers index called before now = (output : ℕ) (name : List ℕ) (base : �
 pub record KeepsClosed (called : List ℕ) (base : ℕ) (mark : Mark) (before now : StageState) : Type 0 where
   pub closed : (output : ℕ) (text : List ℕ) → before.is_text output called base mark text → now.is_text output called base mark text
   pub others : (output : ℕ) (name : List ℕ) (at : ℕ) (other : Mark) (text : List ℕ) → name ≢ called → before.is_text output name at other text → now.is_text output name at other text
+
+-- where it told how many bytes it had taken, it tells so now, and they are no fewer
+abbrev pub KeepsTaken : StageState → StageState → Type 0
+KeepsTaken before now = Told before.taken (λ was. IsSomeAnd now.taken (λ is. was ≤ is))

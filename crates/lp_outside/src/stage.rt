@@ -2,7 +2,7 @@
 ghost use Rattle.std.specs.Prelude.{◌≡◌, ◌+◌, ◌%◌, ◌^◌, ◌≤◌, ℕ, List, [], length, OnOk, OnErr, IfOk, Option, IsSomeAnd};
 ghost use Rattle.lp_model.specs.Outside.{HasCause, Told, GainsSome};
 ghost use Rattle.lp_outside.specs.declared.stage.Mark.{Mark};
-ghost use Rattle.lp_outside.specs.Stages.{StageState, no_mark, KeepsAll, KeepsClosed};
+ghost use Rattle.lp_outside.specs.Stages.{StageState, no_mark, KeepsAll, KeepsClosed, KeepsTaken};
 ghost use Rattle.lp_outside.specs.Gained.{Gained, SparesOthers, SparesFronts, SparesLengths, KeepsLengths, SparesEnded, KeepsEnded};
 
 use crate::Name;
@@ -101,6 +101,9 @@ pub trait Stage {
 
     /// What stands over some calls and over later ones stands over all of them.
     ghost goes_on: { (first second third : Self) → goes first second → goes second third → goes first third };
+
+    /// It takes no byte back.
+    ghost keeps_taken: { (before now : Self) → goes before now → KeepsTaken (state before) (state now) };
 
     /// An output without a frame has an empty text.
     ghost empty: { (stage : Self) → (state stage).tells → (output : ℕ) (name : List ℕ) (base : ℕ) → (state stage).is_text output name base no_mark [] };

@@ -7,7 +7,7 @@ use crate::{Mark, Name, Sink, Stage, StageFailed, write_all};
 /// A piece goes on at once. The stream keeps no text by its mark: what an output has gained is what the stream has written.
 impl<S: Sink> Stage for S {
     ghost use Rattle.std.specs.Bool.{⊤};
-    ghost use Rattle.lp_outside.specs.Streams.{stream_state, StaysWritten, stays_here, stays_on};
+    ghost use Rattle.lp_outside.specs.Streams.{stream_state, StaysWritten, stays_here, stays_on, stays_taken};
 
     ghost state = { stream_state S.written };
 
@@ -46,6 +46,8 @@ impl<S: Sink> Stage for S {
     ghost goes_nowhere = { λ stage. stays_here (S.written stage) };
 
     ghost goes_on = { λ first second third one two. stays_on (S.written first) (S.written second) (S.written third) one two };
+
+    ghost keeps_taken = { stays_taken S.written };
 
     ghost empty = { λ stage tells. absurd tells };
 
