@@ -12,7 +12,7 @@ pub use Rattle.checkpointed_run.specs.Executed
 pub use Rattle.checkpointed_run.specs.Faults
 pub use Rattle.checkpointed_run.specs.Formats
 pub use Rattle.checkpointed_run.specs.Outputs
-pub use Rattle.checkpointed_run.specs.Passing
+pub use Rattle.checkpointed_run.specs.OnePass
 pub use Rattle.checkpointed_run.specs.Plans
 pub use Rattle.checkpointed_run.specs.Texts
 pub use Rattle.checkpointed_run.specs.Ran

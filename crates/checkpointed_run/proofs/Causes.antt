@@ -37,7 +37,7 @@ use Rattle.checkpointed_run.specs.declared.running.RunStop.TheVariants as R
 pub refused_for : (request : Request) (template : Sections) (told : Option Folder) (spans : List Span) (fault : RunFault)
     → IfRefused {T = StagedRun} (Err fault) (IsUnplaced (log_format request.spec request.q) true told (asked_in request.spec template request.moment request.q spans) request.spec request.moment request.q spans)
     → IfPlan {T = StagedRun} (Err fault) (IsUnplanned (log_format request.spec request.q) true told request.spec request.moment request.q spans)
-    → IfParse {T = StagedRun} (Err fault) (IsParseError (log_format request.spec request.q) true told request.spec request.moment request.q spans) → RefusedFor request template told spans fault
+    → IfParse {T = StagedRun} (Err fault) (IsParseError (log_format request.spec request.q) true told (asked_in request.spec template request.moment request.q spans) request.spec request.moment request.q spans) → RefusedFor request template told spans fault
 refused_for request template told spans (X.Plan fault) refused plan parse = plan
 refused_for request template told spans (X.Refused why) refused plan parse = refused
 refused_for request template told spans X.LogsFault refused plan parse = tt

@@ -20,7 +20,7 @@ pub use Rattle.run_entry.specs.Executed
 pub use Rattle.run_entry.specs.Faults
 pub use Rattle.run_entry.specs.Formats
 pub use Rattle.run_entry.specs.Outputs
-pub use Rattle.run_entry.specs.Passing
+pub use Rattle.run_entry.specs.OnePass
 pub use Rattle.run_entry.specs.Plans
 pub use Rattle.run_entry.specs.Texts
 pub use Rattle.run_entry.specs.Ran

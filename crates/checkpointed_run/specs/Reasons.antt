@@ -26,7 +26,7 @@ RefusedFor request template told spans (X.Plan fault) = IsUnplanned (log_format 
 RefusedFor request template told spans (X.Refused why) = IsUnplaced (log_format request.spec request.q) true told (asked_in request.spec template request.moment request.q spans) request.spec request.moment request.q spans why
 RefusedFor request template told spans X.LogsFault = ⊤
 RefusedFor request template told spans X.StageFault = ⊤
-RefusedFor request template told spans (X.ParseErrors log row) = IsParseError (log_format request.spec request.q) true told request.spec request.moment request.q spans (bad_line log row)
+RefusedFor request template told spans (X.ParseErrors log row) = IsParseError (log_format request.spec request.q) true told (asked_in request.spec template request.moment request.q spans) request.spec request.moment request.q spans (bad_line log row)
 RefusedFor request template told spans X.Memory = ⊤
 
 -- so it is with what the subqueries gave before, where the fault tells anything

@@ -7,13 +7,11 @@ use Rattle.command_words.specs.declared.spec.Spec.{Spec}
 use Rattle.log_reading.specs.declared.span.Span.{Span}
 use Rattle.lp_values.specs.declared.value.Value.{Value}
 use Rattle.row_output.specs.Asked.{Asked, Files, RowsText}
-use Rattle.text_output.specs.Output.{StageKind}
 use Rattle.tpl_output.specs.Sections.{Sections}
 use Rattle.execution.specs.declared.formats.LogFormat.{LogFormat}
 use Rattle.execution.specs.declared.formats.LogFormat.TheVariants as F
 use Rattle.execution.specs.Executed.{IsStopped}
 use Rattle.execution.specs.Outputs.{asked_in, files_of}
-use Rattle.execution.specs.Passing.{ReadsInPass}
 use Rattle.execution.specs.Plans.{PlannedQuery, asked_for}
 use Rattle.execution.specs.Texts.{output_of, text_as}
 
@@ -29,9 +27,3 @@ pub stopped_at_once : (format : LogFormat) (waits : Bool) (told : Option Folder)
 stopped_at_once (F.Tabled format) waits told Nothing Front asked spec moment q spans nothing = inl nothing
 stopped_at_once (F.Sampled options limit) waits None Nothing Front asked spec moment q spans nothing = tt
 stopped_at_once (F.Sampled options limit) waits (Some folder) Nothing Front asked spec moment q spans nothing = λ kept. inl nothing
-
--- and that read nothing
-pub reads_none : {S : Type 0} (kind : StageKind S) (goes : S → S → Type 0) (format : LogFormat) (waits : Bool) (told : Option Folder) (asked : PlannedQuery → Asked) (moment : ℤ) (q : model.Query) (spans : List Span) (given : ℕ) (start now : S)
-    → ReadsInPass kind goes format waits told asked moment q spans given given start now
-reads_none kind goes (F.Tabled format) waits told asked moment q spans given start now = inl refl
-reads_none kind goes (F.Sampled options limit) waits told asked moment q spans given start now = tt

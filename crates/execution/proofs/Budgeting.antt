@@ -1,5 +1,5 @@
 -- Bad lines beside those of subqueries.
-use Rattle.std.proofs.Common.{◌≡◌, ◌∙◌, ◌+◌, ◌≤◌, ℕ, List, length, Option, Some, None, IfSome, unwrap_or, ap, arith}
+use Rattle.std.proofs.Common.{◌≡◌, ◌∙◌, ◌+◌, ◌≤◌, ℕ, List, length, Option, Some, None, IfSome, unwrap_or, ap, sym, arith}
 use Rattle.grammar.specs.Filled.{given_bad}
 use Rattle.grammar.specs.Trees.{Query}
 use Rattle.lp_model.specs.Outside.{Folder, Told}
@@ -28,6 +28,10 @@ all_within None before budget bad total is within total_is = tt
 all_within (Some most) before budget bad total is within total_is =
     let sum = is.sum in
     omega (arith, sum, within, total_is)
+
+-- and so of those of all lines
+pub all_of : (errors : Option ℕ) (before : ℕ) (budget : BadBudget) (bad : ℕ) → IsBudget errors before budget → IsWithin (Some budget.most) bad → IsWithin errors (before + bad)
+all_of errors before budget bad is within = all_within errors before budget bad (before + bad) is within (ap (λ (n : ℕ). n + bad) (sym is.met))
 
 -- the counts of a run, and the same with the bad lines of its query's subqueries
 pub record AreAll (q : Query) (run counts : Counts) : Type 0 where

@@ -117,10 +117,10 @@ module _ {S : Type 0} (kind : StageKind S) (told : Option Folder) (start now : S
       → IsStopped (F.Sampled options limit) waits told (now ≡ start) (λ asked rows. Stops kind asked start rows now) asked spec moment q spans
   refused_stopped slice spans fault listed refused = stopped slice spans listed (refused_front told slice fault refused)
 
-pub parse_error : (told : Option Folder) (spec : Spec) (moment : ℤ) (q : model.Query) (options : DelimitedOptions) (limit : ℕ) (waits : Bool) (slice spans : List Span) (errors : ℕ) (budget : BadBudget) (line : BadLine)
+pub parse_error : (told : Option Folder) (asked : PlannedQuery → Asked) (spec : Spec) (moment : ℤ) (q : model.Query) (options : DelimitedOptions) (limit : ℕ) (waits : Bool) (slice spans : List Span) (errors : ℕ) (budget : BadBudget) (line : BadLine)
     → slice ≡ spans → spec.errors ≡ Some errors → IsBudget spec.errors (given_bad q) budget
     → Told told (λ folder. Kept options waits slice folder → IsTooMany (Some budget.most) 0 (spans_bad_lines (delimited_lines options) waits folder slice) line)
-    → IsParseError (F.Sampled options limit) waits told spec moment q spans line
-parse_error told spec moment q options limit waits slice spans errors budget line listed are is exceeds =
+    → IsParseError (F.Sampled options limit) waits told asked spec moment q spans line
+parse_error told asked spec moment q options limit waits slice spans errors budget line listed are is exceeds =
     let Of : List Span → Type 0 = λ s. Told told (λ folder. Kept options waits s folder → IsTooMany spec.errors (given_bad q) (spans_bad_lines (delimited_lines options) waits folder s) line) in
     record { typed = tt; exceeds = subst Of listed (told_beside told spec.errors (given_bad q) errors budget (Kept options waits slice) (λ folder. spans_bad_lines (delimited_lines options) waits folder slice) line are is exceeds) }

@@ -9,3 +9,4 @@ pub mod Texts
 pub mod Outputs
 pub mod Fitting
 pub mod Telling
+pub mod OnePass

@@ -1,5 +1,5 @@
 // A plan, over rows or groups, over spans of logs that are read in a format with a table.
-ghost use Rattle.std.specs.Prelude.{◌≡◌, ◌≤◌, ◌+◌, ◌++◌, true, length, map, OnOk, OnErr, IfOk, IfErr, IsErrOf};
+ghost use Rattle.std.specs.Prelude.{◌≡◌, ◌⊎◌, ◌≤◌, ◌+◌, ◌++◌, [], true, length, map, OnOk, OnErr, IfOk, IfErr, IsErrOf};
 ghost use Rattle.lp_model.specs.Outside.{Rose, OnlyGrow, Told};
 ghost use Rattle.log_reading.specs.Page.{IsTooMany, IsWithin};
 ghost use Rattle.log_reading.specs.Spans.{AllSpans, AreReadable, IsSpan, AreKept, spans_found, spans_bad, spans_bad_lines, spans_size, took_of};
@@ -7,8 +7,10 @@ ghost use Rattle.text_output.specs.Output.{kind_of};
 ghost use Rattle.row_output.specs.Asked.{left_of};
 ghost use Rattle.row_output.specs.Kept.{IsNew, asked_of};
 ghost use Rattle.row_output.specs.Rows.{Holds, IsRefused, Stops};
+ghost use Rattle.row_output.specs.declared.fault.Refused.{Refused as Why};
 ghost use Rattle.query_run.specs.Faults.{OnBad, OnRefusedOutput};
 ghost use Rattle.input_tables.specs.Tables.{lines_of};
+ghost use Rattle.execution.specs.Executed.{IsEarly};
 ghost use Rattle.execution.specs.Fitting.{Fits, planned_query};
 ghost use Rattle.execution.specs.Passing.{GoesByPlan};
 ghost use Rattle.execution.specs.Plans.{table_rows};
@@ -57,6 +59,11 @@ pub(crate) fn carry_out<L: LogSource, G: Stage>(
         → IsTooMany most_bad 0 (spans_bad_lines (lines_of format) waits folder spans.now) line))) }
     ensures refused { IfErr result (OnRefusedOutput (λ why. Told (L.folder logs.new) (λ folder. AreKept (lines_of format) waits spans.now folder
         → IsRefused (asked_of output) (table_rows format (planned_query plan) (spans_found (lines_of format) waits folder spans.now)) why))) }
+    // An output that isn't refused early is refused behind all lines, of which no bad one was one too many.
+    ensures early { IfErr result (OnRefusedOutput (λ why. Told (L.folder logs.new) (λ folder. AreKept (lines_of format) waits spans.now folder
+        → IsEarly (planned_query plan) (asked_of output) why ⊎ IsWithin most_bad (length (spans_bad (lines_of format) waits folder spans.now))))) }
+    // An output of a name without stars is refused before any bad line is told.
+    ensures named { IfErr result (OnBad (λ line. (why : Why) → IsRefused (asked_of output) [] why → ⊥)) }
     ensures stops { OnErr result (Told (L.folder logs.new) (λ folder. AreKept (lines_of format) waits spans.now folder
         → Stops (kind_of G.state G.ended) (asked_of output) stage.old (table_rows format (planned_query plan) (spans_found (lines_of format) waits folder spans.now)) stage.new)) }
     ensures took { OnOk result (waits ≡ true → Told (L.folder logs.new) (λ folder. AreKept (lines_of format) true spans.now folder

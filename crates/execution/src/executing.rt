@@ -11,8 +11,9 @@ ghost use Rattle.query_tree.specs.Views.{query_of};
 ghost use Rattle.execution.specs.Executed.{IsMoment, IsExecuted, IsParseError, IsStopped, IsUnplaced, IsUnplanned, IsUntouched};
 ghost use Rattle.execution.specs.Faults.{IfParse, IfPlan, IfRefused};
 ghost use Rattle.execution.specs.Formats.{lines_in, log_format};
+ghost use Rattle.execution.specs.OnePass.{GoesInPass, SpansPassed};
 ghost use Rattle.execution.specs.Outputs.{asked_in};
-ghost use Rattle.execution.specs.Passing.{ReadsInPass};
+ghost use Rattle.input_tables.specs.declared.format.TableFormat.{TableFormat};
 ghost use Rattle.execution.specs.Texts.{output_of, sections_in};
 ghost use Rattle.command_words.specs.declared.formats.OutputFormat.TheVariants as O;
 
@@ -64,12 +65,13 @@ pub fn execute<L: LogSource, G: Stage>(
     ensures refused { IfRefused result (IsUnplaced (log_format spec.now (query_of query.now)) waits (L.folder logs.new) (asked_in spec.now (sections_in (λ t. t.value) template) moment (query_of query.now) spans.now) spec.now moment (query_of query.now) spans.now) }
     ensures plan { IfPlan result (IsUnplanned (log_format spec.now (query_of query.now)) waits (L.folder logs.new) spec.now moment (query_of query.now) spans.now) }
     ensures before { IfPlan result (λ fault. IsUntouched (log_format spec.now (query_of query.now)) waits (L.folder logs.new) (stage.new ≡ stage.old) spec.now spans.now) }
-    ensures parse { IfParse result (IsParseError (log_format spec.now (query_of query.now)) waits (L.folder logs.new) spec.now moment (query_of query.now) spans.now) }
+    ensures parse { IfParse result (IsParseError (log_format spec.now (query_of query.now)) waits (L.folder logs.new) (asked_in spec.now (sections_in (λ t. t.value) template) moment (query_of query.now) spans.now) spec.now moment (query_of query.now) spans.now) }
     ensures took { IfOk result (λ ran. waits ≡ true → Told (L.folder logs.new) (λ folder. AreKept (lines_in (log_format spec.now (query_of query.now))) true spans.now folder
         → ran.took ≡ map (took_of (lines_in (log_format spec.now (query_of query.now))) folder) spans.now)) }
     ensures given { L.given logs.new ≤ L.given logs.old + spans_size spans.now }
-    // Logs of a format with a table are read in one pass, where the query goes over rows.
-    ensures passes { ReadsInPass (kind_of G.state G.ended) G.goes (log_format spec.now (query_of query.now)) waits (L.folder logs.new) (asked_in spec.now (sections_in (λ t. t.value) template) moment (query_of query.now) spans.now) moment (query_of query.now) spans.now (L.given logs.old) (L.given logs.new) stage.old stage.new }
+    // A query over rows that go to standard output as they come reads its logs in one pass.
+    ensures one_pass { (format : TableFormat) → GoesInPass spec.now (query_of query.now) format
+        → SpansPassed spec.now moment (query_of query.now) format waits (L.folder logs.new) spans.now (G.state stage.old).taken (G.state stage.new).taken (L.given logs.old) (L.given logs.new) }
     ensures later_logs { L.faults logs.old ≤ L.faults logs.new }
     ensures logs { IsErrOf result RunFault.LogsFault → Rose (L.faults logs.old) (L.faults logs.new) }
     ensures goes { G.goes stage.old stage.new }

@@ -63,7 +63,7 @@ pub(crate) fn execute_sampled<L: LogSource, G: Stage>(
     ensures refused { IfRefused result (IsUnplacedRun (F.Sampled options limit) waits (L.folder logs.new) (asked_for (files_for into) (wanted_text wanted moment.seconds) (query_of query.now)) spec.now moment.seconds (query_of query.now) spans.now) }
     ensures plan { IfPlan result (IsUnplanned (F.Sampled options limit) waits (L.folder logs.new) spec.now moment.seconds (query_of query.now) spans.now) }
     ensures before { IfPlan result (λ fault. IsUntouched (F.Sampled options limit) waits (L.folder logs.new) (stage.new ≡ stage.old) spec.now spans.now) }
-    ensures parse { IfParse result (IsParseError (F.Sampled options limit) waits (L.folder logs.new) spec.now moment.seconds (query_of query.now) spans.now) }
+    ensures parse { IfParse result (IsParseError (F.Sampled options limit) waits (L.folder logs.new) (asked_for (files_for into) (wanted_text wanted moment.seconds) (query_of query.now)) spec.now moment.seconds (query_of query.now) spans.now) }
     ensures took { IfOk result (λ ran. waits ≡ true → Told (L.folder logs.new) (λ folder. AreKept (delimited_lines options) true spans.now folder
         → ran.took ≡ map (took_of (delimited_lines options) folder) spans.now)) }
     ensures given { L.given logs.new ≤ L.given logs.old + spans_size spans.now }

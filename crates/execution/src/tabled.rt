@@ -74,7 +74,7 @@ pub(crate) fn execute_tabled<L: LogSource, G: Stage>(
     ensures refused { IfRefused result (IsUnplacedRun (F.Tabled format) waits (L.folder logs.new) (asked_for (files_for into) (wanted_text wanted moment.seconds) (query_of query.now)) spec.now moment.seconds (query_of query.now) spans.now) }
     ensures plan { IfPlan result (IsUnplanned (F.Tabled format) waits (L.folder logs.new) spec.now moment.seconds (query_of query.now) spans.now) }
     ensures before { IfPlan result (λ fault. IsUntouched (F.Tabled format) waits (L.folder logs.new) (stage.new ≡ stage.old) spec.now spans.now) }
-    ensures parse { IfParse result (IsParseError (F.Tabled format) waits (L.folder logs.new) spec.now moment.seconds (query_of query.now) spans.now) }
+    ensures parse { IfParse result (IsParseError (F.Tabled format) waits (L.folder logs.new) (asked_for (files_for into) (wanted_text wanted moment.seconds) (query_of query.now)) spec.now moment.seconds (query_of query.now) spans.now) }
     ensures took { IfOk result (λ ran. waits ≡ true → Told (L.folder logs.new) (λ folder. AreKept (lines_of format) true spans.now folder
         → ran.took ≡ map (took_of (lines_of format) folder) spans.now)) }
     ensures given { L.given logs.new ≤ L.given logs.old + spans_size spans.now }

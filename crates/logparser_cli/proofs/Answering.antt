@@ -1,5 +1,5 @@
 -- What the steps of a run make of its answer.
-use Rattle.std.proofs.Common.{◌≡◌, ◌⊎◌, ℕ, ℤ, ◌+◌, ◌≤◌, Bool, true, false, List, Option, Result, Ok, Err, IfOk, OnErr, refl, inl, inr, arith}
+use Rattle.std.proofs.Common.{◌≡◌, ◌⊎◌, ℕ, ℤ, ◌+◌, ◌≤◌, Bool, true, false, List, Option, Result, Ok, Err, IfOk, OnErr, refl, inl, inr, subst, arith}
 use Rattle.std.specs.Prelude.{option_map}
 use Rattle.grammar.specs.Filled.{given_bad}
 use Rattle.grammar.specs.Trees as model
@@ -8,7 +8,7 @@ use Rattle.checkpoint.specs.Wholes.{whole_spans}
 use Rattle.command_words.specs.declared.spec.Spec.{Spec}
 use Rattle.checkpointed_command.specs.Built.{reads_stdin}
 use Rattle.checkpointed_command.specs.Executed.{IsExecuted, IsMoment, IsUntouched, Writes, rows_in}
-use Rattle.checkpointed_command.specs.Executed.{HoldsFront as HoldsSpans, IsParseError as IsExceeded, IsStopped as IsStoppedIn, IsUnplaced as IsUnplacedIn, IsUnplanned as IsUnplannedIn, WritesAll as WritesSpans}
+use Rattle.checkpointed_command.specs.Executed.{ComesInTurn, HoldsFront as HoldsSpans, IsParseError as IsExceeded, IsStopped as IsStoppedIn, IsTyped, IsUnplaced as IsUnplacedIn, IsUnplanned as IsUnplannedIn, UnplacesAll as UnplacesSpans, WritesAll as WritesSpans}
 use Rattle.checkpointed_command.specs.Formats.{lines_in, log_format}
 use Rattle.checkpointed_command.specs.Outputs.{asked_in, is_standard}
 use Rattle.checkpointed_command.specs.Plans.{query_plan}
@@ -41,7 +41,7 @@ use Rattle.requests.specs.declared.fault.RequestFault.TheVariants as R
 use Rattle.requests.proofs.Growing.{asks_grown}
 use Rattle.logparser_cli.specs.Logs.{AreSpans, IsUnlisted}
 use Rattle.logparser_cli.specs.Outputs.{HasFront, HasWritten, IsUnwritten, OutputRose, World, input_world, stream_world}
-use Rattle.logparser_cli.specs.Whole.{Tells, told_statistics, IsFront, IsHalted, IsParseError, IsUnplaced, IsUnplanned, IsWhole, OnRows, WritesAll}
+use Rattle.logparser_cli.specs.Whole.{Tells, told_statistics, IsFront, IsHalted, IsParseError, IsUnplaced, IsUnplanned, IsWhole, OnRows, UnplacesAll, WritesAll}
 use Rattle.logparser_cli.specs.Answers.{IsStopped, IsUnplannable, AnswersInput, AnswersOf, AnswersOver, AnswersQuery, AnswersRun, IsUnasked, AnswersPlainly}
 use Rattle.checkpointed_command.specs.Statuses.{failed_output, unasked, unplaced, stopped}
 use Rattle.logparser_cli.proofs.Mapping.{executed_stops}
@@ -160,11 +160,11 @@ halted old new mid template spec moment q spans found grow stop = record {
 
 -- a bad line was one too many
 exceeded : (old new : World) (mid : Option Folder) (template : Sections) (spec : Spec) (moment : ℤ) (q : model.Query) (spans : List Span) (line : BadLine) → AreSpans old.folder mid q spans → OnlyGrow mid new.folder
-    → StopsOver old new template spec moment q spans → IsExceeded (log_format spec q) false new.folder spec moment q spans line → IsParseError old.folder new.folder old.held new.held template spec moment q line
+    → StopsOver old new template spec moment q spans → IsExceeded (log_format spec q) false new.folder (asked_in spec template moment q spans) spec moment q spans line → IsParseError old.folder new.folder old.held new.held template spec moment q line
 exceeded old new mid template spec moment q spans line found grow stop e = record {
   logs = found.logs;
   are_logs = logs_later old.folder mid new.folder q found.logs grow found.are_logs;
-  typed = e.typed;
+  typed = subst (λ (s : List Span). IsTyped (log_format spec q) (asked_in spec template moment q s) moment q) found.wholes e.typed;
   exceeds = whole_told new.folder (log_format spec q) found.logs spans (λ s folder. IsTooMany spec.errors (given_bad q) (spans_bad_lines (lines_in (log_format spec q)) false folder s) line) found.wholes e.exceeds;
   front = stopped_front old new template spec moment q found.logs spans found.wholes stop;
 }
@@ -175,9 +175,15 @@ unplaced_is : (old new : World) (mid : Option Folder) (template : Sections) (spe
 unplaced_is old new mid template spec moment q spans why found grow stop refused = record {
   logs = found.logs;
   are_logs = logs_later old.folder mid new.folder q found.logs grow found.are_logs;
-  refused = on_whole new.folder (log_format spec q) spec.ts_format found.logs spans (HoldsSpans (log_format spec q) false new.folder (λ asked rows. IsRefusedRow asked rows why) (asked_in spec template moment q spans) spec moment q spans)
-      (OnRows new.folder (λ asked rows. IsRefusedRow asked rows why) template spec moment q found.logs) found.wholes
-      (λ table h. rows_of new.folder (λ asked rows. IsRefusedRow asked rows why) template spec moment q found.logs spans table found.wholes h) refused;
+  refused = on_whole new.folder (log_format spec q) spec.ts_format found.logs spans (UnplacesSpans (log_format spec q) false new.folder (asked_in spec template moment q spans) spec moment q spans why)
+      (UnplacesAll new.folder template spec moment q found.logs why) found.wholes
+      (λ table h. record {
+        plan = h.plan;
+        is_planned = h.is_planned;
+        refused = whole_told new.folder (log_format spec q) found.logs spans (λ s folder. IsRefusedRow (asked_in spec template moment q s h.plan) (rows_in (log_format spec q) false spec.ts_format h.plan folder s) why) found.wholes h.refused;
+        in_turn = whole_told new.folder (log_format spec q) found.logs spans (λ s folder. ComesInTurn (log_format spec q) false (asked_in spec template moment q s) spec q h.plan s why folder) found.wholes h.in_turn;
+      })
+      refused;
   front = stopped_front old new template spec moment q found.logs spans found.wholes stop;
 }
 
@@ -205,7 +211,7 @@ unplanned old new mid spec moment q spans fault found grow plan before = record 
 pub stopped_answers : (old new : World) (mid : Option Folder) (template : Sections) (spec : Spec) (moment : ℤ) (q : model.Query) (spans : List Span) (standard : Bool) (fault : RunFault) → is_standard (into_in q) ≡ standard → AreSpans old.folder mid q spans → OnlyGrow mid new.folder
     → StopsOver old new template spec moment q spans → IfPlan {T = Unit {0}} (Err fault) (IsUnplannedIn (log_format spec q) false new.folder spec moment q spans)
     → IfPlan {T = Unit {0}} (Err fault) (λ f. IsUntouched (log_format spec q) false new.folder (IsUnwritten old.held new.held) spec spans)
-    → IfParse {T = Unit {0}} (Err fault) (IsExceeded (log_format spec q) false new.folder spec moment q spans)
+    → IfParse {T = Unit {0}} (Err fault) (IsExceeded (log_format spec q) false new.folder (asked_in spec template moment q spans) spec moment q spans)
     → IfRefused {T = Unit {0}} (Err fault) (IsUnplacedIn (log_format spec q) false new.folder (asked_in spec template moment q spans) spec moment q spans)
     → (fault ≡ X.LogsFault → Rose old.logs_faults new.logs_faults) → (fault ≡ X.StageFault → OutputRose standard (Rose old.disk_faults new.disk_faults) (Rose old.out_faults new.out_faults)) → AnswersRun old new template spec moment q (stopped standard fault)
 stopped_answers old new mid template spec moment q spans standard (X.Plan fault) into found grow stop plan before parse refused logs stage = unplanned old new mid spec moment q spans fault found grow plan before

@@ -22,40 +22,27 @@ use Rattle.log_reading.specs.Found.{rows_met}
 use Rattle.log_reading.specs.Spans.{AreKept, rows_up_to, spans_met, spans_size}
 use Rattle.log_reading.specs.declared.span.Span.{Span}
 use Rattle.lp_values.specs.declared.value.Value.{Value}
-use Rattle.lp_outside.specs.Streams.{StaysWritten, stream_state}
-use Rattle.lp_outside.specs.declared.stage.Mark.{Mark}
-use Rattle.order_top.specs.Finish.{Row}
-use Rattle.query_run.specs.Ahead.{IsPassed}
-use Rattle.query_run.proofs.OnePass.{in_one_pass}
 use Rattle.query_text.specs.Stdin.{names_in}
-use Rattle.query_types.specs.Planned.{Planned, plan_of}
-use Rattle.query_types.specs.declared.table.TableColumns.{TableColumns}
+use Rattle.query_types.specs.Planned.{Planned}
 use Rattle.query_text.specs.Texts.{Parses}
 use Rattle.requests.specs.Given.{ReadsOnce, file_names, query_files, sizes}
 use Rattle.requests.specs.Requests.{Asks}
 use Rattle.requests.specs.Texts.{HoldsText, IsTextOf, file_in}
-use Rattle.row_output.specs.Asked.{Asked, text_in}
-use Rattle.row_output.specs.Orders.{IsPlain}
 use Rattle.standard_input.specs.Streams.{input_logs, stream_files}
-use Rattle.text_output.specs.Output.{StageKind, kind_of}
-use Rattle.tpl_output.specs.Sections.{Sections}
 use Rattle.checkpointed_command.specs.Built.{reads_stdin}
 use Rattle.checkpointed_command.specs.Formats.{log_format}
 use Rattle.checkpointed_command.specs.Given.{template_files, template_for}
 use Rattle.checkpointed_command.specs.Giving.{AllGive, subqueries_of}
 use Rattle.checkpointed_command.specs.LogFormat.{LogFormat}
 use Rattle.checkpointed_command.specs.LogFormat.TheVariants as F
-use Rattle.checkpointed_command.specs.Outputs.{asked_in}
-use Rattle.checkpointed_command.specs.Passing.{GoesByPlan, ReadsByPlan, ReadsInPass, table_picks}
-use Rattle.checkpointed_command.specs.Plans.{PlannedQuery, of_rows, query_plan, table_rows}
+use Rattle.checkpointed_command.specs.OnePass.{IsAheadOf, SpansPassed, standard_text}
+use Rattle.checkpointed_command.specs.Plans.{of_rows, query_plan, table_rows}
 use Rattle.checkpointed_command.specs.SubqueriesReading.{AllRead, ReadsAll}
-use Rattle.checkpointed_command.specs.Texts.{IsAtOnce, no_sections, output_of}
-use Rattle.checkpointed_command.proofs.AtOnce.{at_once, leaves_all, no_files, planned_over_rows, same_asked}
+use Rattle.checkpointed_command.specs.Texts.{IsAtOnce, output_of}
 use Rattle.logparser_cli.specs.Input.{IsReadOn}
 use Rattle.logparser_cli.specs.Logs.{AreLogsOf, AreSpans}
-use Rattle.logparser_cli.specs.OnePass.{IsClose, IsOnePass, IsPassedBy, PassesRows, Progress, TakesRows, all_given, files_read, progress, standard_text}
+use Rattle.logparser_cli.specs.OnePass.{IsClose, IsOnePass, IsPassedBy, Progress, all_given, files_read, progress}
 use Rattle.logparser_cli.specs.Outputs.{Input}
-use Rattle.logparser_cli.specs.SpansPassed.{IsAheadOf, SpansPassed}
 use Rattle.logparser_cli.specs.Subqueries.{IsFilled}
 use Rattle.logparser_cli.proofs.Passed.{AreThere, close_by, there_front}
 use Rattle.logparser_cli.proofs.Wholes.{are_listed, kept_of, logs_earlier, logs_later}
@@ -84,82 +71,11 @@ told_on None now P grow h = subst (λ (t : Option Folder). Told t (λ folder. P)
 told_on (Some x) None P grow h = absurd grow
 told_on (Some x) (Some y) P grow h = h
 
--- what was written, told of a stream
-
-module _ {S : Type 0} (written : S → Option (List ℕ)) (ended : S → List ℕ → ℕ → Mark → Type 0) where
-  abbrev pub stream : StageKind S
-  stream = kind_of (stream_state written) ended
-
-  abbrev pub stays : S → S → Type 0
-  stays before now = StaysWritten (written before) (written now)
-
--- what a stream has gained of a text, and has still
-has_gained : (before mid now : Option (List ℕ)) (done : List ℕ) (size : ℕ) → mid ≡ option_map (λ was. was ++ done) before → StaysWritten mid now → size < length done + 4_096
-    → Told before (λ was. IsSomeAnd now (λ is. size + length was < length is + 4_096))
-has_gained None mid now done size gained stay short = tt
-has_gained (Some was) mid now done size gained stay short = still now (subst (λ (m : Option (List ℕ)). StaysWritten m now) gained stay)
-  where
-    still : (now : Option (List ℕ)) → StaysWritten (Some (was ++ done)) now → IsSomeAnd now (λ is. size + length was < length is + 4_096)
-    still None none = none
-    still (Some is) (more, whole) =
-        let all : length is ≡ length (was ++ done) + length more = ap length whole ∙ length-append (was ++ done) more in
-        let first : length (was ++ done) ≡ length was + length done = length-append was done in
-        omega arith
-
--- what is asked of rows that are taken as they come leaves them all
-plain_of : (spec : Spec) (template : Sections) (moment : ℤ) (table : TableColumns) (q : model.Query) (spans : List Span) (plan : Planned) → TakesRows q → plan_of table moment q ≡ Ok plan → IsPlain (asked_in spec template moment q spans (of_rows plan)).order
-plain_of spec template moment table (query.query parts subqueries) spans plan rows is = leaves_all table moment parts subqueries plan rows.distinct rows.order rows.top is
-
-module _ {S : Type 0} (written : S → Option (List ℕ)) (ended : S → List ℕ → ℕ → Mark → Type 0) (spec : Spec) (template : Sections) (moment : ℤ) (q : model.Query) (format : TableFormat) (told : Option Folder) (spans : List Span) (before now : ℕ) (start end : S) (passes : PassesRows spec q format) where
-  abbrev asked : PlannedQuery → Asked
-  asked = asked_in spec template moment q spans
-
-  abbrev made : Planned → Folder → List Span → Span → ℕ → List Row
-  made plan folder front span place = table_rows format (of_rows plan) (rows_met (spans_met (lines_of format) false folder front ++ rows_up_to (lines_of format) folder span place))
-
-  -- the text by a template is that by none
-  as_standard : (plan : Planned) (rows : List Row) → text_in (asked (of_rows plan)) true rows ≡ standard_text spec moment q plan rows
-  as_standard plan rows = ap (λ (a : PlannedQuery → Asked). text_in (a (of_rows plan)) true rows) (same_asked spec template no_sections moment q spans [] passes.standard passes.output)
-
-  ahead_of : (plan : Planned) → query_plan (table_of format) moment q ≡ Ok (of_rows plan) → IsPassed (stream written ended) (stays written ended) (text_in (asked (of_rows plan))) (table_picks format plan) (lines_of format) false told spans before now start end
-      → IsAheadOf spec moment q format told spans (written start) (written end) before now
-  ahead_of plan is_planned a = record {
-    plan = plan;
-    is_planned = is_planned;
-    front = a.front;
-    span = a.span;
-    rest = a.rest;
-    stands = a.stands;
-    place = a.place;
-    cut = a.cut;
-    written = told_map told _ (λ folder. AreKept (lines_of format) false spans folder → Told (written start) (λ was. IsSomeAnd (written end) (λ is. length (standard_text spec moment q plan (made plan folder a.front a.span a.place)) + length was < length is + 4_096)))
-        (λ folder gained kept.
-        let g = gained kept in
-        let short : length (standard_text spec moment q plan (made plan folder a.front a.span a.place)) < length g.0 + 4_096 = subst (λ (text : List ℕ). length text < length g.0 + 4_096) (as_standard plan (made plan folder a.front a.span a.place)) g.3 in
-        has_gained (written start) (written a.reached) (written end) g.0 (length (standard_text spec moment q plan (made plan folder a.front a.span a.place))) ((g.2.gained (omega arith)).streamed refl) a.later short) a.gained;
-    read = a.given;
-    below = a.below;
-  }
-
-  by_plan : ReadsByPlan (stream written ended) (stays written ended) format false told asked moment q spans before now start end → SpansPassed spec moment q format told spans (written start) (written end) before now
-  by_plan by =
-      let own = planned_over_rows (table_of format) moment q by.plan passes.rows.rows by.is_planned in
-      let plan = own.0 in
-      let is_planned : query_plan (table_of format) moment q ≡ Ok (of_rows plan) = by.is_planned ∙ ap Ok own.2 in
-      let ahead = subst (λ (p : PlannedQuery). GoesByPlan (stream written ended) (stays written ended) format false told spans before now start end (asked p) p) own.2 by.ahead in
-      elim (in_one_pass (stream written ended) (stays written ended) (asked (of_rows plan)) (table_picks format plan) (lines_of format) false told spans before now start end
-      (no_files spec q spans passes.standard, plain_of spec template moment (table_of format) q spans plan passes.rows own.1, at_once spec q template moment passes.output) ahead) [
-        | inl same ↦ inl same
-        | inr a ↦ inr (ahead_of plan is_planned a)
-      ]
-
-  by_format : ReadsInPass (stream written ended) (stays written ended) (F.Tabled format) false told asked moment q spans before now start end → SpansPassed spec moment q format told spans (written start) (written end) before now
-  by_format (inl same) = inl same
-  by_format (inr by) = by_plan by
-
-  -- how far the rows of a query are written, told of standard output
-  pub passed_spans : ReadsInPass (stream written ended) (stays written ended) (log_format spec q) false told asked moment q spans before now start end → SpansPassed spec moment q format told spans (written start) (written end) before now
-  passed_spans reads = by_format (subst (λ (f : LogFormat). ReadsInPass (stream written ended) (stays written ended) f false told asked moment q spans before now start end) passes.input reads)
+-- so many bytes taken are those of what was written
+told_lengths : (before now : Option (List ℕ)) (size : ℕ) → Told (option_map length before) (λ was. IsSomeAnd (option_map length now) (λ is. size + was < is + 4_096)) → Told before (λ was. IsSomeAnd now (λ is. size + length was < length is + 4_096))
+told_lengths None now size so = tt
+told_lengths (Some was) None size so = absurd so
+told_lengths (Some was) (Some is) size so = so
 
 -- whole spans, as the logs that they are of
 
@@ -226,7 +142,7 @@ module _ (spec : Spec) (moment : ℤ) (q : model.Query) (format : TableFormat) (
   abbrev Passed : Folder → Type 0
   Passed files = (all_given new ≤ all_given old) ⊎ IsPassedBy spec moment q format old new files
 
-  logs_passed_by : (files : Folder) → new.folder ≡ Some files → SpansPassed spec moment q format new.folder spans old.out new.out given new.given → Passed files
+  logs_passed_by : (files : Folder) → new.folder ≡ Some files → SpansPassed spec moment q format false new.folder spans (option_map length old.out) (option_map length new.out) given new.given → Passed files
   logs_passed_by files e (inl none) =
       let still : new.input.given ≡ old.input.given = ap (λ (i : Input). i.given) input in
       inl (omega arith)
@@ -239,7 +155,7 @@ module _ (spec : Spec) (moment : ℤ) (q : model.Query) (format : TableFormat) (
       let there : AreThere files found.logs = are_there old.folder files found.logs lengths in
       let each = there_front files s.earlier s.log s.later (subst (λ (l : List NameLength). AreThere files l) s.logs_are there) in
       let kept = kept_of (F.Tabled format) files found.logs spans found.wholes in
-      let written = subst (λ (t : Option Folder). Told t (λ folder. AreKept (lines_of format) false spans folder → Told old.out (λ was. IsSomeAnd new.out (λ is. length (standard_text spec moment q a.plan (table_rows format (of_rows a.plan) (rows_met (spans_met (lines_of format) false folder a.front ++ rows_up_to (lines_of format) folder a.span a.place)))) + length was < length is + 4_096)))) e a.written in
+      let written = subst (λ (t : Option Folder). Told t (λ folder. AreKept (lines_of format) false spans folder → Told (option_map length old.out) (λ was. IsSomeAnd (option_map length new.out) (λ is. length (standard_text spec moment q a.plan (table_rows format (of_rows a.plan) (rows_met (spans_met (lines_of format) false folder a.front ++ rows_up_to (lines_of format) folder a.span a.place)))) + was < is + 4_096)))) e a.written in
       let size : length (take a.span.listed (bytes_in files a.span.name)) ≡ a.span.listed = subst (λ (x : Span). length (take x.listed (bytes_in files x.name)) ≡ x.listed) s.span_is each.1 in
       let below = a.below in
       inr (record {
@@ -248,10 +164,10 @@ module _ (spec : Spec) (moment : ℤ) (q : model.Query) (format : TableFormat) (
         plan = a.plan;
         is_planned = a.is_planned;
         close = told_map old.out _ _ (λ was now. some_map new.out _ _ (λ is close.
-            close_in spec moment q format a.plan files found.logs a.front a.span a.place was is given new.given (all_given old) (all_given new) once s each.0 a.cut close a.read (omega arith) (omega arith)) now) (written kept);
+            close_in spec moment q format a.plan files found.logs a.front a.span a.place was is given new.given (all_given old) (all_given new) once s each.0 a.cut close a.read (omega arith) (omega arith)) now) (told_lengths old.out new.out (length (standard_text spec moment q a.plan (table_rows format (of_rows a.plan) (rows_met (spans_met (lines_of format) false files a.front ++ rows_up_to (lines_of format) files a.span a.place))))) (written kept));
       })
 
-  pub passed_over_logs : SpansPassed spec moment q format new.folder spans old.out new.out given new.given → IsOnePass spec moment q format old new
+  pub passed_over_logs : SpansPassed spec moment q format false new.folder spans (option_map length old.out) (option_map length new.out) given new.given → IsOnePass spec moment q format old new
   passed_over_logs passed =
       subst (λ (b : Bool). Told new.folder (λ folder. Told (files_read b old new) Passed)) (sym files_are)
       (told_so new.folder (Told new.folder Passed) (told_each new.folder Passed (λ files e. logs_passed_by files e passed)))
@@ -292,7 +208,7 @@ module _ (spec : Spec) (moment : ℤ) (q : model.Query) (format : TableFormat) (
   abbrev InputPassed : Folder → Type 0
   InputPassed files = (all_given behind_it ≤ all_given before_it) ⊎ IsPassedBy spec moment q format before_it behind_it files
 
-  input_passed_by : (bytes : List ℕ) → old.left ≡ Some bytes → SpansPassed spec moment q format (option_map stream_files old.left) spans out_old out_new old.given new.given → InputPassed (stream_files bytes)
+  input_passed_by : (bytes : List ℕ) → old.left ≡ Some bytes → SpansPassed spec moment q format false (option_map stream_files old.left) spans (option_map length out_old) (option_map length out_new) old.given new.given → InputPassed (stream_files bytes)
   input_passed_by bytes e (inl none) = inl (omega arith)
   input_passed_by bytes e (inr a) =
       let files : Folder = stream_files bytes in
@@ -300,7 +216,7 @@ module _ (spec : Spec) (moment : ℤ) (q : model.Query) (format : TableFormat) (
       let first : s.earlier ≡ [] = alone _ s.log s.earlier s.later s.logs_are in
       let there : AreThere files s.earlier = subst (λ (l : List NameLength). AreThere files l) (sym first) tt in
       let kept = kept_of (F.Tabled format) files input_logs spans wholes in
-      let written = subst (λ (t : Option (List ℕ)). Told (option_map stream_files t) (λ folder. AreKept (lines_of format) false spans folder → Told out_old (λ was. IsSomeAnd out_new (λ is. length (standard_text spec moment q a.plan (table_rows format (of_rows a.plan) (rows_met (spans_met (lines_of format) false folder a.front ++ rows_up_to (lines_of format) folder a.span a.place)))) + length was < length is + 4_096)))) e a.written in
+      let written = subst (λ (t : Option (List ℕ)). Told (option_map stream_files t) (λ folder. AreKept (lines_of format) false spans folder → Told (option_map length out_old) (λ was. IsSomeAnd (option_map length out_new) (λ is. length (standard_text spec moment q a.plan (table_rows format (of_rows a.plan) (rows_met (spans_met (lines_of format) false folder a.front ++ rows_up_to (lines_of format) folder a.span a.place)))) + was < is + 4_096)))) e a.written in
       let most = read_most bytes read.bytes new.left (read.left ∙ e) in
       let given = read.given in
       let none : spans_size a.front ≡ 0 = ap spans_size (sym s.front_is ∙ ap whole_spans first) in
@@ -313,10 +229,10 @@ module _ (spec : Spec) (moment : ℤ) (q : model.Query) (format : TableFormat) (
         plan = a.plan;
         is_planned = a.is_planned;
         close = told_map out_old _ _ (λ was now. some_map out_new _ _ (λ is close.
-            close_in spec moment q format a.plan files input_logs a.front a.span a.place was is old.given new.given (all_given before_it) (all_given behind_it) once s there a.cut close a.read (omega arith) (omega arith)) now) (written kept);
+            close_in spec moment q format a.plan files input_logs a.front a.span a.place was is old.given new.given (all_given before_it) (all_given behind_it) once s there a.cut close a.read (omega arith) (omega arith)) now) (told_lengths out_old out_new (length (standard_text spec moment q a.plan (table_rows format (of_rows a.plan) (rows_met (spans_met (lines_of format) false files a.front ++ rows_up_to (lines_of format) files a.span a.place))))) (written kept));
       })
 
-  pub passed_over_input : SpansPassed spec moment q format (option_map stream_files old.left) spans out_old out_new old.given new.given → IsOnePass spec moment q format before_it behind_it
+  pub passed_over_input : SpansPassed spec moment q format false (option_map stream_files old.left) spans (option_map length out_old) (option_map length out_new) old.given new.given → IsOnePass spec moment q format before_it behind_it
   passed_over_input passed =
       subst (λ (b : Bool). Told logs (λ folder. Told (files_read b before_it behind_it) InputPassed)) (sym stdin)
       (told_so logs (Told (option_map stream_files old.left) InputPassed) (of_left old.left refl))
@@ -467,11 +383,11 @@ nothing_given spec moment q format old folder given fewer =
     nothing_read spec moment q format old (progress folder given old.input old.out) (told_map folder (λ files. given ≤ old.given) (λ files. all_given (progress folder given old.input old.out) ≤ all_given old) (λ files few. omega arith) fewer)
 
 -- the same of equal counts
-pub moved_passed : (spec : Spec) (moment : ℤ) (q : model.Query) (format : TableFormat) (spans : List Span) (out_old out_new : Option (List ℕ)) (a b : Option Folder) (m n x y : ℕ) → a ≡ b → m ≡ n → x ≡ y
-    → SpansPassed spec moment q format a spans out_old out_new m x → SpansPassed spec moment q format b spans out_old out_new n y
+pub moved_passed : (spec : Spec) (moment : ℤ) (q : model.Query) (format : TableFormat) (spans : List Span) (out_old out_new : Option ℕ) (a b : Option Folder) (m n x y : ℕ) → a ≡ b → m ≡ n → x ≡ y
+    → SpansPassed spec moment q format false a spans out_old out_new m x → SpansPassed spec moment q format false b spans out_old out_new n y
 moved_passed spec moment q format spans out_old out_new a b m n x y told first last passed =
-    subst (λ (t : Option Folder). SpansPassed spec moment q format t spans out_old out_new n y) told
-    (subst (λ (k : ℕ). SpansPassed spec moment q format a spans out_old out_new k y) first (subst (λ (k : ℕ). SpansPassed spec moment q format a spans out_old out_new m k) last passed))
+    subst (λ (t : Option Folder). SpansPassed spec moment q format false t spans out_old out_new n y) told
+    (subst (λ (k : ℕ). SpansPassed spec moment q format false a spans out_old out_new k y) first (subst (λ (k : ℕ). SpansPassed spec moment q format false a spans out_old out_new m k) last passed))
 
 -- words without a checkpoint keep no ledger
 pub kept_none : (words : List (List ℕ)) (a b : Spec) (ledger : List ℕ) → IsAsked words a → IsAsked words b → a.checkpoint ≡ None → b.checkpoint ≡ Some ledger → ⊥

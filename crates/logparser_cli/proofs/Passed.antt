@@ -17,10 +17,11 @@ use Rattle.log_reading.specs.Spans.{rows_up_to, spans_found, spans_met, spans_si
 use Rattle.log_reading.specs.declared.span.Span.{Span}
 use Rattle.log_reading.proofs.RowsMet.{rows_met-append, rows_met_of, rows_met_spans}
 use Rattle.query_types.specs.Planned.{Planned}
+use Rattle.checkpointed_command.specs.OnePass.{standard_text}
 use Rattle.checkpointed_command.specs.Plans.{of_rows, table_rows}
 use Rattle.checkpointed_command.specs.Texts.{IsAtOnce, no_sections, output_of}
 use Rattle.checkpointed_command.proofs.AtOnce.{asked_begins}
-use Rattle.logparser_cli.specs.OnePass.{IsClose, found_up_to, joined, standard_text}
+use Rattle.logparser_cli.specs.OnePass.{IsClose, found_up_to, joined}
 use Rattle.logparser_cli.proofs.LinesUpTo.{records_begin, records_none, records_taken, records_whole}
 
 -- the bytes of a log up to its cut

@@ -8,7 +8,6 @@ pub mod Answers
 pub mod Input
 pub mod Given
 pub mod OnePass
-pub mod SpansPassed
 pub mod Kept
 pub use Rattle.checkpointed_command.specs.Asked as CheckpointedCommandAsked
 pub use Rattle.checkpointed_command.specs.Refusals

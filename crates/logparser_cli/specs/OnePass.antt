@@ -1,7 +1,6 @@
--- That a query goes over its logs in one pass: they are read no further than a little ahead of what standard output has of their rows.
+-- That a run goes over its logs in one pass: they are read no further than a little ahead of what standard output has of their rows.
 use Rattle.std.specs.Prelude.{◌≡◌, ◌⊎◌, ◌+◌, ◌-◌, ◌<◌, ◌≤◌, ℕ, ℤ, Bool, true, false, List, [], ◌∷◌, ◌++◌, length, take, flat_map, Option, None, Ok, IsSomeAnd, option_map}
 use Rattle.grammar.specs.Trees as model
-use Rattle.grammar.specs.Trees.{Query as query}
 use Rattle.lp_model.specs.Outside.{Folder, Told, bytes_in}
 use Rattle.lp_model.specs.Reading.{Format, lines_before, records_in}
 use Rattle.command_words.specs.declared.spec.Spec.{Spec}
@@ -10,43 +9,22 @@ use Rattle.input_tables.specs.declared.format.TableFormat.{TableFormat}
 use Rattle.input_tables.specs.Tables.{lines_of, table_of}
 use Rattle.log_listing.specs.declared.lengths.NameLength.{NameLength}
 use Rattle.log_reading.specs.Found.{Found, found_of}
-use Rattle.order_top.specs.Finish.{Row}
 use Rattle.query_text.specs.Stdin.{names_in}
-use Rattle.query_types.specs.Built.{is_built}
 use Rattle.query_types.specs.Planned.{Planned}
 use Rattle.requests.specs.Requests.{Asks}
 use Rattle.requests.specs.Texts.{file_in}
-use Rattle.row_output.specs.Asked.{text_in}
 use Rattle.standard_input.specs.Streams.{stream_files}
 use Rattle.checkpointed_command.specs.Built.{reads_stdin}
-use Rattle.checkpointed_command.specs.Formats.{log_format}
 use Rattle.checkpointed_command.specs.Giving.{subqueries_of}
-use Rattle.checkpointed_command.specs.LogFormat.TheVariants as F
-use Rattle.checkpointed_command.specs.Outputs.{asked_in, is_standard}
+use Rattle.checkpointed_command.specs.OnePass.{GoesInPass, standard_text}
 use Rattle.checkpointed_command.specs.Plans.{of_rows, query_plan, table_rows}
-use Rattle.checkpointed_command.specs.Texts.{IsAtOnce, into_in, no_sections, output_of}
 use Rattle.logparser_cli.specs.Logs.{AreLogs}
 use Rattle.logparser_cli.specs.Outputs.{Input}
 
--- Which queries go over their logs in one pass
-
-abbrev pub parts_in : model.Query → model.Parts
-parts_in (query.query parts subqueries) = parts
-
--- a query takes rows as they come: it has no subquery and no groups, and neither DISTINCT nor ORDER BY nor TOP
-pub record TakesRows (q : model.Query) : Type 0 where
-  pub alone : subqueries_of q ≡ []
-  pub rows : is_built q ≡ true
-  pub distinct : (parts_in q).distinct ≡ false
-  pub order : (parts_in q).order ≡ []
-  pub top : (parts_in q).top ≡ None
-
--- it reads logs of a format with a table, and its rows go to standard output as CSV, TSV or W3C
+-- a query without subqueries that goes over its own logs so
 pub record PassesRows (spec : Spec) (q : model.Query) (format : TableFormat) : Type 0 where
-  pub rows : TakesRows q
-  pub input : log_format spec q ≡ F.Tabled format
-  pub output : IsAtOnce (output_of spec q)
-  pub standard : is_standard (into_in q) ≡ true
+  pub alone : subqueries_of q ≡ []
+  pub goes : GoesInPass spec q format
 
 -- words ask for such a query, which stands in them, without a checkpoint
 pub record AsksInPass (before now : Option Folder) (words : List (List ℕ)) (spec : Spec) (q : model.Query) (format : TableFormat) : Type 0 where
@@ -67,10 +45,6 @@ found_up_to format folder [] place = []
 found_up_to format folder (log ∷ logs) place =
     let bytes = take log.length (bytes_in folder log.name) in
     found_of log.name (flat_map (records_in format bytes false) (lines_before bytes false place)) ++ found_up_to format folder logs (place - length bytes)
-
--- the text of a query's rows on standard output, by no template
-abbrev pub standard_text : Spec → ℤ → model.Query → Planned → List Row → List ℕ
-standard_text spec moment q plan rows = text_in (asked_in spec no_sections moment q [] (of_rows plan)) true rows
 
 -- the text of the rows that a plan makes of the lines up to a place
 abbrev pub text_up_to : Spec → ℤ → model.Query → TableFormat → Planned → Folder → List NameLength → ℕ → List ℕ

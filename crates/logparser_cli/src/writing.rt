@@ -1,5 +1,5 @@
 // The rows of a query to standard output, or to files.
-ghost use Rattle.std.specs.Prelude.{◌≡◌, ◌≤◌, ◌+◌, true, false, length, IfOk, IsSome, OnErr, IsErrOf};
+ghost use Rattle.std.specs.Prelude.{◌≡◌, ◌≤◌, ◌+◌, true, false, length, option_map, IfOk, IsSome, OnErr, IsErrOf};
 ghost use Rattle.lp_model.specs.Outside.{Rose, OnlyGrow};
 ghost use Rattle.command_words.specs.Table.{IsInRange};
 ghost use Rattle.command_words.specs.declared.formats.OutputFormat.TheVariants as O;
@@ -11,12 +11,11 @@ ghost use Rattle.checkpointed_command.specs.Built.{all_built};
 ghost use Rattle.checkpointed_command.specs.Executed.{IsMoment, IsExecuted, IsParseError, IsStopped, IsUnplaced, IsUnplanned, IsUntouched};
 ghost use Rattle.checkpointed_command.specs.Faults.{IfParse, IfPlan, IfRefused};
 ghost use Rattle.checkpointed_command.specs.Formats.{log_format};
+ghost use Rattle.checkpointed_command.specs.OnePass.{GoesInPass, SpansPassed};
 ghost use Rattle.checkpointed_command.specs.Outputs.{asked_in, is_standard};
 ghost use Rattle.checkpointed_command.specs.Texts.{into_in, output_of, sections_in};
 ghost use Rattle.input_tables.specs.declared.format.TableFormat.{TableFormat};
-ghost use Rattle.logparser_cli.specs.OnePass.{PassesRows};
 ghost use Rattle.logparser_cli.specs.Outputs.{HasFront, HasWritten, IsUnwritten, OutputRose, held};
-ghost use Rattle.logparser_cli.specs.SpansPassed.{SpansPassed};
 
 use checkpoint::Spans;
 use checkpointed_command::{Ran, RunFault, execute, is_standard};
@@ -56,9 +55,9 @@ pub(crate) fn write_rows<L: LogSource, D: Disk, S: Sink>(
     ensures refused { IfRefused result (IsUnplaced (log_format spec.now (query_of query.now)) false (L.folder logs.new) (asked_in spec.now (sections_in (λ t. t.value) template) moment (query_of query.now) spans.now) spec.now moment (query_of query.now) spans.now) }
     ensures plan { IfPlan result (IsUnplanned (log_format spec.now (query_of query.now)) false (L.folder logs.new) spec.now moment (query_of query.now) spans.now) }
     ensures before { IfPlan result (λ fault. IsUntouched (log_format spec.now (query_of query.now)) false (L.folder logs.new) (IsUnwritten (held (AlwaysTells D.state) (D.state disk.old).seen (S.written out.old)) (held (AlwaysTells D.state) (D.state disk.new).seen (S.written out.new))) spec.now spans.now) }
-    ensures parse { IfParse result (IsParseError (log_format spec.now (query_of query.now)) false (L.folder logs.new) spec.now moment (query_of query.now) spans.now) }
+    ensures parse { IfParse result (IsParseError (log_format spec.now (query_of query.now)) false (L.folder logs.new) (asked_in spec.now (sections_in (λ t. t.value) template) moment (query_of query.now) spans.now) spec.now moment (query_of query.now) spans.now) }
     ensures given { L.given logs.new ≤ L.given logs.old + spans_size spans.now }
-    ensures one_pass { (format : TableFormat) → PassesRows spec.now (query_of query.now) format → SpansPassed spec.now moment (query_of query.now) format (L.folder logs.new) spans.now (S.written out.old) (S.written out.new) (L.given logs.old) (L.given logs.new) }
+    ensures one_pass { (format : TableFormat) → GoesInPass spec.now (query_of query.now) format → SpansPassed spec.now moment (query_of query.now) format false (L.folder logs.new) spans.now (option_map length (S.written out.old)) (option_map length (S.written out.new)) (L.given logs.old) (L.given logs.new) }
     ensures later_logs { L.faults logs.old ≤ L.faults logs.new }
     ensures logs { IsErrOf result RunFault.LogsFault → Rose (L.faults logs.old) (L.faults logs.new) }
     ensures honest { (D.state disk.old).honest → (D.state disk.new).honest }

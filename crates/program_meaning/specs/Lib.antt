@@ -8,7 +8,7 @@ pub use Rattle.subqueries.specs.Executed
 pub use Rattle.subqueries.specs.Faults
 pub use Rattle.subqueries.specs.Formats
 pub use Rattle.subqueries.specs.Outputs
-pub use Rattle.subqueries.specs.Passing
+pub use Rattle.subqueries.specs.OnePass
 pub use Rattle.subqueries.specs.Plans
 pub use Rattle.subqueries.specs.Texts
 pub use Rattle.subqueries.specs.Ran

@@ -5,7 +5,7 @@ pub use Rattle.program_meaning.specs.Executed
 pub use Rattle.program_meaning.specs.Faults
 pub use Rattle.program_meaning.specs.Formats
 pub use Rattle.program_meaning.specs.Outputs
-pub use Rattle.program_meaning.specs.Passing
+pub use Rattle.program_meaning.specs.OnePass
 pub use Rattle.program_meaning.specs.Plans
 pub use Rattle.program_meaning.specs.Texts
 pub use Rattle.program_meaning.specs.Ran

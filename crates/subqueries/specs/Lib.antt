@@ -8,7 +8,7 @@ pub use Rattle.execution.specs.Executed
 pub use Rattle.execution.specs.Faults
 pub use Rattle.execution.specs.Formats
 pub use Rattle.execution.specs.Outputs
-pub use Rattle.execution.specs.Passing
+pub use Rattle.execution.specs.OnePass
 pub use Rattle.execution.specs.Plans
 pub use Rattle.execution.specs.Texts
 pub use Rattle.execution.specs.declared.fault.Ran

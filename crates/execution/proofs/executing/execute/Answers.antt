@@ -1,4 +1,4 @@
-use Rattle.std.proofs.Common.{◌≡◌, true, map, IfOk, OnErr, refl, sym, ◌∙◌, subst, FitsSigned, w64}
+use Rattle.std.proofs.Common.{◌≡◌, true, map, IfOk, OnErr, inl, refl, sym, ◌∙◌, subst, FitsSigned, w64}
 use Rattle.std.proofs.lemmas.Int.{to_z-of_z}
 use Rattle.lp_model.proofs.Growing.{OnlyGrow-refl}
 use Rattle.any_format.specs.Wanted.{wanted_text}
@@ -21,8 +21,9 @@ use Rattle.execution.specs.Outputs.{asked_in}
 use Rattle.execution.specs.Passing.{ReadsInPass}
 use Rattle.execution.specs.Plans.{PlannedQuery, asked_for}
 use Rattle.execution.specs.Texts.{sections_in}
-use Rattle.execution.proofs.Asking.{as_asked, reads_none, stopped_at_once}
+use Rattle.execution.proofs.Asking.{as_asked, stopped_at_once}
 use Rattle.execution.proofs.FormatLemmas.{separated}
+use Rattle.execution.proofs.OnePasses.{passed_spans}
 use Rattle.execution.proofs.executing.execute.Goals as goal
 
 pub execute_sampled-requires-clause-separator : goal.execute_sampled-requires-clause-separator
@@ -86,7 +87,11 @@ pub returns-in-Tabled-clause-parse : goal.returns-in-Tabled-clause-parse
 returns-in-Tabled-clause-parse g c =
     let range : FitsSigned w64 c.args.moment = c.ranges.moment in
     let told = g.L.LogSource.folder c.execute_tabled.new.logs in
-    subst (λ (f : LogFormat). IfParse c.execute_tabled.result (λ (line : BadLine). IsParseError f c.args.waits told c.args.spec.now c.args.moment (query_of c.args.query.now) c.args.spans.now line)) (sym c.in-Tabled.is ∙ c.log_format.ensures) (simp to_z-of_z at c.execute_tabled.ensures.parse)
+    let q = query_of c.args.query.now in
+    let Of : LogFormat → (PlannedQuery → Asked) → Type 0 = λ f a. IfParse c.execute_tabled.result (λ (line : BadLine). IsParseError f c.args.waits told a c.args.spec.now c.args.moment q c.args.spans.now line) in
+    let asked = as_asked c.args.spec.now q c.args.spans.now c.output_of.result _ c.args.moment (files_for c.in-Ok.into) (wanted_text c.wanted_as-wanted.result c.args.moment) c.in-Ok.ensures.files c.output_of.ensures (c.wanted_as-wanted.ensures c.args.moment) in
+    subst (λ (a : PlannedQuery → Asked). Of (log_format c.args.spec.now q) a) asked
+    (subst (λ (f : LogFormat). Of f (asked_for (files_for c.in-Ok.into) (wanted_text c.wanted_as-wanted.result c.args.moment) q)) (sym c.in-Tabled.is ∙ c.log_format.ensures) (simp to_z-of_z at c.execute_tabled.ensures.parse))
 
 pub returns-in-Tabled-clause-took : goal.returns-in-Tabled-clause-took
 returns-in-Tabled-clause-took g c =
@@ -144,28 +149,32 @@ pub returns-in-Sampled-clause-parse : goal.returns-in-Sampled-clause-parse
 returns-in-Sampled-clause-parse g c =
     let range : FitsSigned w64 c.args.moment = c.ranges.moment in
     let told = g.L.LogSource.folder c.execute_sampled.new.logs in
-    subst (λ (f : LogFormat). IfParse c.execute_sampled.result (λ (line : BadLine). IsParseError f c.args.waits told c.args.spec.now c.args.moment (query_of c.args.query.now) c.args.spans.now line)) (sym c.in-Sampled.is ∙ c.log_format.ensures) (simp to_z-of_z at c.execute_sampled.ensures.parse)
+    let q = query_of c.args.query.now in
+    let Of : LogFormat → (PlannedQuery → Asked) → Type 0 = λ f a. IfParse c.execute_sampled.result (λ (line : BadLine). IsParseError f c.args.waits told a c.args.spec.now c.args.moment q c.args.spans.now line) in
+    let asked = as_asked c.args.spec.now q c.args.spans.now c.output_of.result _ c.args.moment (files_for c.in-Ok.into) (wanted_text c.wanted_as-wanted.result c.args.moment) c.in-Ok.ensures.files c.output_of.ensures (c.wanted_as-wanted.ensures c.args.moment) in
+    subst (λ (a : PlannedQuery → Asked). Of (log_format c.args.spec.now q) a) asked
+    (subst (λ (f : LogFormat). Of f (asked_for (files_for c.in-Ok.into) (wanted_text c.wanted_as-wanted.result c.args.moment) q)) (sym c.in-Sampled.is ∙ c.log_format.ensures) (simp to_z-of_z at c.execute_sampled.ensures.parse))
 
 pub returns-in-Sampled-clause-took : goal.returns-in-Sampled-clause-took
 returns-in-Sampled-clause-took g c =
     let told = g.L.LogSource.folder c.execute_sampled.new.logs in
     subst (λ (f : LogFormat). IfOk c.execute_sampled.result (λ (ran : Ran). c.args.waits ≡ true → Told told (λ folder. AreKept (lines_in f) true c.args.spans.now folder → ran.took ≡ map (took_of (lines_in f) folder) c.args.spans.now))) (sym c.in-Sampled.is ∙ c.log_format.ensures) c.execute_sampled.ensures.took
 
-pub returns-in_default-clause-passes : goal.returns-in_default-clause-passes
-returns-in_default-clause-passes g c = reads_none _ _ (log_format c.args.spec.now (query_of c.args.query.now)) c.args.waits _ _ c.args.moment (query_of c.args.query.now) c.args.spans.now _ _ _
+pub returns-in_default-clause-one_pass : goal.returns-in_default-clause-one_pass
+returns-in_default-clause-one_pass g c = λ format passes. inl refl
 
-pub returns-in-Tabled-clause-passes : goal.returns-in-Tabled-clause-passes
-returns-in-Tabled-clause-passes g c =
+pub returns-in-Tabled-clause-one_pass : goal.returns-in-Tabled-clause-one_pass
+returns-in-Tabled-clause-one_pass g c = λ format passes.
     let range : FitsSigned w64 c.args.moment = c.ranges.moment in
     let kind = kind_of g.G.Stage.state g.G.Stage.ended in
     let q = query_of c.args.query.now in
     let Of : LogFormat → (PlannedQuery → Asked) → Type 0 = λ f a. ReadsInPass kind g.G.Stage.goes f c.args.waits (g.L.LogSource.folder c.execute_tabled.new.logs) a c.args.moment q c.args.spans.now (g.L.LogSource.given c.args.logs.now) (g.L.LogSource.given c.execute_tabled.new.logs) c.args.stage.now c.execute_tabled.new.stage in
     let asked = as_asked c.args.spec.now q c.args.spans.now c.output_of.result _ c.args.moment (files_for c.in-Ok.into) (wanted_text c.wanted_as-wanted.result c.args.moment) c.in-Ok.ensures.files c.output_of.ensures (c.wanted_as-wanted.ensures c.args.moment) in
-    subst (λ (a : PlannedQuery → Asked). Of (log_format c.args.spec.now q) a) asked
-    (subst (λ (f : LogFormat). Of f (asked_for (files_for c.in-Ok.into) (wanted_text c.wanted_as-wanted.result c.args.moment) q)) (sym c.in-Tabled.is ∙ c.log_format.ensures) (simp to_z-of_z at c.execute_tabled.ensures.passes))
+    passed_spans kind g.G.Stage.goes g.met.G.Stage.keeps_taken c.args.spec.now (sections_in (λ t. t.value) c.args.template) c.args.moment q format c.args.waits (g.L.LogSource.folder c.execute_tabled.new.logs) c.args.spans.now (g.L.LogSource.given c.args.logs.now) (g.L.LogSource.given c.execute_tabled.new.logs) c.args.stage.now c.execute_tabled.new.stage passes
+    (subst (λ (a : PlannedQuery → Asked). Of (log_format c.args.spec.now q) a) asked
+    (subst (λ (f : LogFormat). Of f (asked_for (files_for c.in-Ok.into) (wanted_text c.wanted_as-wanted.result c.args.moment) q)) (sym c.in-Tabled.is ∙ c.log_format.ensures) (simp to_z-of_z at c.execute_tabled.ensures.passes)))
 
-pub returns-in-Sampled-clause-passes : goal.returns-in-Sampled-clause-passes
-returns-in-Sampled-clause-passes g c =
-    let q = query_of c.args.query.now in
-    let asked = asked_in c.args.spec.now (sections_in (λ t. t.value) c.args.template) c.args.moment q c.args.spans.now in
-    subst (λ (f : LogFormat). ReadsInPass (kind_of g.G.Stage.state g.G.Stage.ended) g.G.Stage.goes f c.args.waits (g.L.LogSource.folder c.execute_sampled.new.logs) asked c.args.moment q c.args.spans.now (g.L.LogSource.given c.args.logs.now) (g.L.LogSource.given c.execute_sampled.new.logs) c.args.stage.now c.execute_sampled.new.stage) (sym c.in-Sampled.is ∙ c.log_format.ensures) tt
+pub returns-in-Sampled-clause-one_pass : goal.returns-in-Sampled-clause-one_pass
+returns-in-Sampled-clause-one_pass g c = λ format passes.
+    let tabled : F.Sampled c.in-Sampled.options c.in-Sampled.limit ≡ F.Tabled format = sym c.in-Sampled.is ∙ (c.log_format.ensures ∙ passes.input) in
+    absurd cc

@@ -74,5 +74,5 @@ returns-in-Err-Plan-clause-before g c =
 
 pub returns-in-Some-clause-parse : goal.returns-in-Some-clause-parse
 returns-in-Some-clause-parse g c =
-    rw c.in-Err-Bad.field-0-is (parse_error (g.L.LogSource.folder c.sample_query.new.logs) c.args.spec.now c.args.moment.seconds (query_of c.args.query.now)
+    rw c.in-Err-Bad.field-0-is (parse_error (g.L.LogSource.folder c.sample_query.new.logs) (asked_for (files_for c.args.into) (wanted_text c.args.wanted c.args.moment.seconds) (query_of c.args.query.now)) c.args.spec.now c.args.moment.seconds (query_of c.args.query.now)
     c.args.options c.args.limit c.args.waits c.as_slice.result.now c.args.spans.now c.in-Some.field-0 c.args.budget _ c.as_slice.ensures c.in-Some.is c.requires.budget (rw c.in-Err-Bad.field-0-is at c.in-Err-Bad.ensures.too_many))

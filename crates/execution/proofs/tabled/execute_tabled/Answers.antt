@@ -18,7 +18,7 @@ use Rattle.execution.specs.Fitting.{planned_query}
 use Rattle.execution.specs.Plans.{PlannedQuery, asked_for}
 use Rattle.execution.proofs.Taking.{taken}
 use Rattle.execution.proofs.Budgeting.{all_within, are_all}
-use Rattle.execution.proofs.TabledRuns.{executed, front, parse_error, passed}
+use Rattle.execution.proofs.TabledRuns.{executed, front, parse_error, passed, unplaced}
 use Rattle.execution.proofs.tabled.execute_tabled.Goals as goal
 
 abbrev asked_with : Into → Wanted → ℤ → model.Query → PlannedQuery → Asked
@@ -74,8 +74,9 @@ returns-clause-stopped g c = inr
 
 pub returns-in-Err-Refused-clause-refused : goal.returns-in-Err-Refused-clause-refused
 returns-in-Err-Refused-clause-refused g c =
-    rw c.in-Err-Refused.field-0-is (front (g.L.LogSource.folder c.carry_out.new.logs) (λ asked rows. IsRefused asked rows c.in-Err-Refused.why) (asked_with c.args.into c.args.wanted c.args.moment.seconds (query_of c.args.query.now)) c.args.spec.now c.args.moment.seconds (query_of c.args.query.now)
-    c.args.format c.args.waits (planned_query c.in-Ok.plan) c.as_slice.result.now c.args.spans.now (asked_of c.in-Ok-output_over.output) c.as_slice.ensures c.in-Ok.ensures.plan c.in-Ok-output_over.ensures.asked (rw c.in-Err-Refused.field-0-is at c.in-Err-Refused.ensures.refused))
+    rw c.in-Err-Refused.field-0-is (unplaced (g.L.LogSource.folder c.carry_out.new.logs) (asked_with c.args.into c.args.wanted c.args.moment.seconds (query_of c.args.query.now)) c.args.spec.now c.args.moment.seconds (query_of c.args.query.now)
+    c.args.format c.args.waits (planned_query c.in-Ok.plan) c.as_slice.result.now c.args.spans.now (asked_of c.in-Ok-output_over.output) c.args.budget c.in-Err-Refused.why c.as_slice.ensures c.in-Ok.ensures.plan c.in-Ok-output_over.ensures.asked c.requires.budget
+    (rw c.in-Err-Refused.field-0-is at c.in-Err-Refused.ensures.refused) (rw c.in-Err-Refused.field-0-is at c.in-Err-Refused.ensures.early))
 
 pub returns-in-Some-clause-stopped : goal.returns-in-Some-clause-stopped
 returns-in-Some-clause-stopped g c = inr
@@ -84,8 +85,9 @@ returns-in-Some-clause-stopped g c = inr
 
 pub returns-in-Some-clause-parse : goal.returns-in-Some-clause-parse
 returns-in-Some-clause-parse g c =
-    rw c.in-Err-Bad.field-0-is (parse_error (g.L.LogSource.folder c.carry_out.new.logs) c.args.spec.now c.args.moment.seconds (query_of c.args.query.now)
-    c.args.format c.args.waits (planned_query c.in-Ok.plan) c.as_slice.result.now c.args.spans.now c.in-Some.field-0 c.args.budget _ c.as_slice.ensures c.in-Ok.ensures.plan c.in-Some.is c.requires.budget (rw c.in-Err-Bad.field-0-is at c.in-Err-Bad.ensures.too_many))
+    rw c.in-Err-Bad.field-0-is (parse_error (g.L.LogSource.folder c.carry_out.new.logs) (asked_with c.args.into c.args.wanted c.args.moment.seconds (query_of c.args.query.now)) c.args.spec.now c.args.moment.seconds (query_of c.args.query.now)
+    c.args.format c.args.waits (planned_query c.in-Ok.plan) c.as_slice.result.now c.args.spans.now (asked_of c.in-Ok-output_over.output) c.in-Some.field-0 c.args.budget _ c.as_slice.ensures c.in-Ok.ensures.plan c.in-Ok-output_over.ensures.asked c.in-Some.is c.requires.budget
+    (rw c.in-Err-Bad.field-0-is at c.in-Err-Bad.ensures.named) (rw c.in-Err-Bad.field-0-is at c.in-Err-Bad.ensures.too_many))
 
 pub returns-in-Ok-carry_out-clause-passes : goal.returns-in-Ok-carry_out-clause-passes
 returns-in-Ok-carry_out-clause-passes g c = inr

@@ -112,9 +112,9 @@ returns-in-Ok-written-clause-one_pass g c = λ folder given format passes.
     let q = query_of c.args.query.now in
     let read = read_on g.I.Source.left g.I.Source.given g.I.Source.faults first last before goes c.new-log.ensures.none c.new-log.ensures.zero c.new-log.ensures.fresh c.new-log.ensures.same c.input-1.given.0 ends in
     let kept = folder_kept g.I.Source.left g.I.Source.given g.I.Source.faults first last before goes c.new-log.ensures.none c.new-log.ensures.zero c.new-log.ensures.fresh c.new-log.ensures.same in
-    passed_over_input c.args.spec.now c.args.moment q format folder given (input_at g.I.Source.left g.I.Source.given g.I.Source.faults before) (input_at g.I.Source.left g.I.Source.given g.I.Source.faults c.input-1.given.0) (g.S.Sink.written c.args.out.now) (g.S.Sink.written c.write_rows-written.new.out) c.in-Ok.spans passes.output c.requires.stdin c.in-Ok.ensures read
-    (moved_passed c.args.spec.now c.args.moment q format c.in-Ok.spans (g.S.Sink.written c.args.out.now) (g.S.Sink.written c.write_rows-written.new.out) (folder_of g.I.Source.left last) _ (g.I.Source.given first.input.now) _ (g.I.Source.given last.input.now) _ kept (ap g.I.Source.given c.new-log.ensures.same) (ap g.I.Source.given (sym ends))
-    ((simp to_z-of_z at c.write_rows-written.ensures.one_pass) format passes))
+    passed_over_input c.args.spec.now c.args.moment q format folder given (input_at g.I.Source.left g.I.Source.given g.I.Source.faults before) (input_at g.I.Source.left g.I.Source.given g.I.Source.faults c.input-1.given.0) (g.S.Sink.written c.args.out.now) (g.S.Sink.written c.write_rows-written.new.out) c.in-Ok.spans passes.goes.output c.requires.stdin c.in-Ok.ensures read
+    (moved_passed c.args.spec.now c.args.moment q format c.in-Ok.spans _ _ (folder_of g.I.Source.left last) _ (g.I.Source.given first.input.now) _ (g.I.Source.given last.input.now) _ kept (ap g.I.Source.given c.new-log.ensures.same) (ap g.I.Source.given (sym ends))
+    ((simp to_z-of_z at c.write_rows-written.ensures.one_pass) format passes.goes))
 
 pub returns-clause-one_pass : goal.returns-clause-one_pass
 returns-clause-one_pass g c = λ folder given format passes.
@@ -127,9 +127,9 @@ returns-clause-one_pass g c = λ folder given format passes.
     let q = query_of c.args.query.now in
     let read = read_on g.I.Source.left g.I.Source.given g.I.Source.faults first last before goes c.new-log.ensures.none c.new-log.ensures.zero c.new-log.ensures.fresh c.new-log.ensures.same c.input-1.given.0 ends in
     let kept = folder_kept g.I.Source.left g.I.Source.given g.I.Source.faults first last before goes c.new-log.ensures.none c.new-log.ensures.zero c.new-log.ensures.fresh c.new-log.ensures.same in
-    passed_over_input c.args.spec.now c.args.moment q format folder given (input_at g.I.Source.left g.I.Source.given g.I.Source.faults before) (input_at g.I.Source.left g.I.Source.given g.I.Source.faults c.input-1.given.0) (g.S.Sink.written c.args.out.now) (g.S.Sink.written c.write_rows-written.new.out) c.in-Ok.spans passes.output c.requires.stdin c.in-Ok.ensures read
-    (moved_passed c.args.spec.now c.args.moment q format c.in-Ok.spans (g.S.Sink.written c.args.out.now) (g.S.Sink.written c.write_rows-written.new.out) (folder_of g.I.Source.left last) _ (g.I.Source.given first.input.now) _ (g.I.Source.given last.input.now) _ kept (ap g.I.Source.given c.new-log.ensures.same) (ap g.I.Source.given (sym ends))
-    ((simp to_z-of_z at c.write_rows-written.ensures.one_pass) format passes))
+    passed_over_input c.args.spec.now c.args.moment q format folder given (input_at g.I.Source.left g.I.Source.given g.I.Source.faults before) (input_at g.I.Source.left g.I.Source.given g.I.Source.faults c.input-1.given.0) (g.S.Sink.written c.args.out.now) (g.S.Sink.written c.write_rows-written.new.out) c.in-Ok.spans passes.goes.output c.requires.stdin c.in-Ok.ensures read
+    (moved_passed c.args.spec.now c.args.moment q format c.in-Ok.spans _ _ (folder_of g.I.Source.left last) _ (g.I.Source.given first.input.now) _ (g.I.Source.given last.input.now) _ kept (ap g.I.Source.given c.new-log.ensures.same) (ap g.I.Source.given (sym ends))
+    ((simp to_z-of_z at c.write_rows-written.ensures.one_pass) format passes.goes))
 
 pub returns-then-is_too_long-clause-one_pass : goal.returns-then-is_too_long-clause-one_pass
 returns-then-is_too_long-clause-one_pass g c = λ folder given format passes.
@@ -142,9 +142,9 @@ returns-then-is_too_long-clause-one_pass g c = λ folder given format passes.
     let q = query_of c.args.query.now in
     let read = read_on g.I.Source.left g.I.Source.given g.I.Source.faults first last before goes c.new-log.ensures.none c.new-log.ensures.zero c.new-log.ensures.fresh c.new-log.ensures.same c.input-1.given.0 ends in
     let kept = folder_kept g.I.Source.left g.I.Source.given g.I.Source.faults first last before goes c.new-log.ensures.none c.new-log.ensures.zero c.new-log.ensures.fresh c.new-log.ensures.same in
-    passed_over_input c.args.spec.now c.args.moment q format folder given (input_at g.I.Source.left g.I.Source.given g.I.Source.faults before) (input_at g.I.Source.left g.I.Source.given g.I.Source.faults c.input-1.given.0) (g.S.Sink.written c.args.out.now) (g.S.Sink.written c.write_rows-written.new.out) c.in-Ok.spans passes.output c.requires.stdin c.in-Ok.ensures read
-    (moved_passed c.args.spec.now c.args.moment q format c.in-Ok.spans (g.S.Sink.written c.args.out.now) (g.S.Sink.written c.write_rows-written.new.out) (folder_of g.I.Source.left last) _ (g.I.Source.given first.input.now) _ (g.I.Source.given last.input.now) _ kept (ap g.I.Source.given c.new-log.ensures.same) (ap g.I.Source.given (sym ends))
-    ((simp to_z-of_z at c.write_rows-written.ensures.one_pass) format passes))
+    passed_over_input c.args.spec.now c.args.moment q format folder given (input_at g.I.Source.left g.I.Source.given g.I.Source.faults before) (input_at g.I.Source.left g.I.Source.given g.I.Source.faults c.input-1.given.0) (g.S.Sink.written c.args.out.now) (g.S.Sink.written c.write_rows-written.new.out) c.in-Ok.spans passes.goes.output c.requires.stdin c.in-Ok.ensures read
+    (moved_passed c.args.spec.now c.args.moment q format c.in-Ok.spans _ _ (folder_of g.I.Source.left last) _ (g.I.Source.given first.input.now) _ (g.I.Source.given last.input.now) _ kept (ap g.I.Source.given c.new-log.ensures.same) (ap g.I.Source.given (sym ends))
+    ((simp to_z-of_z at c.write_rows-written.ensures.one_pass) format passes.goes))
 
 pub returns-in_default-clause-too_long : goal.returns-in_default-clause-too_long
 returns-in_default-clause-too_long g c = λ long. absurd (stays_short g.I.Source.given c.args.input.now c.args.input.now refl long)

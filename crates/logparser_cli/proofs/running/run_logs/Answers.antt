@@ -63,13 +63,13 @@ returns-in-Ok-write_rows-clause-one_pass g c = λ format passes.
     let range : FitsSigned w64 c.args.moment = c.ranges.moment in
     let old : Progress = progress (g.L.Logs.folder c.args.logs.now) (g.L.Logs.given c.args.logs.now) (input_at g.I.Source.left g.I.Source.given g.I.Source.faults c.args.input.now) (g.S.Sink.written c.args.out.now) in
     let new : Progress = progress (g.L.Logs.folder c.write_rows.new.logs) (g.L.Logs.given c.write_rows.new.logs) (input_at g.I.Source.left g.I.Source.given g.I.Source.faults c.args.input.now) (g.S.Sink.written c.write_rows.new.out) in
-    passed_over_logs c.args.spec.now c.args.moment (query_of c.args.query.now) format old new (g.L.Logs.folder c.find_spans.new.logs) c.in-Ok.spans (g.L.Logs.given c.find_spans.new.logs) passes.output c.requires.files c.in-Ok.ensures.found c.write_rows.ensures.grows refl c.find_spans.ensures.given
-    ((simp to_z-of_z at c.write_rows.ensures.one_pass) format passes)
+    passed_over_logs c.args.spec.now c.args.moment (query_of c.args.query.now) format old new (g.L.Logs.folder c.find_spans.new.logs) c.in-Ok.spans (g.L.Logs.given c.find_spans.new.logs) passes.goes.output c.requires.files c.in-Ok.ensures.found c.write_rows.ensures.grows refl c.find_spans.ensures.given
+    ((simp to_z-of_z at c.write_rows.ensures.one_pass) format passes.goes)
 
 pub returns-clause-one_pass : goal.returns-clause-one_pass
 returns-clause-one_pass g c = λ format passes.
     let range : FitsSigned w64 c.args.moment = c.ranges.moment in
     let old : Progress = progress (g.L.Logs.folder c.args.logs.now) (g.L.Logs.given c.args.logs.now) (input_at g.I.Source.left g.I.Source.given g.I.Source.faults c.args.input.now) (g.S.Sink.written c.args.out.now) in
     let new : Progress = progress (g.L.Logs.folder c.write_rows.new.logs) (g.L.Logs.given c.write_rows.new.logs) (input_at g.I.Source.left g.I.Source.given g.I.Source.faults c.args.input.now) (g.S.Sink.written c.write_rows.new.out) in
-    passed_over_logs c.args.spec.now c.args.moment (query_of c.args.query.now) format old new (g.L.Logs.folder c.find_spans.new.logs) c.in-Ok.spans (g.L.Logs.given c.find_spans.new.logs) passes.output c.requires.files c.in-Ok.ensures.found c.write_rows.ensures.grows refl c.find_spans.ensures.given
-    ((simp to_z-of_z at c.write_rows.ensures.one_pass) format passes)
+    passed_over_logs c.args.spec.now c.args.moment (query_of c.args.query.now) format old new (g.L.Logs.folder c.find_spans.new.logs) c.in-Ok.spans (g.L.Logs.given c.find_spans.new.logs) passes.goes.output c.requires.files c.in-Ok.ensures.found c.write_rows.ensures.grows refl c.find_spans.ensures.given
+    ((simp to_z-of_z at c.write_rows.ensures.one_pass) format passes.goes)

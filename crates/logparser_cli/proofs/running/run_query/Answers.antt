@@ -81,14 +81,14 @@ pub returns-in-Err-clause-one_pass : goal.returns-in-Err-clause-one_pass
 returns-in-Err-clause-one_pass g c = λ format passes.
     let old : Progress = progress (g.L.Logs.folder c.args.logs.now) (g.L.Logs.given c.args.logs.now) (input_at g.I.Source.left g.I.Source.given g.I.Source.faults c.args.input.now) (g.S.Sink.written c.args.out.now) in
     let q = query_of c.args.query.now in
-    nothing_given c.args.spec.now c.args.moment q format old (g.L.Logs.folder c.find_template.new.logs) (g.L.Logs.given c.find_template.new.logs) (no_bytes (g.L.Logs.folder c.find_template.new.logs) _ _ _ (no_template_files c.args.spec.now q passes.output) c.find_template.ensures.reads)
+    nothing_given c.args.spec.now c.args.moment q format old (g.L.Logs.folder c.find_template.new.logs) (g.L.Logs.given c.find_template.new.logs) (no_bytes (g.L.Logs.folder c.find_template.new.logs) _ _ _ (no_template_files c.args.spec.now q passes.goes.output) c.find_template.ensures.reads)
 
 pub returns-in-Err-prepare-clause-one_pass : goal.returns-in-Err-prepare-clause-one_pass
 returns-in-Err-prepare-clause-one_pass g c = λ format passes.
     let old : Progress = progress (g.L.Logs.folder c.args.logs.now) (g.L.Logs.given c.args.logs.now) (input_at g.I.Source.left g.I.Source.given g.I.Source.faults c.args.input.now) (g.S.Sink.written c.args.out.now) in
     let q = query_of c.args.query.now in
-    let first = no_bytes (g.L.Logs.folder c.find_template.new.logs) _ _ _ (no_template_files c.args.spec.now q passes.output) c.find_template.ensures.reads in
-    let second = no_subquery_bytes (g.L.Logs.folder c.prepare.new.logs) _ _ _ passes.rows.alone c.prepare.ensures.read in
+    let first = no_bytes (g.L.Logs.folder c.find_template.new.logs) _ _ _ (no_template_files c.args.spec.now q passes.goes.output) c.find_template.ensures.reads in
+    let second = no_subquery_bytes (g.L.Logs.folder c.prepare.new.logs) _ _ _ passes.alone c.prepare.ensures.read in
     nothing_given c.args.spec.now c.args.moment q format old (g.L.Logs.folder c.prepare.new.logs) (g.L.Logs.given c.prepare.new.logs)
     (told_and (g.L.Logs.folder c.prepare.new.logs) (g.L.Logs.given c.find_template.new.logs ≤ g.L.Logs.given c.args.logs.now) (g.L.Logs.given c.prepare.new.logs ≤ g.L.Logs.given c.find_template.new.logs) _ (λ a b. omega arith) (told_later (g.L.Logs.folder c.find_template.new.logs) (g.L.Logs.folder c.prepare.new.logs) _ c.in-Err-prepare.ensures.grows first) second)
 
@@ -100,9 +100,9 @@ returns-in-Ok-prepare-clause-one_pass g c = λ format passes.
     let q = query_of c.args.query.now in
     let whole = query_of c.prepare.new.query in
     let f : IsFilled c.args.spec.now c.args.moment (g.L.Logs.folder c.find_template.new.logs) (g.L.Logs.folder c.prepare.new.logs) q whole = simp to_z-of_z at c.in-Ok-prepare.ensures.fills in
-    let same : whole ≡ q = same_query c.args.spec.now c.args.moment (g.L.Logs.folder c.find_template.new.logs) (g.L.Logs.folder c.prepare.new.logs) q whole passes.rows.alone f in
-    let first = no_bytes (g.L.Logs.folder c.find_template.new.logs) _ _ _ (no_template_files c.args.spec.now q passes.output) c.find_template.ensures.reads in
-    let second = no_subquery_bytes (g.L.Logs.folder c.prepare.new.logs) _ _ _ passes.rows.alone c.prepare.ensures.read in
+    let same : whole ≡ q = same_query c.args.spec.now c.args.moment (g.L.Logs.folder c.find_template.new.logs) (g.L.Logs.folder c.prepare.new.logs) q whole passes.alone f in
+    let first = no_bytes (g.L.Logs.folder c.find_template.new.logs) _ _ _ (no_template_files c.args.spec.now q passes.goes.output) c.find_template.ensures.reads in
+    let second = no_subquery_bytes (g.L.Logs.folder c.prepare.new.logs) _ _ _ passes.alone c.prepare.ensures.read in
     let mid = told_and (g.L.Logs.folder c.prepare.new.logs) (g.L.Logs.given c.find_template.new.logs ≤ g.L.Logs.given c.args.logs.now) (g.L.Logs.given c.prepare.new.logs ≤ g.L.Logs.given c.find_template.new.logs) (g.L.Logs.given c.prepare.new.logs ≤ g.L.Logs.given c.args.logs.now) (λ a b. omega arith) (told_later (g.L.Logs.folder c.find_template.new.logs) (g.L.Logs.folder c.prepare.new.logs) _ c.in-Ok-prepare.ensures.grows first) second in
     let ran : IsOnePass c.args.spec.now c.args.moment whole format (progress (g.L.Logs.folder c.prepare.new.logs) (g.L.Logs.given c.prepare.new.logs) old.input old.out) new = (simp to_z-of_z at c.run_over.ensures.one_pass) format (subst (λ (x : model.Query). PassesRows c.args.spec.now x format) (sym same) passes) in
     passed_earlier c.args.spec.now c.args.moment q format old new (g.L.Logs.folder c.prepare.new.logs) (g.L.Logs.given c.prepare.new.logs)

@@ -10,7 +10,6 @@ use Rattle.checkpointed_command.specs.Texts.{into_in, sections_in}
 use Rattle.logparser_cli.specs.Outputs.{HasFront, HasWritten, IsUnwritten, held}
 use Rattle.logparser_cli.proofs.Mapping.{executed_map, if_ok_map, on_err_map, stopped_map}
 use Rattle.logparser_cli.proofs.Written.{files_cut, files_unwritten, files_written, goes_to_files, output_cut, output_written}
-use Rattle.logparser_cli.proofs.OnePasses.{passed_spans}
 use Rattle.logparser_cli.proofs.writing.write_rows.Goals as goal
 
 pub returns-then-is_standard-clause-ran : goal.returns-then-is_standard-clause-ran
@@ -77,11 +76,19 @@ returns-clause-refused g c =
     simp to_z-of_z at c.execute-2.ensures.refused
 
 pub returns-then-is_standard-clause-one_pass : goal.returns-then-is_standard-clause-one_pass
-returns-then-is_standard-clause-one_pass g c = λ format passes.
+returns-then-is_standard-clause-one_pass g c =
     let range : FitsSigned w64 c.args.moment = c.ranges.moment in
-    let template = sections_in (λ t. t.value) c.args.template in
-    passed_spans g.S.Sink.written _ c.args.spec.now template c.args.moment (query_of c.args.query.now) format (g.L.LogSource.folder c.execute.new.logs) c.args.spans.now (g.L.LogSource.given c.args.logs.now) (g.L.LogSource.given c.execute.new.logs) c.args.out.now c.execute.new.stage passes
-    (simp to_z-of_z at c.execute.ensures.passes)
+    simp to_z-of_z at c.execute.ensures.one_pass
 
 pub returns-clause-one_pass : goal.returns-clause-one_pass
 returns-clause-one_pass g c = λ format passes. absurd (true≢false (sym passes.standard ∙ (sym c.is_standard.ensures ∙ c.if-is_standard.false)))
+
+pub returns-then-is_standard-clause-parse : goal.returns-then-is_standard-clause-parse
+returns-then-is_standard-clause-parse g c =
+    let range : FitsSigned w64 c.args.moment = c.ranges.moment in
+    simp to_z-of_z at c.execute.ensures.parse
+
+pub returns-clause-parse : goal.returns-clause-parse
+returns-clause-parse g c =
+    let range : FitsSigned w64 c.args.moment = c.ranges.moment in
+    simp to_z-of_z at c.execute-2.ensures.parse
