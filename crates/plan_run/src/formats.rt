@@ -1,12 +1,13 @@
 // A plan over spans, by their format.
-ghost use Rattle.std.specs.Prelude.{◌≡◌, ◌≤◌, ◌+◌, ◌++◌, true, length, map, option_map, OnOk, OnErr, IfOk, IfErr, IsErrOf};
+ghost use Rattle.std.specs.Prelude.{◌≡◌, ◌⊎◌, ◌≤◌, ◌+◌, ◌++◌, [], true, length, map, option_map, OnOk, OnErr, IfOk, IfErr, IsErrOf};
 ghost use Rattle.lp_model.specs.Outside.{Rose, OnlyGrow, Told};
 ghost use Rattle.log_reading.specs.Page.{IsTooMany, IsWithin};
 ghost use Rattle.log_reading.specs.Spans.{AllSpans, AreReadable, IsSpan, AreKept, spans_found, spans_bad, spans_bad_lines, spans_size, took_of};
 ghost use Rattle.text_output.specs.Output.{kind_of};
 ghost use Rattle.row_output.specs.Asked.{left_of};
 ghost use Rattle.row_output.specs.Kept.{IsNew, asked_of};
-ghost use Rattle.row_output.specs.Rows.{Holds, IsRefused, Stops};
+ghost use Rattle.row_output.specs.Rows.{Holds, IsRefused, IsRefusedEarly, Stops};
+ghost use Rattle.row_output.specs.declared.fault.Refused.{Refused as Why};
 ghost use Rattle.query_run.specs.Ahead.{GoesAhead};
 ghost use Rattle.query_run.specs.Faults.{OnBad, OnRefusedOutput};
 ghost use Rattle.query_types.specs.Conditions.{filter_of};
@@ -60,8 +61,13 @@ pub fn run_plan<L: LogSource, G: Stage>(
     ensures within { IfOk result (λ written. IsWithin most_bad written.counts.bad) }
     ensures too_many { IfErr result (OnBad (λ line. Told (L.folder logs.new) (λ folder. AreKept (lines_of format) waits spans.now folder
         → IsTooMany most_bad 0 (spans_bad_lines (lines_of format) waits folder spans.now) line))) }
+    // An output of a name without stars is refused before any bad line is told.
+    ensures named { IfErr result (OnBad (λ line. (why : Why) → IsRefused (asked_of output) [] why → ⊥)) }
     ensures refused { IfErr result (OnRefusedOutput (λ why. Told (L.folder logs.new) (λ folder. AreKept (lines_of format) waits spans.now folder
         → IsRefused (asked_of output) (plan_rows (readings_of format) (planned_in plan) (lines_of format) waits folder spans.now) why))) }
+    // An output that is refused once the last row is there is refused behind all bad lines.
+    ensures early { IfErr result (OnRefusedOutput (λ why. Told (L.folder logs.new) (λ folder. AreKept (lines_of format) waits spans.now folder
+        → IsRefusedEarly (asked_of output) why ⊎ IsWithin most_bad (length (spans_bad (lines_of format) waits folder spans.now))))) }
     ensures stops { OnErr result (Told (L.folder logs.new) (λ folder. AreKept (lines_of format) waits spans.now folder
         → Stops (kind_of G.state G.ended) (asked_of output) stage.old (plan_rows (readings_of format) (planned_in plan) (lines_of format) waits folder spans.now) stage.new)) }
     ensures took { OnOk result (waits ≡ true → Told (L.folder logs.new) (λ folder. AreKept (lines_of format) true spans.now folder

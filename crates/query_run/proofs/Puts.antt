@@ -7,7 +7,7 @@ use Rattle.log_reading.specs.Found.{Found}
 use Rattle.text_output.specs.Output.{StageKind}
 use Rattle.row_output.specs.FileRows.{OnRefused}
 use Rattle.row_output.specs.Kept.{HasRows, asked_of}
-use Rattle.row_output.specs.Rows.{IsRefused, Stops}
+use Rattle.row_output.specs.Rows.{IsRefused, IsRefusedEarly, Stops}
 use Rattle.row_output.specs.declared.fault.OutputFault.{OutputFault}
 use Rattle.row_output.specs.declared.fault.Refused.{Refused}
 use Rattle.query_run.specs.Rows.{picked}
@@ -43,13 +43,18 @@ opens_as kind a b u v has asked picker refused = record {
 pub stops_as : {P : Type 0} {S : Type 0} (kind : StageKind S) (put : Rows) (a b : Writer P) (u v : S) (fault : OutputFault)
     → ((start : S) (rows more : Rows) → HasRows kind a.output start rows u → Stops kind (asked_of a.output) start (rows ++ (put ++ more)) v)
     → OnRefused (λ why. (start : S) (rows more : Rows) → HasRows kind a.output start rows u → IsRefused (asked_of a.output) (rows ++ (put ++ more)) why) fault
+    → OnRefused (λ why. (start : S) (rows : Rows) → HasRows kind a.output start rows u → IsRefusedEarly (asked_of a.output) why) fault
     → b.refused ≡ refused_by a.refused fault → StopsWithin kind put a u b v
-stops_as {S = S} kind put a b u v fault stop refused same = record {
+stops_as {S = S} kind put a b u v fault stop refused early same = record {
   stop = stop;
   refused = λ none start rows more has.
       let Q : Refused → Type 0 = IsRefused (asked_of a.output) (rows ++ (put ++ more)) in
       let All : Refused → Type 0 = λ why. (s : S) (front behind : Rows) → HasRows kind a.output s front u → IsRefused (asked_of a.output) (front ++ (put ++ behind)) why in
       subst (λ (o : Option Refused). IfSome o Q) (sym same) (refused_kept a.refused fault All Q (λ why is. is start rows more has) none refused);
+  early = λ none start rows has.
+      let Q : Refused → Type 0 = IsRefusedEarly (asked_of a.output) in
+      let All : Refused → Type 0 = λ why. (s : S) (front : Rows) → HasRows kind a.output s front u → IsRefusedEarly (asked_of a.output) why in
+      subst (λ (o : Option Refused). IfSome o Q) (sym same) (refused_kept a.refused fault All Q (λ why is. is start rows has) none early);
 }
 
 -- the rows of one record

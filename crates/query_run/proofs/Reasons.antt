@@ -132,6 +132,13 @@ bad_so (W.Refused why) P Q so p = tt
 bad_so (W.Bad log row) P Q so p = so (bad_line log row) p
 
 -- what holds of each bad line holds of one that is why
+pub bad_all : (fault : WriteFault) (Q : BadLine → Type 0) → ((line : BadLine) → Q line) → OnBad Q fault
+bad_all W.Memory Q so = tt
+bad_all W.Logs Q so = tt
+bad_all W.Output Q so = tt
+bad_all (W.Refused why) Q so = tt
+bad_all (W.Bad log row) Q so = so (bad_line log row)
+
 pub bad_each : {T : Type 0} (r : Result T WriteFault) (Q : BadLine → Type 0) → ((line : BadLine) → Q line) → IfErr r (OnBad Q)
 bad_each (Ok value) Q so = tt
 bad_each (Err W.Memory) Q so = tt

@@ -1,19 +1,20 @@
 -- A whole run, from before its first row to the end of its outputs.
-use Rattle.std.proofs.Common.{◌≡◌, ℕ, Bool, List, [], ◌++◌, length, Option, Some, None, IfSome, ap, sym, ◌∙◌, subst, arith}
+use Rattle.std.proofs.Common.{◌≡◌, ◌⊎◌, inl, ℕ, Bool, List, [], ◌++◌, length, Option, Some, None, IfSome, ap, refl, sym, ◌∙◌, subst, arith}
 use Rattle.std.proofs.lemmas.List.{append-nil}
+use Rattle.std.proofs.lemmas.Option.{IfSome_then}
 use Rattle.lp_model.specs.Outside.{Folder, Told}
 use Rattle.lp_model.specs.Reading.{Format}
 use Rattle.lp_values.specs.declared.value.Value.{Value}
 use Rattle.log_reading.specs.Found.{rows_met}
 use Rattle.log_reading.specs.Spans.{AreKept, TakesSpans, spans_bad, spans_found, spans_met}
-use Rattle.log_reading.specs.Page.{Takes}
+use Rattle.log_reading.specs.Page.{IsWithin, Takes}
 use Rattle.log_reading.specs.declared.page.Page.{Page}
 use Rattle.log_reading.specs.declared.span.Span.{Span}
 use Rattle.log_reading.proofs.RowsMet.{rows_met_spans}
 use Rattle.text_output.specs.Output.{StageKind}
 use Rattle.row_output.specs.Asked.{Asked}
 use Rattle.row_output.specs.Kept.{HasRows, IsNew, asked_of}
-use Rattle.row_output.specs.Rows.{IsRefused, Stops}
+use Rattle.row_output.specs.Rows.{IsRefused, IsRefusedEarly, Stops}
 use Rattle.row_output.proofs.Stopping.{new_has, rows_stop}
 use Rattle.row_output.specs.declared.fault.Refused.{Refused}
 use Rattle.row_output.specs.declared.kept.RowOutput.{RowOutput}
@@ -48,6 +49,11 @@ module _ {T O : Type 0} (takes : Takes T O) (format : Format) (waits : Bool) (to
   bad_taken many same none = told_map told Took (λ folder. AreKept format waits spans folder → many ≡ length (spans_bad format waits folder spans)) (λ folder took kept.
       let bad = (took kept).bad in
       Prim.omega arith)
+
+  -- all bad lines of spans were met, and there are no more than there may be
+  pub bad_within : (most : Option ℕ) → IsWithin most new.bad → old.bad ≡ 0 → Told told Took → Told told (λ folder. AreKept format waits spans folder → IsWithin most (length (spans_bad format waits folder spans)))
+  bad_within most within none took = told_map told (λ folder. AreKept format waits spans folder → new.bad ≡ length (spans_bad format waits folder spans)) (λ folder. AreKept format waits spans folder → IsWithin most (length (spans_bad format waits folder spans)))
+      (λ folder many kept. subst (IsWithin most) (many kept) within) (bad_taken new.bad refl none took)
 
 each_some : (refused : Option Refused) (P : Rows → Refused → Type 0) → ((rows : Rows) → IfSome refused (P rows)) → IfSome refused (λ why. (rows : Rows) → P rows why)
 each_some None P all = tt
@@ -121,6 +127,14 @@ module _ {P : Type 0} {S : Type 0} (kind : StageKind S) (output : RowOutput) (by
         let Of : Asked → Rows → Type 0 = λ asked t. IfSome new.taker.refused (IsRefused asked t) in
         subst (Of (asked_of output)) (append-nil (met old.taker.picker folder) ∙ same_rows folder s.picker)
         (subst (λ (asked : Asked). Of asked (met old.taker.picker folder ++ [])) s.asked ((halts kept).refused s.unrefused start [] [] s.has))) all)
+
+    pub early_in_spans : (Else : Folder → Type 0) → Starts kind output by start old.taker u → Told told (λ folder. Kept folder → Halted folder)
+        → IfSome new.taker.refused (λ why. Told told (λ folder. Kept folder → IsRefusedEarly (asked_of output) why ⊎ Else folder))
+    early_in_spans Else s all = told_why told Kept new.taker.refused (λ folder why. IsRefusedEarly (asked_of output) why ⊎ Else folder)
+        (told_map told (λ folder. Kept folder → Halted folder) (λ folder. Kept folder → IfSome new.taker.refused (λ why. IsRefusedEarly (asked_of output) why ⊎ Else folder)) (λ folder halts kept.
+        let early : IfSome new.taker.refused (IsRefusedEarly (asked_of output)) =
+        subst (λ (asked : Asked). IfSome new.taker.refused (IsRefusedEarly asked)) s.asked ((halts kept).early s.unrefused start [] s.has) in
+        IfSome_then new.taker.refused early (λ why is. inl is)) all)
 
     -- all rows of spans were put, and what the end makes of them
     pub ends_with : (Out : Asked → Rows → Type 0) → Starts kind output by start old.taker u → Told told (λ folder. Kept folder → Wrote folder) → ((rows : Rows) → HasRows kind new.taker.output start rows v → Out (asked_of new.taker.output) rows)

@@ -6,7 +6,7 @@ use Rattle.log_reading.specs.declared.taker.TakeFault.{TakeFault}
 use Rattle.log_reading.specs.declared.taker.TakeFault.TheVariants as T
 use Rattle.text_output.specs.Output.{StageKind}
 use Rattle.row_output.specs.Kept.{HasRows, asked_of}
-use Rattle.row_output.specs.Rows.{IsRefused, Stops}
+use Rattle.row_output.specs.Rows.{IsRefused, IsRefusedEarly, Stops}
 use Rattle.row_output.specs.declared.fault.OutputFault.{OutputFault}
 use Rattle.row_output.specs.declared.fault.OutputFault.TheVariants as O
 use Rattle.row_output.specs.declared.fault.Refused.{Refused}
@@ -37,6 +37,7 @@ pub record PutsRows {P : Type 0} {S : Type 0} (kind : StageKind S) (put : List (
 pub record StopsWithin {P : Type 0} {S : Type 0} (kind : StageKind S) (put : List (List Value)) (old : Writer P) (before : S) (new : Writer P) (now : S) : Type 0 where
   pub stop : (start : S) (rows more : List (List Value)) → HasRows kind old.output start rows before → Stops kind (asked_of old.output) start (rows ++ (put ++ more)) now
   pub refused : old.refused ≡ None → (start : S) (rows more : List (List Value)) → HasRows kind old.output start rows before → IfSome new.refused (IsRefused (asked_of old.output) (rows ++ (put ++ more)))
+  pub early : old.refused ≡ None → (start : S) (rows : List (List Value)) → HasRows kind old.output start rows before → IfSome new.refused (IsRefusedEarly (asked_of old.output))
 
 -- no row was put
 abbrev pub Opens : {P : Type 0} {S : Type 0} → StageKind S → Writer P → S → Writer P → S → Type 0

@@ -11,7 +11,7 @@ use Rattle.text_output.specs.Output.{StageKind}
 use Rattle.row_output.specs.Asked.{Asked}
 use Rattle.row_output.specs.Kept.{HasRows, asked_of}
 use Rattle.row_output.proofs.Stopping.{rows_stop}
-use Rattle.row_output.specs.Rows.{IsRefused, Stops}
+use Rattle.row_output.specs.Rows.{IsRefused, IsRefusedEarly, Stops}
 use Rattle.row_output.specs.declared.fault.Refused.{Refused}
 use Rattle.query_run.specs.Rows.{picked}
 use Rattle.query_run.specs.Writer.{PutsRows, StopsWithin, Writes, Halts}
@@ -57,6 +57,7 @@ stops_before kind one two a c u w s = record {
   refused = λ none start rows more has.
       let Of : Rows → Type 0 = λ t. IfSome c.refused (IsRefused (asked_of a.output) (rows ++ t)) in
       subst Of (sym (append_assoc one two more)) (s.refused none start rows (two ++ more) has);
+  early = s.early;
 }
 
 -- some rows were put, and it stopped within more
@@ -70,6 +71,9 @@ stops_behind kind one two a b c u v w f s = record {
       let Of : Rows → Asked → Type 0 = λ t asked. IfSome c.refused (IsRefused asked t) in
       let here = s.refused (f.refused ∙ none) start (rows ++ one) more (f.has start rows has) in
       subst (λ (t : Rows). Of t (asked_of a.output)) (append_assoc rows one (two ++ more) ∙ ap (λ t. rows ++ t) (sym (append_assoc one two more))) (subst (Of ((rows ++ one) ++ (two ++ more))) f.asked here);
+  early = λ none start rows has.
+      let Of : Asked → Type 0 = λ asked. IfSome c.refused (IsRefusedEarly asked) in
+      subst Of f.asked (s.early (f.refused ∙ none) start (rows ++ one) (f.has start rows has));
 }
 
 -- it stopped where rows were put, as far as it came
@@ -81,6 +85,9 @@ stops_there kind one two a b u v f = record {
       subst (λ (t : Rows). Of t (asked_of a.output)) (append_assoc rows one (two ++ more) ∙ ap (λ t. rows ++ t) (sym (append_assoc one two more))) (subst (Of ((rows ++ one) ++ (two ++ more))) f.asked here);
   refused = λ none start rows more has.
       let Of : Option Refused → Type 0 = λ o. IfSome o (IsRefused (asked_of a.output) (rows ++ ((one ++ two) ++ more))) in
+      subst Of (sym (f.refused ∙ none)) tt;
+  early = λ none start rows has.
+      let Of : Option Refused → Type 0 = λ o. IfSome o (IsRefusedEarly (asked_of a.output)) in
       subst Of (sym (f.refused ∙ none)) tt;
 }
 

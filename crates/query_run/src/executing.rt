@@ -1,5 +1,5 @@
 // A query over logs to a stage.
-ghost use Rattle.std.specs.Prelude.{◌≡◌, ◌≤◌, ◌<◌, ◌^◌, ◌+◌, ◌++◌, [], List, true, length, map, OnOk, OnErr, IfOk, IfErr, IsErrOf, IsSome};
+ghost use Rattle.std.specs.Prelude.{◌≡◌, ◌⊎◌, ◌≤◌, ◌<◌, ◌^◌, ◌+◌, ◌++◌, [], List, true, length, map, OnOk, OnErr, IfOk, IfErr, IsErrOf, IsSome};
 ghost use Rattle.lp_model.specs.Outside.{Rose, OnlyGrow, Told};
 ghost use Rattle.log_reading.specs.Page.{IsTooMany, IsWithin};
 ghost use Rattle.log_reading.specs.Spans.{AllSpans, AreReadable, IsSpan, AreKept, spans_found, spans_bad, spans_bad_lines, spans_size, took_of};
@@ -7,7 +7,7 @@ ghost use Rattle.order_top.specs.Finish.{Row};
 ghost use Rattle.text_output.specs.Output.{kind_of};
 ghost use Rattle.row_output.specs.Asked.{left_of};
 ghost use Rattle.row_output.specs.Kept.{HasRows, IsNew, asked_of};
-ghost use Rattle.row_output.specs.Rows.{Holds, IsRefused, Stops};
+ghost use Rattle.row_output.specs.Rows.{Holds, IsRefused, IsRefusedEarly, Stops};
 ghost use Rattle.row_output.specs.declared.fault.Refused.{Refused as Why};
 ghost use Rattle.row_output.specs.declared.kept.RowOutput.{RowOutput};
 ghost use Rattle.log_reading.specs.declared.span.RunFault.TheVariants as R;
@@ -221,6 +221,9 @@ fn write_page<R: LineReader, L: LogSource, P: Picker + Drop, G: Stage>(
     ensures refused { IfErr result (λ fault. (output : RowOutput) (picker : P) (first : G) → Starts (kind_of G.state G.ended) output picker first page.old.taker stage.old
         → OnRefusedOutput (λ why. Told (L.folder logs.new) (λ folder. AreKept (R.format reader.now) waits spans.now folder
         → IsRefused (asked_of output) (picked (P.picks picker) (spans_found (R.format reader.now) waits folder spans.now)) why)) fault) }
+    ensures early { IfErr result (λ fault. (output : RowOutput) (picker : P) (first : G) → Starts (kind_of G.state G.ended) output picker first page.old.taker stage.old
+        → OnRefusedOutput (λ why. Told (L.folder logs.new) (λ folder. AreKept (R.format reader.now) waits spans.now folder
+        → IsRefusedEarly (asked_of output) why ⊎ IsWithin page.old.most_bad (length (spans_bad (R.format reader.now) waits folder spans.now)))) fault) }
     ensures sink { IsErrOf result WriteFault.Output → Rose (G.faults stage.old) (G.faults stage.new) }
 {
     let Ok(mut chunk) = new_chunk(alloc) else {
@@ -279,6 +282,9 @@ pub fn write_spans<R: LineReader, L: LogSource, P: Picker + Drop, G: Stage>(
     ensures named { IfErr result (OnBad (λ line. (why : Why) → IsRefused (asked_of output) [] why → ⊥)) }
     ensures refused { IfErr result (OnRefusedOutput (λ why. Told (L.folder logs.new) (λ folder. AreKept (R.format reader.now) waits spans.now folder
         → IsRefused (asked_of output) (picked (P.picks picker) (spans_found (R.format reader.now) waits folder spans.now)) why))) }
+    // An output that is refused once the last row is there is refused behind all bad lines.
+    ensures early { IfErr result (OnRefusedOutput (λ why. Told (L.folder logs.new) (λ folder. AreKept (R.format reader.now) waits spans.now folder
+        → IsRefusedEarly (asked_of output) why ⊎ IsWithin most_bad (length (spans_bad (R.format reader.now) waits folder spans.now))))) }
     ensures sink { IsErrOf result WriteFault.Output → Rose (G.faults stage.old) (G.faults stage.new) }
 {
     let mut page = open_page(alloc, output, picker, most_bad, stage)?;

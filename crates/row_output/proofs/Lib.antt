@@ -14,3 +14,4 @@ pub mod SinkCalls
 pub mod KeptCalls
 pub mod AtOnce
 pub mod Unrefused
+pub mod Early

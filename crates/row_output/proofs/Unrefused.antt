@@ -30,7 +30,7 @@ good_unrefused forbidden name (R.BadName fault) good (few, bad) =
 good_unrefused forbidden name (R.NameClash clash) good (few, fine, among, same) = true≢false (sym among ∙ All-head (λ n. is_among forbidden n ≡ false) name [] good.free)
 
 -- of no rows none are left
-none_left : (distinct : Bool) (top : Option ℕ) (finish : Finish) → finish.distinct ≡ distinct → finish.top ≡ top → finished finish [] ≡ []
+pub none_left : (distinct : Bool) (top : Option ℕ) (finish : Finish) → finish.distinct ≡ distinct → finish.top ≡ top → finished finish [] ≡ []
 none_left true None finish distinct top = rw distinct (rw top refl)
 none_left true (Some n) finish distinct top = rw distinct (rw top (take-nil n))
 none_left false None finish distinct top = rw distinct (rw top refl)

@@ -1,5 +1,5 @@
 -- What becomes of the rows of a query.
-use Rattle.std.specs.Prelude.{◌≡◌, ◌<◌, ◌+◌, ℕ, true, length, List, [], ◌∷◌, Option, Some, None}
+use Rattle.std.specs.Prelude.{◌≡◌, ◌⊎◌, ◌<◌, ◌+◌, ℕ, true, length, List, [], ◌∷◌, Option, Some, None}
 use Rattle.lp_outside.specs.declared.stage.Mark.{Mark}
 use Rattle.lp_outside.specs.Stages.{no_mark}
 use Rattle.lp_outside.specs.Gained.{standard_output}
@@ -8,6 +8,7 @@ use Rattle.text_output.specs.Output.{StageKind, OutputAt, GainsText, GainsFront,
 use Rattle.text_output.specs.declared.target.Output.{Output}
 use Rattle.row_output.specs.Asked.{Files, Asked, OutputText, IsRefusedBy, left_of, text_in}
 use Rattle.row_output.specs.Files.{FilesHold, FilesStop}
+use Rattle.row_output.specs.Orders.{IsPlain}
 use Rattle.row_output.specs.declared.fault.Refused.{Refused}
 
 -- standard output before its first byte
@@ -55,3 +56,7 @@ Stops kind asked start rows now = StopsAt asked.files kind (text_in asked) start
 -- an output of what is left is refused by this fault
 unfoldable pub IsRefused : Asked → List Row → Refused → Type 0
 IsRefused asked rows fault = IsRefusedAt asked.files (left_of asked rows) fault
+
+-- an output may be refused before the last row is there: rows go on as they come, or it is that of a name without stars
+abbrev pub IsRefusedEarly : Asked → Refused → Type 0
+IsRefusedEarly asked why = IsPlain asked.order ⊎ IsRefused asked [] why

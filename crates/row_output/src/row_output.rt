@@ -7,7 +7,7 @@ ghost use Rattle.text_output.specs.Output.{kind_of};
 ghost use Rattle.row_output.specs.Asked.{columns_for, left_of};
 ghost use Rattle.row_output.specs.FileRows.{OnRefused};
 ghost use Rattle.order_top.specs.Ordering.{StandsFor, is_past};
-ghost use Rattle.row_output.specs.Rows.{Holds, IsRefused, IsRefusedAt, Stops, StopsAt};
+ghost use Rattle.row_output.specs.Rows.{Holds, IsRefused, IsRefusedAt, IsRefusedEarly, Stops, StopsAt};
 ghost use Rattle.row_output.specs.Sinks.{HasSinkRows, HoldsLittle, HoldsNoPiece, IsOpened, IsUnplaced, files_for, files_in, purpose_of, sink_text};
 ghost use Rattle.row_output.specs.declared.fault.Refused.{Refused as Why};
 ghost use Rattle.row_output.specs.Few.{GoOn, places_in};
@@ -116,6 +116,7 @@ fn take<G: Stage>(
     ensures has { OnOk result ((start : G) (rows : List Row) → HasKept (kind_of G.state G.ended) kept.old order.now sink.old start rows stage.old → HasKept (kind_of G.state G.ended) kept.new order.now sink.new start (rows ++ row.old ∷ []) stage.new) }
     ensures stop { OnErr result ((start : G) (rows more : List Row) → HasKept (kind_of G.state G.ended) kept.old order.now sink.old start rows stage.old → StopsAt (files_in sink.old) (kind_of G.state G.ended) (sink_text sink.old) start (finished order.now (rows ++ (row.old ∷ more))) stage.new) }
     ensures refused { IfErr result (OnRefused (λ fault. (start : G) (rows more : List Row) → HasKept (kind_of G.state G.ended) kept.old order.now sink.old start rows stage.old → IsRefusedAt (files_in sink.old) (finished order.now (rows ++ (row.old ∷ more))) fault)) }
+    ensures early { IfErr result (OnRefused (λ fault. (start : G) (rows : List Row) → HasKept (kind_of G.state G.ended) kept.old order.now sink.old start rows stage.old → IsPlain order.now)) }
     ensures goes { G.goes stage.old stage.new }
     ensures later { G.faults stage.old ≤ G.faults stage.new }
     ensures failed { IsErrOf result OutputFault.Failed → Rose (G.faults stage.old) (G.faults stage.new) }
@@ -195,6 +196,7 @@ impl RowOutput {
         ensures has { OnOk result ((start : G) (rows : List Row) → HasRows (kind_of G.state G.ended) self.old start rows stage.old → HasRows (kind_of G.state G.ended) self.new start rows stage.new) }
         ensures stop { OnErr result ((start : G) (rows more : List Row) → HasRows (kind_of G.state G.ended) self.old start rows stage.old → Stops (kind_of G.state G.ended) (asked_of self.old) start (rows ++ more) stage.new) }
         ensures refused { IfErr result (OnRefused (λ fault. (start : G) (rows more : List Row) → HasRows (kind_of G.state G.ended) self.old start rows stage.old → IsRefused (asked_of self.old) (rows ++ more) fault)) }
+        ensures early { IfErr result (OnRefused (λ fault. (start : G) (rows : List Row) → HasRows (kind_of G.state G.ended) self.old start rows stage.old → IsRefusedEarly (asked_of self.old) fault)) }
         ensures opened { OnOk result ((start : G) (rows : List Row) → HasRows (kind_of G.state G.ended) self.old start rows stage.old → IsOpened self.new.sink) }
         // An output of a name without stars is refused here, if at all.
         ensures named { OnOk result ((start : G) → HasRows (kind_of G.state G.ended) self.old start [] stage.old → (why : Why) → IsRefused (asked_of self.old) [] why → ⊥) }
@@ -214,6 +216,7 @@ impl RowOutput {
         ensures has { OnOk result ((start : G) (rows : List Row) → HasRows (kind_of G.state G.ended) self.old start rows stage.old → HasRows (kind_of G.state G.ended) self.new start (rows ++ row.old ∷ []) stage.new) }
         ensures stop { OnErr result ((start : G) (rows more : List Row) → HasRows (kind_of G.state G.ended) self.old start rows stage.old → Stops (kind_of G.state G.ended) (asked_of self.old) start (rows ++ (row.old ∷ more)) stage.new) }
         ensures refused { IfErr result (OnRefused (λ fault. (start : G) (rows more : List Row) → HasRows (kind_of G.state G.ended) self.old start rows stage.old → IsRefused (asked_of self.old) (rows ++ (row.old ∷ more)) fault)) }
+        ensures early { IfErr result (OnRefused (λ fault. (start : G) (rows : List Row) → HasRows (kind_of G.state G.ended) self.old start rows stage.old → IsRefusedEarly (asked_of self.old) fault)) }
         ensures count { OnOk result (self.new.put ≡ self.old.put + 1) }
         ensures uncounted { OnErr result (self.new.put ≡ self.old.put) }
         ensures streams { KeepsNone self.old → KeepsNone self.new }
@@ -241,6 +244,7 @@ impl RowOutput {
         ensures has { OnOk result ((start : G) (rows : List Row) → HasRows (kind_of G.state G.ended) self.old start rows stage.old → HasRows (kind_of G.state G.ended) self.new start rows stage.new) }
         ensures stop { OnErr result ((start : G) (rows more : List Row) → HasRows (kind_of G.state G.ended) self.old start rows stage.old → Stops (kind_of G.state G.ended) (asked_of self.old) start (rows ++ more) stage.new) }
         ensures refused { IfErr result (OnRefused (λ fault. (start : G) (rows more : List Row) → HasRows (kind_of G.state G.ended) self.old start rows stage.old → IsRefused (asked_of self.old) (rows ++ more) fault)) }
+        ensures early { IfErr result (OnRefused (λ fault. (start : G) (rows : List Row) → HasRows (kind_of G.state G.ended) self.old start rows stage.old → IsRefusedEarly (asked_of self.old) fault)) }
         ensures handed { OnOk result (HoldsNoPiece self.new.sink) }
         ensures count { self.new.put ≡ self.old.put }
         ensures streams { KeepsNone self.old → KeepsNone self.new }

@@ -1,5 +1,5 @@
 // A grouped query over logs to a stage.
-ghost use Rattle.std.specs.Prelude.{◌≡◌, ◌≤◌, ◌<◌, ◌^◌, ◌+◌, ◌++◌, [], true, length, map, OnOk, OnErr, IfOk, IfErr, IsErrOf};
+ghost use Rattle.std.specs.Prelude.{◌≡◌, ◌⊎◌, ◌≤◌, ◌<◌, ◌^◌, ◌+◌, ◌++◌, [], true, length, map, OnOk, OnErr, IfOk, IfErr, IsErrOf};
 ghost use Rattle.lp_model.specs.Outside.{Rose, OnlyGrow, Told};
 ghost use Rattle.log_reading.specs.Page.{IsTooMany, IsWithin};
 ghost use Rattle.log_reading.specs.Spans.{AllSpans, AreReadable, IsSpan, AreKept, spans_found, spans_bad, spans_bad_lines, spans_size, took_of};
@@ -9,6 +9,7 @@ ghost use Rattle.row_output.specs.Asked.{left_of};
 ghost use Rattle.row_output.specs.Kept.{HasRows, IsNew, asked_of};
 ghost use Rattle.row_output.specs.Rows.{Holds, IsRefused, Stops};
 ghost use Rattle.row_output.specs.Sinks.{IsOpened};
+ghost use Rattle.row_output.specs.declared.fault.Refused.{Refused as Why};
 ghost use Rattle.query_run.specs.Faults.{OnBad, OnRefusedOutput};
 ghost use Rattle.row_steps.specs.Grouped.{HasWidth, grouped_output};
 ghost use Rattle.row_steps.specs.Rows.{OnGroups, Rows};
@@ -49,6 +50,7 @@ fn open_page<P: Picker + Drop, G: Stage>(
     ensures stops { OnErr result ((rows : Rows) → Stops (kind_of G.state G.ended) (asked_of output.old) stage.old rows stage.new) }
     ensures refused { IfErr result (OnRefusedOutput (λ why. (rows : Rows) → IsRefused (asked_of output.old) rows why)) }
     ensures good { IfErr result (OnBad (λ line. ⊥)) }
+    ensures named { OnOk result ((why : Why) → IsRefused (asked_of output.old) [] why → ⊥) }
     ensures logs { IsErrOf result WriteFault.Logs → ⊥ }
     ensures goes { G.goes stage.old stage.new }
     ensures later { G.faults stage.old ≤ G.faults stage.new }
@@ -142,8 +144,13 @@ pub fn group_spans<R: LineReader, L: LogSource, P: Picker + Drop, G: Stage>(
     ensures within { IfOk result (λ written. IsWithin most_bad written.counts.bad) }
     ensures too_many { IfErr result (OnBad (λ line. Told (L.folder logs.new) (λ folder. AreKept (R.format reader.now) waits spans.now folder
         → IsTooMany most_bad 0 (spans_bad_lines (R.format reader.now) waits folder spans.now) line))) }
+    // An output of a name without stars is refused before any bad line is told.
+    ensures named { IfErr result (OnBad (λ line. (why : Why) → IsRefused (asked_of output) [] why → ⊥)) }
     ensures refused { IfErr result (OnRefusedOutput (λ why. Told (L.folder logs.new) (λ folder. AreKept (R.format reader.now) waits spans.now folder
         → IsRefused (asked_of output) (grouped_output asks.now.keys asks.now.aggregates asks.now.rollup (P.picks picker) plan.plan (spans_found (R.format reader.now) waits folder spans.now)) why))) }
+    // The rows of groups come behind all records: so does the refusal of an output, but for that of a name without stars.
+    ensures early { IfErr result (OnRefusedOutput (λ why. Told (L.folder logs.new) (λ folder. AreKept (R.format reader.now) waits spans.now folder
+        → IsRefused (asked_of output) [] why ⊎ IsWithin most_bad (length (spans_bad (R.format reader.now) waits folder spans.now))))) }
     ensures sink { IsErrOf result WriteFault.Output → Rose (G.faults stage.old) (G.faults stage.new) }
 {
     let mut page = open_page(alloc, &mut output, picker, asks, plan, most_bad, stage)?;

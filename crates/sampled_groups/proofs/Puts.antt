@@ -38,7 +38,7 @@ use Rattle.sampled_groups.specs.declared.group_maker.GroupMaker.{GroupMaker}
 use Rattle.sampled_groups.specs.declared.group_taker.GroupTaker.{GroupTaker}
 use Rattle.sampled_groups.specs.Kinds.{Fits, group_kind, run_rules}
 use Rattle.sampled_groups.specs.Made.{IsMade, asked_in}
-use Rattle.sampled_groups.specs.Ran.{IsFront, IsRefused, IsStoppedBy, IsUnplaced, IsWithin, IsWritten, fault_of}
+use Rattle.sampled_groups.specs.Ran.{IsFront, IsRefused, IsStoppedBy, IsUnplaced, IsUnplacedFirst, IsWithin, IsWritten, fault_of}
 use Rattle.sampled_groups.specs.Rules.{rows_with}
 use Rattle.sampled_groups.specs.Taking.{HasNone}
 
@@ -133,6 +133,15 @@ module _ {S : Type 0} (kind : StageKind S) where
         stops = subst (λ (asked : Asked). Stops kind asked begin rows v) is.ready.asked_is (stops.stopped.stop begin rows has);
         refused = subst (λ (asked : Asked). IsRefusedOutput asked rows why) is.ready.asked_is told;
       }
+
+  -- it was refused before any row
+  pub first_is : (rules : SampleRules (GroupMaker S)) (begin : S) (past : Past) (last : GroupTaker) (why : Refused) (v : S) → last.refused ≡ Some why → StopsAs (group_kind kind) rules begin past last v → IsUnplacedFirst (run_rules rules) past why
+  first_is rules begin past last why v refused stops =
+      let made = stops.made in
+      let is = stops.is_made in
+      let First : Option Refused → Type 0 = λ o. IfSome o (IsRefusedOutput (asked_of made.output) []) in
+      let told : IsRefusedOutput (asked_of made.output) [] why = subst First refused (stops.stopped.refused is.ready.unrefused begin [] (made_has rules.maker (told_by rules past) made begin is)) in
+      record { plan = grouped_in is.plan; planned = is.planned; refused = subst (λ (asked : Asked). IsRefusedOutput asked [] why) is.ready.asked_is told }
 
   -- the taker stopped: for what it refused, or for want of memory
   pub taker_stopped : (rules : SampleRules (GroupMaker S)) (begin : S) (past : Past) (last : GroupTaker) (refused : Option Refused) (v : S) → last.refused ≡ refused → StopsAs (group_kind kind) rules begin past last v

@@ -1,5 +1,5 @@
 -- How a grouped run over sampled columns ends.
-use Rattle.std.specs.Prelude.{◌≡◌, ◌⊎◌, ℕ, Bool, List, length, None, Ok, Err}
+use Rattle.std.specs.Prelude.{◌≡◌, ◌⊎◌, ℕ, Bool, List, [], length, None, Ok, Err}
 use Rattle.lp_model.specs.Outside.{Folder}
 use Rattle.lp_model.specs.Reading.{Format}
 use Rattle.log_reading.specs.declared.span.RunFault.{RunFault}
@@ -42,6 +42,12 @@ pub record IsUnplaced {S : Type 0} (kind : StageKind S) (rules : GroupRules) (st
   pub planned : plan_at rules past ≡ Ok plan
   pub stops : Stops kind (rules.asked plan.groups) start (rows_at rules past plan) now
   pub refused : IsRefusedOutput (rules.asked plan.groups) (rows_at rules past plan) why
+
+-- the output of a name without stars is refused, before any row
+pub record IsUnplacedFirst (rules : GroupRules) (past : Past) (why : Refused) : Type 0 where
+  pub plan : Grouped
+  pub planned : plan_at rules past ≡ Ok plan
+  pub refused : IsRefusedOutput (rules.asked plan.groups) [] why
 
 -- nothing is written, or its rows were to be
 abbrev pub IsFront : {S : Type 0} → StageKind S → GroupRules → S → Past → S → Type 0

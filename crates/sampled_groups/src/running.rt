@@ -1,8 +1,8 @@
 // A grouped query over logs whose columns they tell, by any reader of their format.
-ghost use Rattle.std.specs.Prelude.{◌≡◌, ◌≤◌, ◌+◌, ◌++◌, true, [], length, map, None, OnOk, IfOk, IfErr, IsErrOf};
+ghost use Rattle.std.specs.Prelude.{◌≡◌, ◌⊎◌, ◌≤◌, ◌+◌, ◌++◌, true, [], length, map, None, OnOk, IfOk, IfErr, IsErrOf};
 ghost use Rattle.lp_model.specs.Outside.{Rose, OnlyGrow, Told};
 ghost use Rattle.log_reading.specs.Page.{IsTooMany, IsWithin};
-ghost use Rattle.log_reading.specs.Spans.{AllSpans, AreReadable, AreKept, IsSpan, spans_bad_lines, spans_size, took_of};
+ghost use Rattle.log_reading.specs.Spans.{AllSpans, AreReadable, AreKept, IsSpan, spans_bad, spans_bad_lines, spans_size, took_of};
 ghost use Rattle.any_format.specs.Wanted.{IsMoment, wanted_text};
 ghost use Rattle.text_output.specs.Output.{kind_of};
 ghost use Rattle.row_output.specs.Sinks.{IsUnplaced, files_for};
@@ -13,8 +13,8 @@ ghost use Rattle.sampled_groups.specs.Read.{HasRead};
 ghost use Rattle.sampled_run.specs.Finishes.{asked_by};
 ghost use Rattle.sampled_groups.specs.Rules.{group_rules_of};
 ghost use Rattle.sampled_groups.specs.Kinds.{group_kind};
-ghost use Rattle.sampled_run.specs.Ran.{OnBadOne, read_fault};
-ghost use Rattle.sampled_groups.specs.Ran.{IsSampled, IsStoppedBy, fault_in};
+ghost use Rattle.sampled_run.specs.Ran.{OnBadOne, OnRefusedOne, read_fault};
+ghost use Rattle.sampled_groups.specs.Ran.{IsSampled, IsStoppedBy, IsUnplacedFirst, fault_in};
 
 use crate::ending::{finish_run, refused_in, why_refused};
 use crate::{GroupMaker, GroupTaker};
@@ -144,6 +144,8 @@ fn read_page<'a, R: LineReader, L: LogSource, G: Stage>(
     ensures within { IfOk result (λ page. IsWithin most_bad page.bad) }
     ensures too_many { IfErr result (λ fault. OnBadOne fault (λ line. Told (L.folder logs.new) (λ folder. AreKept (R.format reader.now) waits spans.now folder
         → IsTooMany most_bad 0 (spans_bad_lines (R.format reader.now) waits folder spans.now) line))) }
+    ensures early { IfErr result (λ fault. OnRefusedOne fault (λ why. Told (L.folder logs.new) (λ folder. AreKept (R.format reader.now) waits spans.now folder
+        → IsUnplacedFirst (group_rules_of limit pattern.now moment.seconds (query_of query.now) (asked_by (files_for into) (wanted_text wanted moment.seconds) (query_of query.now))) (past_behind (R.format reader.now) waits folder (record { first = None; founds = [] }) spans.now) why ⊎ IsWithin most_bad (length (spans_bad (R.format reader.now) waits folder spans.now))))) }
     ensures took { OnOk result (waits ≡ true → Told (L.folder logs.new) (λ folder. AreKept (R.format reader.now) true spans.now folder
         → took.new ≡ took.old ++ map (took_of (R.format reader.now) folder) spans.now)) }
     ensures given { L.given logs.new ≤ L.given logs.old + spans_size spans.now }
@@ -199,6 +201,8 @@ pub(crate) fn sample_reader<'a, R: LineReader, L: LogSource, G: Stage>(
     ensures within { IfOk result (λ run. IsWithin most_bad run.counts.bad) }
     ensures too_many { IfErr result (λ fault. OnBadOne fault (λ line. Told (L.folder logs.new) (λ folder. AreKept (R.format reader.now) waits spans.now folder
         → IsTooMany most_bad 0 (spans_bad_lines (R.format reader.now) waits folder spans.now) line))) }
+    ensures early { IfErr result (λ fault. OnRefusedOne fault (λ why. Told (L.folder logs.new) (λ folder. AreKept (R.format reader.now) waits spans.now folder
+        → IsUnplacedFirst (group_rules_of limit pattern.now moment.seconds (query_of query.now) (asked_by (files_for into) (wanted_text wanted moment.seconds) (query_of query.now))) (past_behind (R.format reader.now) waits folder (record { first = None; founds = [] }) spans.now) why ⊎ IsWithin most_bad (length (spans_bad (R.format reader.now) waits folder spans.now))))) }
     ensures took { OnOk result (waits ≡ true → Told (L.folder logs.new) (λ folder. AreKept (R.format reader.now) true spans.now folder
         → took.new ≡ took.old ++ map (took_of (R.format reader.now) folder) spans.now)) }
     ensures given { L.given logs.new ≤ L.given logs.old + spans_size spans.now }

@@ -1,3 +1,4 @@
 pub mod Puts
 pub mod Fresh
+pub mod Early
 mod Ran

@@ -8,7 +8,7 @@ use Rattle.text_output.specs.Output.{StageKind}
 use Rattle.text_output.specs.declared.target.Output.{Output}
 use Rattle.row_output.specs.Asked.{Asked, left_of}
 use Rattle.row_output.specs.Kept.{HasRows, asked_of}
-use Rattle.row_output.specs.Rows.{Holds, Stops}
+use Rattle.row_output.specs.Rows.{Holds, IsRefusedEarly, Stops}
 use Rattle.row_output.specs.Rows.{IsRefused as IsRefusedOutput}
 use Rattle.row_output.proofs.Stopping.{new_has}
 use Rattle.row_output.specs.declared.fault.OutputFault.{OutputFault}
@@ -31,7 +31,7 @@ use Rattle.sampled_table.specs.declared.picking.SampledPicker.{SampledPicker}
 use Rattle.sampled_run.specs.declared.row_maker.RowMaker.{RowMaker}
 use Rattle.sampled_run.specs.Kinds.{Fits, picks_of, run_rules, writer_kind}
 use Rattle.sampled_run.specs.Made.{IsMade, asked_in}
-use Rattle.sampled_run.specs.Ran.{IsFront, IsRefused, IsStoppedBy, IsUnplaced, IsWithin, IsWritten, ended_by, fault_of, refused_in}
+use Rattle.sampled_run.specs.Ran.{IsFront, IsRefused, IsStoppedBy, IsUnplaced, IsUnplacedEarly, IsWithin, IsWritten, ended_by, fault_of, refused_in}
 use Rattle.sampled_run.specs.Rules.{rows_with}
 
 abbrev Rows : Type 0
@@ -105,6 +105,15 @@ module _ {S : Type 0} (kind : StageKind S) where
       let here : At rows = subst At (append-nil rows) (stops.stopped.stop begin [] [] has, told) in
       let both = made_along rules past made P fits is here in
       record { plan = planned_in made.picker.ready.plan; planned = is.planned; stops = both.0; refused = both.1 }
+
+  -- it was refused before the last row was there
+  pub early_is : (rules : SampleRules (RowMaker S)) (begin : S) (past : Past) (last : Writer SampledPicker) (why : Refused) (v : S) → last.refused ≡ Some why → StopsAs (writer_kind kind) rules begin past last v → IsUnplacedEarly (run_rules rules) past why
+  early_is rules begin past last why v refused stops =
+      let made = stops.made in
+      let is = stops.is_made in
+      let Early : Option Refused → Type 0 = λ o. IfSome o (IsRefusedEarly (asked_of made.output)) in
+      let told : IsRefusedEarly (asked_of made.output) why = subst Early refused (stops.stopped.early is.refused begin [] (new_has kind made.output begin is.new)) in
+      record { plan = planned_in made.picker.ready.plan; planned = is.planned; early = subst (λ (asked : Asked). IsRefusedEarly asked why) is.asked told }
 
   pub front_is : (rules : SampleRules (RowMaker S)) (begin : S) (past : Past) (v : S) → Fits rules → SampleFront (writer_kind kind) rules begin past v → IsFront kind (run_rules rules) begin past v
   front_is rules begin past v fits (inl nothing) = inl nothing

@@ -1,5 +1,5 @@
 -- A whole run, from the first log to the end of the text.
-use Rattle.std.proofs.Common.{◌≡◌, Bool, IsErrOf, List, [], ◌∷◌, ◌++◌, length, Option, Some, None, Err, ap, sym, ◌∙◌, refl, subst, arith, inl, inr, append_assoc}
+use Rattle.std.proofs.Common.{◌≡◌, ◌⊎◌, ℕ, Bool, IsErrOf, List, [], ◌∷◌, ◌++◌, length, Option, Some, None, Err, ap, sym, ◌∙◌, refl, subst, arith, inl, inr, append_assoc}
 use Rattle.std.proofs.lemmas.List.{append-nil}
 use Rattle.lp_model.specs.Outside.{Folder, Told}
 use Rattle.lp_model.specs.Reading.{Format}
@@ -7,7 +7,8 @@ use Rattle.log_reading.specs.declared.page.Page.{Page}
 use Rattle.log_reading.specs.declared.span.RunFault.{RunFault}
 use Rattle.log_reading.specs.declared.span.RunFault.TheVariants as R
 use Rattle.log_reading.specs.declared.span.Span.{Span}
-use Rattle.log_reading.specs.Spans.{AreKept, BadLine, OnBadLine, span_found, spans_found}
+use Rattle.log_reading.specs.Page.{IsWithin}
+use Rattle.log_reading.specs.Spans.{AreKept, BadLine, OnBadLine, span_found, spans_bad, spans_found}
 use Rattle.text_output.specs.Output.{StageKind}
 use Rattle.row_output.specs.declared.fault.OutputFault.{OutputFault}
 use Rattle.row_output.specs.declared.fault.OutputFault.TheVariants as O
@@ -32,10 +33,11 @@ use Rattle.sampled_run.specs.declared.fault.SampleFault.{SampleFault}
 use Rattle.sampled_run.specs.declared.fault.SampleFault.TheVariants as F
 use Rattle.sampled_run.specs.declared.row_maker.RowMaker.{RowMaker}
 use Rattle.sampled_run.specs.Kinds.{Fits, run_rules, writer_kind}
-use Rattle.sampled_run.specs.Ran.{IsFront, IsOfEnd, IsSampled, IsStoppedBy, IsWritten, OnBadOne, ended_by, fault_in, fault_of, read_fault, refused_in}
+use Rattle.sampled_run.specs.Ran.{IsFront, IsOfEnd, IsSampled, IsStoppedBy, IsUnplacedEarly, IsWritten, OnBadOne, OnRefusedOne, ended_by, fault_in, fault_of, read_fault, refused_in}
 use Rattle.sampled_run.specs.Rules.{Rules}
+use Rattle.sampled_run.proofs.Early.{refused_each, refused_none, refused_so, refused_told, told_else, told_first}
 use Rattle.sampled_run.proofs.Fresh.{Begins, nothing}
-use Rattle.sampled_run.proofs.Puts.{front_is, refused_is, stops_is, writer_stopped}
+use Rattle.sampled_run.proofs.Puts.{early_is, front_is, refused_is, stops_is, writer_stopped}
 
 -- the records behind spans are those of the spans
 behind_founds : (format : Format) (waits : Bool) (folder : Folder) (past : Past) (spans : List Span) → (past_behind format waits folder past spans).founds ≡ past.founds ++ spans_found format waits folder spans
@@ -111,6 +113,70 @@ stopped_ending kind asked format waits (Some folder) spans first last u mid afte
     let past = past_behind format waits folder nothing spans in
     let By : Rules → Type 0 = λ rules. IsStoppedBy kind rules u past fault after in
     subst By begins.same (ends begins.rules u past begins.fits ((taken kept).along begins.rules u nothing begins.holds))
+
+-- ---- when an output was refused
+
+early_kept : {S : Type 0} (kind : StageKind S) (rules : SampleRules (RowMaker S)) (begin : S) (past : Past) (writer : Writer SampledPicker) (refused : Option Refused) (now : S) → writer.refused ≡ refused → StopsAs (writer_kind kind) rules begin past writer now
+    → OnRefusedOne (refused_in refused) (IsUnplacedEarly (run_rules rules) past)
+early_kept kind rules begin past writer None now is stops = tt
+early_kept kind rules begin past writer (Some why) now is stops = early_is kind rules begin past writer why now is stops
+
+early_taking : {S : Type 0} (kind : StageKind S) (rules : SampleRules (RowMaker S)) (begin : S) (past : Past) (writer : Writer SampledPicker) (fault : RunFault) (now : S) → StopsAs (writer_kind kind) rules begin past writer now
+    → OnRefusedOne (read_fault fault writer.refused) (IsUnplacedEarly (run_rules rules) past)
+early_taking kind rules begin past writer R.Memory now stops = tt
+early_taking kind rules begin past writer R.Logs now stops = tt
+early_taking kind rules begin past writer R.Output now stops = tt
+early_taking kind rules begin past writer R.Stopped now stops = early_kept kind rules begin past writer writer.refused now refl stops
+early_taking kind rules begin past writer (R.Bad log row) now stops = tt
+
+phase_early : {S : Type 0} (kind : StageKind S) (rules : SampleRules (RowMaker S)) (begin : S) (past : Past) (phase : Phase (RowMaker S) (Writer SampledPicker)) (fault : RunFault) (now : S) → SamplePhase (writer_kind kind) rules begin past phase now
+    → OnRefusedOne (fault_in phase fault) (IsUnplacedEarly (run_rules rules) past)
+phase_early kind rules begin past (P.Gathering gathering) fault now stopped = refused_none fault (IsUnplacedEarly (run_rules rules) past)
+phase_early kind rules begin past (P.Taking writer) fault now stopped = early_taking kind rules begin past writer fault now stopped
+phase_early kind rules begin past (P.Refused plan) fault now stopped = tt
+phase_early kind rules begin past P.Lost fault now stopped = refused_none fault (IsUnplacedEarly (run_rules rules) past)
+
+halts_early : {S : Type 0} (kind : StageKind S) (asked : Rules) (format : Format) (waits : Bool) (told : Option Folder) (spans : List Span) (first last : Page (SampledWriter S)) (u now : S) (fault : RunFault)
+    → Begins kind asked first.taker u
+    → Told told (λ folder. AreKept format waits spans folder → HaltsIn (writer_kind kind) (spans_told format waits folder spans) first.taker last.taker u now)
+    → Told told (λ folder. AreKept format waits spans folder → OnRefusedOne (fault_in last.taker.phase fault) (IsUnplacedEarly asked (past_behind format waits folder nothing spans)))
+halts_early kind asked format waits None spans first last u now fault begins halted = tt
+halts_early kind asked format waits (Some folder) spans first last u now fault begins halted = λ kept.
+    let past = past_behind format waits folder nothing spans in
+    let By : Rules → Type 0 = λ rules. OnRefusedOne (fault_in last.taker.phase fault) (IsUnplacedEarly rules past) in
+    subst By begins.same (phase_early kind begins.rules u past last.taker.phase fault now ((halted kept).within begins.rules u nothing begins.holds past (later_same past)))
+
+-- while records were taken: before the last row was there
+pub early_reading : {S : Type 0} (kind : StageKind S) (asked : Rules) (format : Format) (waits : Bool) (told : Option Folder) (spans : List Span) (first last : Page (SampledWriter S)) (u now : S) (fault : RunFault) (Else : Folder → Type 0)
+    → Begins kind asked first.taker u
+    → Told told (λ folder. AreKept format waits spans folder → HaltsIn (writer_kind kind) (spans_told format waits folder spans) first.taker last.taker u now)
+    → OnRefusedOne (fault_in last.taker.phase fault) (λ why. Told told (λ folder. AreKept format waits spans folder → IsUnplacedEarly asked (past_behind format waits folder nothing spans) why ⊎ Else folder))
+early_reading kind asked format waits told spans first last u now fault Else begins halted =
+    let Kept : Folder → Type 0 = λ folder. AreKept format waits spans folder in
+    let Early : Folder → Refused → Type 0 = λ folder why. IsUnplacedEarly asked (past_behind format waits folder nothing spans) why in
+    refused_so (fault_in last.taker.phase fault) (λ why. Told told (λ folder. Kept folder → Early folder why)) (λ why. Told told (λ folder. Kept folder → Early folder why ⊎ Else folder))
+    (λ why is. told_first told Kept (λ folder. Early folder why) Else is)
+    (refused_told (fault_in last.taker.phase fault) told Kept Early (halts_early kind asked format waits told spans first last u now fault begins halted))
+
+bad_within : {S : Type 0} (kind : StageKind S) (format : Format) (waits : Bool) (told : Option Folder) (spans : List Span) (first last : Page (SampledWriter S)) (u mid : S) (most : Option ℕ) → first.bad ≡ 0 → IsWithin most last.bad
+    → Told told (λ folder. AreKept format waits spans folder → SamplesSpans (writer_kind kind) format waits folder spans first last u mid)
+    → Told told (λ folder. AreKept format waits spans folder → IsWithin most (length (spans_bad format waits folder spans)))
+bad_within kind format waits None spans first last u mid most none within taken = tt
+bad_within kind format waits (Some folder) spans first last u mid most none within taken = λ kept.
+    let bad_now = (taken kept).bad in
+    let many : last.bad ≡ length (spans_bad format waits folder spans) = omega (arith, none, bad_now) in
+    subst (IsWithin most) many within
+
+-- once all were taken: behind all bad lines
+pub early_ending : {S : Type 0} (kind : StageKind S) (asked : Rules) (format : Format) (waits : Bool) (told : Option Folder) (spans : List Span) (first last : Page (SampledWriter S)) (u mid : S) (most : Option ℕ) (fault : SampleFault)
+    → first.bad ≡ 0 → IsWithin most last.bad
+    → Told told (λ folder. AreKept format waits spans folder → SamplesSpans (writer_kind kind) format waits folder spans first last u mid)
+    → OnRefusedOne fault (λ why. Told told (λ folder. AreKept format waits spans folder → IsUnplacedEarly asked (past_behind format waits folder nothing spans) why ⊎ IsWithin most (length (spans_bad format waits folder spans))))
+early_ending kind asked format waits told spans first last u mid most fault none within taken =
+    let Kept : Folder → Type 0 = λ folder. AreKept format waits spans folder in
+    let Else : Folder → Type 0 = λ folder. IsWithin most (length (spans_bad format waits folder spans)) in
+    refused_each fault (λ why. Told told (λ folder. Kept folder → IsUnplacedEarly asked (past_behind format waits folder nothing spans) why ⊎ Else folder))
+    (λ why. told_else told Kept (λ folder. IsUnplacedEarly asked (past_behind format waits folder nothing spans) why) Else (bad_within kind format waits told spans first last u mid most none within taken))
 
 -- the fault at the phase that a page has
 pub fault_from : {M P : Type 0} (a b : Phase M (Writer P)) (fault : RunFault) (result : SampleFault) → result ≡ fault_in a fault → a ≡ b → result ≡ fault_in b fault
@@ -224,3 +290,11 @@ stopped_told kind rules format waits sets None spans before after fault stopped 
 stopped_told kind rules format waits sets (Some folder) spans before after fault stopped = λ kept.
     let Of : Past → Type 0 = λ past. IsStoppedBy kind rules before past fault after in
     subst Of (behind_all format sets waits folder spans kept) (stopped kept)
+
+pub early_told : (rules : Rules) (format : Format) (waits : Bool) → SetsOnce format → (told : Option Folder) (spans : List Span) (Else : Folder → Type 0) (why : Refused)
+    → Told told (λ folder. AreKept format waits spans folder → IsUnplacedEarly rules (past_behind format waits folder nothing spans) why ⊎ Else folder)
+    → Told told (λ folder. AreKept format waits spans folder → IsUnplacedEarly rules (past_of format waits folder spans) why ⊎ Else folder)
+early_told rules format waits sets None spans Else why early = tt
+early_told rules format waits sets (Some folder) spans Else why early = λ kept.
+    let Of : Past → Type 0 = λ past. IsUnplacedEarly rules past why ⊎ Else folder in
+    subst Of (behind_all format sets waits folder spans kept) (early kept)

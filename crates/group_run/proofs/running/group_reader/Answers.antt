@@ -1,8 +1,9 @@
-use Rattle.std.proofs.Common.{◌≡◌, ◌++◌, true, ℕ, map, length, option_map, IfOk, IfErr, OnOk, OnErr, subst, ap, ◌∙◌}
+use Rattle.std.proofs.Common.{◌≡◌, ◌⊎◌, ◌++◌, [], true, ℕ, map, length, option_map, IfOk, IfErr, OnOk, OnErr, subst, ap, ◌∙◌}
 use Rattle.lp_model.specs.Outside.{Told}
 use Rattle.lp_model.specs.Reading.{Format}
 use Rattle.lp_model.proofs.Growing.{OnlyGrow-refl}
-use Rattle.log_reading.specs.Spans.{AreKept, took_of}
+use Rattle.log_reading.specs.Page.{IsWithin}
+use Rattle.log_reading.specs.Spans.{AreKept, spans_bad, took_of}
 use Rattle.log_reading.proofs.Sizes.{has_room}
 use Rattle.text_output.specs.Output.{kind_of}
 use Rattle.row_output.specs.Asked.{left_of}
@@ -65,6 +66,12 @@ returns-clause-refused g c =
     as_asked (λ format readings plan. IfErr c.group_spans.result (OnRefusedOutput (λ why. OnGroupRows (g.L.LogSource.folder c.group_spans.new.logs) c.args.waits c.args.spans.now (λ rows. IsRefused (asked_of c.args.output) rows why) format readings plan)))
     c.args.plan.shape (g.R.LineReader.format c.args.reader.now) (lines_of c.args.format) c.in-Ok.picker.readings (readings_of c.args.format) c.in-Ok.picker.ready.plan c.args.plan.rows c.in-Ok.ready.plan c.args.plan.groups
     c.requires.reads c.in-Ok.ensures.readings c.in-Ok.ensures.rows c.in-Ok.ensures.groups c.group_spans.ensures.refused
+
+pub returns-clause-early : goal.returns-clause-early
+returns-clause-early g c =
+    let Of : Format → Type 0 = λ format. IfErr c.group_spans.result (OnRefusedOutput (λ why. Told (g.L.LogSource.folder c.group_spans.new.logs) (λ folder. AreKept format c.args.waits c.args.spans.now folder
+    → IsRefused (asked_of c.args.output) [] why ⊎ IsWithin c.args.most_bad (length (spans_bad format c.args.waits folder c.args.spans.now))))) in
+    subst Of c.requires.reads c.group_spans.ensures.early
 
 pub returns-clause-took : goal.returns-clause-took
 returns-clause-took g c =

@@ -1,14 +1,14 @@
-use Rattle.std.proofs.Common.{◌≡◌, ◌++◌, true, map, length, IfOk, IfErr, OnOk, OnErr, inl, refl, subst}
+use Rattle.std.proofs.Common.{◌≡◌, ◌⊎◌, ◌++◌, true, map, length, IfOk, IfErr, OnOk, OnErr, inl, refl, subst}
 use Rattle.lp_model.specs.Outside.{Told}
 use Rattle.lp_model.specs.Reading.{Format}
 use Rattle.lp_model.proofs.Growing.{OnlyGrow-refl}
-use Rattle.log_reading.specs.Page.{IsTooMany}
-use Rattle.log_reading.specs.Spans.{AreKept, spans_bad_lines, took_of}
+use Rattle.log_reading.specs.Page.{IsTooMany, IsWithin}
+use Rattle.log_reading.specs.Spans.{AreKept, spans_bad, spans_bad_lines, took_of}
 use Rattle.log_reading.proofs.Sizes.{has_room}
 use Rattle.text_output.specs.Output.{kind_of}
 use Rattle.row_output.specs.Asked.{left_of}
 use Rattle.row_output.specs.Kept.{asked_of}
-use Rattle.row_output.specs.Rows.{Holds, IsRefused, Stops}
+use Rattle.row_output.specs.Rows.{Holds, IsRefused, IsRefusedEarly, Stops}
 use Rattle.row_output.proofs.Stopping.{none_stops}
 use Rattle.plan_rows.specs.Picks.{plan_picks}
 use Rattle.query_run.specs.Ahead.{GoesAhead}
@@ -52,6 +52,12 @@ pub returns-clause-refused : goal.returns-clause-refused
 returns-clause-refused g c =
     as_asked (λ format readings plan. IfErr c.write_spans.result (OnRefusedOutput (λ why. OnRows (g.L.LogSource.folder c.write_spans.new.logs) c.args.waits c.args.spans.now (λ rows. IsRefused (asked_of c.args.output) rows why) format readings plan)))
     (g.R.LineReader.format c.args.reader.now) (lines_of c.args.format) c.in-Ok.picker.readings (readings_of c.args.format) c.in-Ok.picker.ready.plan c.args.plan c.requires.reads c.in-Ok.ensures.readings c.in-Ok.ensures.plan c.write_spans.ensures.refused
+
+pub returns-clause-early : goal.returns-clause-early
+returns-clause-early g c =
+    let Of : Format → Type 0 = λ format. IfErr c.write_spans.result (OnRefusedOutput (λ why. Told (g.L.LogSource.folder c.write_spans.new.logs) (λ folder. AreKept format c.args.waits c.args.spans.now folder
+    → IsRefusedEarly (asked_of c.args.output) why ⊎ IsWithin c.args.most_bad (length (spans_bad format c.args.waits folder c.args.spans.now))))) in
+    subst Of c.requires.reads c.write_spans.ensures.early
 
 pub returns-clause-too_many : goal.returns-clause-too_many
 returns-clause-too_many g c =

@@ -1,21 +1,21 @@
-use Rattle.std.proofs.Common.{◌≡◌, ℕ, List, length, Err, Option, IsSome, IfSome, inl, refl, ap, sym, ◌∙◌, subst}
+use Rattle.std.proofs.Common.{◌≡◌, ◌⊎◌, ℕ, List, length, Err, Option, IsSome, IfSome, inl, inr, refl, ap, sym, ◌∙◌, subst}
 use Rattle.std.proofs.lemmas.Result.{IfOk-weaker, IfErr-weaker, on_err_weaker}
 use Rattle.lp_model.specs.Outside.{Folder, Told}
 use Rattle.lp_model.proofs.Growing.{OnlyGrow-refl}
 use Rattle.lp_values.specs.declared.value.Value.{Value}
 use Rattle.log_reading.specs.Page.{IsTooMany, IsWithin}
-use Rattle.log_reading.specs.Spans.{AreKept, BadLine, spans_found, spans_bad_lines}
+use Rattle.log_reading.specs.Spans.{AreKept, BadLine, spans_found, spans_bad, spans_bad_lines}
 use Rattle.log_reading.proofs.Faults.{bad_line_so}
 use Rattle.text_output.specs.Output.{kind_of}
 use Rattle.row_output.specs.Asked.{left_of}
 use Rattle.row_output.specs.Kept.{asked_of}
-use Rattle.row_output.specs.Rows.{Holds, IsRefused, Stops}
+use Rattle.row_output.specs.Rows.{Holds, IsRefused, IsRefusedEarly, Stops}
 use Rattle.row_output.specs.declared.fault.Refused.{Refused}
 use Rattle.query_run.specs.Faults.{OnBad, OnRefusedOutput}
 use Rattle.query_run.specs.Rows.{picked}
 use Rattle.query_run.specs.declared.fault.WriteFault.TheVariants as W
 use Rattle.query_run.proofs.Reasons.{bad_in, bad_so, logs_in, refused_in, refused_so}
-use Rattle.query_run.proofs.WholeRun.{told_all, stop_there, stops_in, refused_in_spans, ends_with, rows_taken, bad_taken}
+use Rattle.query_run.proofs.WholeRun.{told_all, told_map, stop_there, stops_in, refused_in_spans, early_in_spans, ends_with, rows_taken, bad_taken, bad_within}
 use Rattle.query_run.proofs.ReadAhead.{goes_ahead}
 use Rattle.query_run.proofs.executing.write_page.Goals as goal
 
@@ -47,6 +47,17 @@ returns-clause-refused g c = λ output picker first s.
     (subst (λ (o : Option Refused). IfSome o Q) (sym c.replace.ensures.value)
     (refused_in_spans (kind_of g.G.Stage.state g.G.Stage.ended) output picker first g.P.Picker.picks format c.args.waits told c.args.spans.now
     c.args.page.now c.take_spans.new.page c.args.stage.now c.take_spans.new.out s c.in-Err.ensures.stops)))
+
+pub returns-clause-early : goal.returns-clause-early
+returns-clause-early g c = λ output picker first s.
+    let format = g.R.LineReader.format c.args.reader.now in
+    let told = g.L.LogSource.folder c.take_spans.new.logs in
+    let Else : Folder → Type 0 = λ folder. IsWithin c.args.page.now.most_bad (length (spans_bad format c.args.waits folder c.args.spans.now)) in
+    let Q : Refused → Type 0 = λ why. Told told (λ folder. AreKept format c.args.waits c.args.spans.now folder → IsRefusedEarly (asked_of output) why ⊎ Else folder) in
+    subst (OnRefusedOutput Q) (sym c.stopped_in.ensures) (refused_in c.in-Err.fault c.replace.result Q
+    (subst (λ (o : Option Refused). IfSome o Q) (sym c.replace.ensures.value)
+    (early_in_spans (kind_of g.G.Stage.state g.G.Stage.ended) output picker first g.P.Picker.picks format c.args.waits told c.args.spans.now
+    c.args.page.now c.take_spans.new.page c.args.stage.now c.take_spans.new.out Else s c.in-Err.ensures.stops)))
 
 pub returns-clause-too_many : goal.returns-clause-too_many
 returns-clause-too_many g c =
@@ -103,6 +114,19 @@ returns-in-Ok-take_spans-clause-refused g c =
     ends_with kind output picker first g.P.Picker.picks format c.args.waits told c.args.spans.now
     c.args.page.now c.take_spans.new.page c.args.stage.now c.take_spans.new.out (λ asked rows. IsRefused asked rows why) s
     c.in-Ok-take_spans.ensures.takes (is first)) refused) c.end_page.ensures.refused
+
+pub returns-in-Ok-take_spans-clause-early : goal.returns-in-Ok-take_spans-clause-early
+returns-in-Ok-take_spans-clause-early g c =
+    let page = c.args.page.now in
+    let format = g.R.LineReader.format c.args.reader.now in
+    let told = g.L.LogSource.folder c.take_spans.new.logs in
+    let within : IsWithin page.most_bad c.take_spans.new.page.bad = subst (λ (most : Option ℕ). IsWithin most c.take_spans.new.page.bad) c.take_spans.ensures.most c.in-Ok-take_spans.ensures.within in
+    let Within : Folder → Type 0 = λ folder. IsWithin page.most_bad (length (spans_bad format c.args.waits folder c.args.spans.now)) in
+    let all : Told told (λ folder. AreKept format c.args.waits c.args.spans.now folder → Within folder) =
+    bad_within _ format c.args.waits told c.args.spans.now page c.take_spans.new.page c.args.stage.now c.take_spans.new.out page.most_bad within c.requires.bad c.in-Ok-take_spans.ensures.takes in
+    IfErr-weaker c.end_page.result _ _ (λ fault refused output picker first s. refused_so fault _ _ (λ why is.
+    told_map told (λ folder. AreKept format c.args.waits c.args.spans.now folder → Within folder) (λ folder. AreKept format c.args.waits c.args.spans.now folder → IsRefusedEarly (asked_of output) why ⊎ Within folder)
+    (λ folder all kept. inr (all kept)) all) refused) c.end_page.ensures.refused
 
 pub returns-in-Ok-take_spans-clause-too_many : goal.returns-in-Ok-take_spans-clause-too_many
 returns-in-Ok-take_spans-clause-too_many g c =

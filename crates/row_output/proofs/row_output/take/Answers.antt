@@ -4,6 +4,7 @@ use Rattle.text_output.specs.Output.{kind_of}
 use Rattle.row_output.specs.Few.{places_in}
 use Rattle.row_output.specs.declared.kept.Kept.{Kept}
 use Rattle.row_output.specs.declared.kept.Kept.TheVariants as K
+use Rattle.row_output.proofs.Early.{plain_early}
 use Rattle.row_output.proofs.KeptCalls.{plain_has, plain_little, plain_stops, plain_refuses, ordered_takes, places_taken, ordered_apart}
 use Rattle.row_output.proofs.Stopping.{kept_stops}
 use Rattle.row_output.proofs.row_output.take.Goals as goal
@@ -26,6 +27,9 @@ returns-in-All-clause-stop g c =
 pub returns-in-All-clause-refused : goal.returns-in-All-clause-refused
 returns-in-All-clause-refused g c =
     plain_refuses (kind_of g.G.Stage.state g.G.Stage.ended) c.args.kept.now c.in-All.is c.args.order.now c.args.sink.now c.args.stage.now c.put.new.stage c.put.result (λ rows more. rows ++ (c.args.row.now ∷ more)) c.put.ensures.refused
+
+pub returns-in-All-clause-early : goal.returns-in-All-clause-early
+returns-in-All-clause-early g c = plain_early (kind_of g.G.Stage.state g.G.Stage.ended) c.args.kept.now c.args.order.now c.args.sink.now c.args.stage.now c.put.result c.in-All.is
 
 pub returns-in-Ok-clause-places : goal.returns-in-Ok-clause-places
 returns-in-Ok-clause-places g c = places_taken c.args.kept.now c.in-Ordered.orderer c.keep.new.orderer c.in-Ordered.is c.keep.ensures.places

@@ -1,11 +1,11 @@
-use Rattle.std.proofs.Common.{◌≡◌, ℕ, List, [], length, Err, Option, None, ap, sym, ◌∙◌, subst, refl}
+use Rattle.std.proofs.Common.{◌≡◌, ◌⊎◌, inl, inr, ℕ, List, [], length, Err, Option, None, ap, sym, ◌∙◌, subst, refl}
 use Rattle.std.proofs.lemmas.Result.{IfOk-weaker, IfErr-weaker, IfErr-at_err, on_err_weaker}
 use Rattle.lp_model.specs.Outside.{Folder, Told}
 use Rattle.lp_model.proofs.Growing.{OnlyGrow-refl}
 use Rattle.lp_model.proofs.Results.{on_err}
 use Rattle.lp_values.specs.declared.value.Value.{Value}
 use Rattle.log_reading.specs.Page.{IsTooMany, IsWithin}
-use Rattle.log_reading.specs.Spans.{AreKept, BadLine, spans_found, spans_bad_lines}
+use Rattle.log_reading.specs.Spans.{AreKept, BadLine, spans_found, spans_bad, spans_bad_lines}
 use Rattle.log_reading.proofs.Faults.{handed_on, bad_line_so}
 use Rattle.text_output.specs.Output.{kind_of}
 use Rattle.row_output.specs.Asked.{left_of}
@@ -15,8 +15,8 @@ use Rattle.row_output.specs.declared.fault.Refused.{Refused}
 use Rattle.query_run.specs.Faults.{OnBad, OnRefusedOutput}
 use Rattle.query_run.specs.declared.fault.WriteFault.{WriteFault}
 use Rattle.query_run.specs.declared.fault.WriteFault.TheVariants as W
-use Rattle.query_run.proofs.Reasons.{bad_in, bad_so, logs_in, refused_in, refused_so}
-use Rattle.query_run.proofs.WholeRun.{told_all, told_map, rows_taken, bad_taken}
+use Rattle.query_run.proofs.Reasons.{bad_all, bad_each, bad_in, bad_so, logs_in, refused_in, refused_so}
+use Rattle.query_run.proofs.WholeRun.{told_all, told_map, rows_taken, bad_taken, bad_within}
 use Rattle.row_output.proofs.Stopping.{rows_stop}
 use Rattle.row_steps.specs.Gathered.{gathered_at}
 use Rattle.row_steps.specs.Grouped.{grouped_output}
@@ -50,6 +50,20 @@ returns-in_err-page-clause-refused g c =
     let Q : Refused → Type 0 = λ why. Told told (λ folder. AreKept format c.args.waits c.args.spans.now folder → IsRefused (asked_of c.args.output) (rows folder) why) in
     handed_on c.from_residual.result _ (OnRefusedOutput Q) c.from_residual.ensures.1
     (refused_so _ _ Q (λ why is. told_all told (λ folder. AreKept format c.args.waits c.args.spans.now folder → IsRefused (asked_of c.args.output) (rows folder) why) (λ folder kept. is (rows folder))) c.in_err-page.ensures.refused)
+
+pub returns-in_err-page-clause-early : goal.returns-in_err-page-clause-early
+returns-in_err-page-clause-early g c =
+    let told = g.L.LogSource.folder c.args.logs.now in
+    let format = g.R.LineReader.format c.args.reader.now in
+    let Early : Refused → Folder → Type 0 = λ why folder. AreKept format c.args.waits c.args.spans.now folder → IsRefused (asked_of c.args.output) [] why ⊎ IsWithin c.args.most_bad (length (spans_bad format c.args.waits folder c.args.spans.now)) in
+    let Q : Refused → Type 0 = λ why. Told told (Early why) in
+    handed_on c.from_residual.result _ (OnRefusedOutput Q) c.from_residual.ensures.1
+    (refused_so _ _ Q (λ why is. told_all told (Early why) (λ folder kept. inl (is []))) c.in_err-page.ensures.refused)
+
+pub returns-in_err-page-clause-named : goal.returns-in_err-page-clause-named
+returns-in_err-page-clause-named g c =
+    let Of : BadLine → Type 0 = λ line. (why : Refused) → IsRefused (asked_of c.args.output) [] why → ⊥ in
+    handed_on c.from_residual.result _ (OnBad Of) c.from_residual.ensures.1 (bad_so _ (λ line. ⊥) Of (λ line none. absurd none) c.in_err-page.ensures.good)
 
 pub returns-in_err-page-clause-too_many : goal.returns-in_err-page-clause-too_many
 returns-in_err-page-clause-too_many g c =
@@ -87,6 +101,16 @@ returns-clause-refused g c =
     let rows : Folder → List (List Value) = λ folder. grouped_output asks.keys asks.aggregates asks.rollup (g.P.Picker.picks c.args.picker) c.args.plan.plan (spans_found format c.args.waits folder c.args.spans.now) in
     let Q : Refused → Type 0 = λ why. Told told (λ folder. AreKept format c.args.waits c.args.spans.now folder → IsRefused (asked_of c.args.output) (rows folder) why) in
     subst (OnRefusedOutput Q) (sym c.stopped_in.ensures) (refused_in c.in-Err.fault None Q tt)
+
+pub returns-clause-early : goal.returns-clause-early
+returns-clause-early g c =
+    let told = g.L.LogSource.folder c.take_spans.new.logs in
+    let format = g.R.LineReader.format c.args.reader.now in
+    let Q : Refused → Type 0 = λ why. Told told (λ folder. AreKept format c.args.waits c.args.spans.now folder → IsRefused (asked_of c.args.output) [] why ⊎ IsWithin c.args.most_bad (length (spans_bad format c.args.waits folder c.args.spans.now))) in
+    subst (OnRefusedOutput Q) (sym c.stopped_in.ensures) (refused_in c.in-Err.fault None Q tt)
+
+pub returns-clause-named : goal.returns-clause-named
+returns-clause-named g c = bad_all c.stopped_in.result (λ line. (why : Refused) → IsRefused (asked_of c.args.output) [] why → ⊥) (λ line. c.in_ok-page.ensures.named)
 
 pub returns-clause-too_many : goal.returns-clause-too_many
 returns-clause-too_many g c =
@@ -145,6 +169,22 @@ returns-in-Ok-take_spans-clause-refused g c =
     spans_end g.P.Picker.picks (λ w s. gathered_at w.picker w.plan w.groups s) c.args.asks.now c.args.picker c.args.plan (g.R.LineReader.format c.args.reader.now) c.args.waits (g.L.LogSource.folder c.take_spans.new.logs) c.args.spans.now
     c.in_ok-page.page c.take_spans.new.page c.open_page.new.stage c.take_spans.new.out (λ s. HasRows kind c.open_page.new.output c.args.stage.now [] s) (λ asked out. IsRefused asked out why) (asked_of c.open_page.new.output) (asked_of c.args.output) c.open_page.ensures.asked
     opened.groups opened.picker opened.plan c.in-Ok-take_spans.ensures.takes opened.has (is c.args.stage.now)) refused) c.end_page.ensures.refused
+
+pub returns-in-Ok-take_spans-clause-early : goal.returns-in-Ok-take_spans-clause-early
+returns-in-Ok-take_spans-clause-early g c =
+    let format = g.R.LineReader.format c.args.reader.now in
+    let told = g.L.LogSource.folder c.take_spans.new.logs in
+    let within : IsWithin c.args.most_bad c.take_spans.new.page.bad =
+    subst (λ (most : Option ℕ). IsWithin most c.take_spans.new.page.bad) (c.take_spans.ensures.most ∙ c.in_ok-page.ensures.most) c.in-Ok-take_spans.ensures.within in
+    let Within : Folder → Type 0 = λ folder. IsWithin c.args.most_bad (length (spans_bad format c.args.waits folder c.args.spans.now)) in
+    let all : Told told (λ folder. AreKept format c.args.waits c.args.spans.now folder → Within folder) =
+    bad_within _ format c.args.waits told c.args.spans.now c.in_ok-page.page c.take_spans.new.page c.open_page.new.stage c.take_spans.new.out c.args.most_bad within c.in_ok-page.ensures.bad c.in-Ok-take_spans.ensures.takes in
+    IfErr-weaker c.end_page.result _ _ (λ fault refused. refused_so fault _ _ (λ why is.
+    told_map told (λ folder. AreKept format c.args.waits c.args.spans.now folder → Within folder) (λ folder. AreKept format c.args.waits c.args.spans.now folder → IsRefused (asked_of c.args.output) [] why ⊎ Within folder)
+    (λ folder all kept. inr (all kept)) all) refused) c.end_page.ensures.refused
+
+pub returns-in-Ok-take_spans-clause-named : goal.returns-in-Ok-take_spans-clause-named
+returns-in-Ok-take_spans-clause-named g c = bad_each c.end_page.result (λ line. (why : Refused) → IsRefused (asked_of c.args.output) [] why → ⊥) (λ line. c.in_ok-page.ensures.named)
 
 pub returns-in-Ok-take_spans-clause-too_many : goal.returns-in-Ok-take_spans-clause-too_many
 returns-in-Ok-take_spans-clause-too_many g c =

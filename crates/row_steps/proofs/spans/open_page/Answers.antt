@@ -21,6 +21,9 @@ returns-in-Ok-open-clause-has g c = c.in-Ok-open.ensures.has c.args.stage.now []
 pub returns-in-Ok-open-clause-opened : goal.returns-in-Ok-open-clause-opened
 returns-in-Ok-open-clause-opened g c = c.in-Ok-open.ensures.opened c.args.stage.now [] (new_has (kind_of g.G.Stage.state g.G.Stage.ended) c.args.output.now c.args.stage.now c.requires.new)
 
+pub returns-in-Ok-open-clause-named : goal.returns-in-Ok-open-clause-named
+returns-in-Ok-open-clause-named g c = c.in-Ok-open.ensures.named c.args.stage.now (new_has (kind_of g.G.Stage.state g.G.Stage.ended) c.args.output.now c.args.stage.now c.requires.new)
+
 pub returns-in-Err-clause-stops : goal.returns-in-Err-clause-stops
 returns-in-Err-clause-stops g c = λ rows. c.in-Err.ensures.stop c.args.stage.now [] rows (new_has (kind_of g.G.Stage.state g.G.Stage.ended) c.args.output.now c.args.stage.now c.requires.new)
 

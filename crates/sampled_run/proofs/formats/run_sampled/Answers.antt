@@ -1,23 +1,25 @@
-use Rattle.std.proofs.Common.{subst, IfOk, IfErr, OnOk, ◌≡◌, ◌++◌, true, map}
+use Rattle.std.proofs.Common.{subst, IfOk, IfErr, OnOk, ◌≡◌, ◌⊎◌, ◌++◌, length, true, map}
 use Rattle.any_format.specs.Wanted.{wanted_text}
 use Rattle.row_output.specs.Sinks.{files_for}
 use Rattle.sampled_run.specs.Finishes.{asked_by}
-use Rattle.lp_model.specs.Outside.{Told}
+use Rattle.lp_model.specs.Outside.{Folder, Told}
 use Rattle.query_tree.specs.Views.{query_of}
-use Rattle.log_reading.specs.Page.{IsTooMany}
-use Rattle.log_reading.specs.Spans.{AreKept, spans_bad_lines, took_of}
+use Rattle.log_reading.specs.Page.{IsTooMany, IsWithin}
+use Rattle.log_reading.specs.Spans.{AreKept, spans_bad, spans_bad_lines, took_of}
 use Rattle.delimited_input.specs.declared.options.DelimitedOptions.{DelimitedOptions}
 use Rattle.delimited_input.specs.Lines.{delimited_lines}
 use Rattle.text_output.specs.Output.{kind_of}
+use Rattle.row_output.specs.declared.fault.Refused.{Refused}
 use Rattle.query_run.specs.declared.executing.Written.{Written}
 use Rattle.sampled_run.specs.declared.fault.SampleFault.{SampleFault}
 use Rattle.sampled_run.specs.Rules.{Rules, rules_of}
 use Rattle.column_kinds.specs.Spans.{past_behind, past_of}
-use Rattle.sampled_run.specs.Ran.{IsSampled, IsStoppedBy, OnBadOne}
+use Rattle.sampled_run.specs.Ran.{IsSampled, IsStoppedBy, IsUnplacedEarly, OnBadOne, OnRefusedOne}
 use Rattle.column_kinds.proofs.Answered.{if_ok, if_err}
 use Rattle.column_kinds.proofs.Delimited.{delimited_sets_once}
+use Rattle.sampled_run.proofs.Early.{refused_so}
 use Rattle.sampled_run.proofs.Fresh.{nothing}
-use Rattle.sampled_run.proofs.Ran.{ran_told, stopped_told}
+use Rattle.sampled_run.proofs.Ran.{early_told, ran_told, stopped_told}
 use Rattle.sampled_run.proofs.formats.run_sampled.Goals as goal
 
 pub returns-clause-ran : goal.returns-clause-ran
@@ -61,6 +63,21 @@ returns-clause-too_many g c =
     let Of : DelimitedOptions → Type 0 = λ options. IfErr c.sample_reader.result (λ fault. OnBadOne fault (λ line. Told told (λ folder. AreKept (delimited_lines options) c.args.waits spans folder
     → IsTooMany c.args.most_bad 0 (spans_bad_lines (delimited_lines options) c.args.waits folder spans) line))) in
     subst Of c.in-Ok.ensures.ok c.sample_reader.ensures.too_many
+
+pub returns-clause-early : goal.returns-clause-early
+returns-clause-early g c =
+    let told = g.L.LogSource.folder c.sample_reader.new.logs in
+    let spans = c.args.spans.now in
+    let rules : Rules = rules_of c.args.limit c.args.pattern.now c.args.moment.seconds (query_of c.args.query.now) (asked_by (files_for c.args.into) (wanted_text c.args.wanted c.args.moment.seconds) (query_of c.args.query.now)) in
+    let Else : DelimitedOptions → Folder → Type 0 = λ options folder. IsWithin c.args.most_bad (length (spans_bad (delimited_lines options) c.args.waits folder spans)) in
+    let Behind : DelimitedOptions → Refused → Type 0 = λ options why. Told told (λ folder. AreKept (delimited_lines options) c.args.waits spans folder
+    → IsUnplacedEarly rules (past_behind (delimited_lines options) c.args.waits folder nothing spans) why ⊎ Else options folder) in
+    let Of : Refused → Type 0 = λ why. Told told (λ folder. AreKept (delimited_lines c.args.options) c.args.waits spans folder
+    → IsUnplacedEarly rules (past_of (delimited_lines c.args.options) c.args.waits folder spans) why ⊎ Else c.args.options folder) in
+    let given = subst (λ (options : DelimitedOptions). IfErr c.sample_reader.result (λ fault. OnRefusedOne fault (Behind options))) c.in-Ok.ensures.ok c.sample_reader.ensures.early in
+    if_err (λ (fault : SampleFault). OnRefusedOne fault (Behind c.args.options)) (λ (fault : SampleFault). OnRefusedOne fault Of) c.sample_reader.result
+    (λ fault. refused_so fault (Behind c.args.options) Of (early_told rules (delimited_lines c.args.options) c.args.waits (delimited_sets_once c.args.options) told spans (Else c.args.options)))
+    given
 
 pub returns-clause-took : goal.returns-clause-took
 returns-clause-took g c =

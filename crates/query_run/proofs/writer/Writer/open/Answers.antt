@@ -9,7 +9,7 @@ pub returns-in-Ok-clause-takes : goal.returns-in-Ok-clause-takes
 returns-in-Ok-clause-takes g c = opens_as (kind_of g.G.Stage.state g.G.Stage.ended) c.args.self.now _ c.args.stage.now c.open.new.stage c.in-Ok.ensures.has c.open.ensures.asked refl refl
 
 pub returns-in-Err-clause-stops : goal.returns-in-Err-clause-stops
-returns-in-Err-clause-stops g c = stops_as (kind_of g.G.Stage.state g.G.Stage.ended) [] c.args.self.now _ c.args.stage.now c.open.new.stage c.in-Err.fault c.in-Err.ensures.stop c.in-Err.ensures.refused c.told.ensures.refused
+returns-in-Err-clause-stops g c = stops_as (kind_of g.G.Stage.state g.G.Stage.ended) [] c.args.self.now _ c.args.stage.now c.open.new.stage c.in-Err.fault c.in-Err.ensures.stop c.in-Err.ensures.refused c.in-Err.ensures.early c.told.ensures.refused
 
 pub returns-in-Err-clause-failed : goal.returns-in-Err-clause-failed
 returns-in-Err-clause-failed g c = λ e.

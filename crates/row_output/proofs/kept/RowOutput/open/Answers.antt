@@ -3,6 +3,7 @@ use Rattle.text_output.specs.Output.{kind_of}
 use Rattle.row_output.specs.Sinks.{Purpose}
 use Rattle.row_output.specs.declared.kept.RowOutput.{RowOutput}
 use Rattle.row_output.proofs.KeptCalls.{asked_for, open_has, open_opened, open_stops, open_refuses}
+use Rattle.row_output.proofs.Early.{open_early}
 use Rattle.row_output.proofs.Unrefused.{open_named}
 use Rattle.row_output.proofs.kept.RowOutput.open.Goals as goal
 
@@ -28,3 +29,6 @@ returns-clause-named g c =
     let p : RowOutput = record o { sink = c.open.new.self } in
     open_named kind o p c.args.stage.now c.open.new.stage c.open.result (ap (λ (p : Purpose). asked_for p o.order) c.open.ensures.purpose) (open_has kind o c.args.stage.now c.open.new.stage c.open.result p refl refl refl c.open.ensures.has)
     (open_opened kind o c.args.stage.now c.open.new.stage c.open.result c.open.new.self c.open.ensures.opened)
+
+pub returns-clause-early : goal.returns-clause-early
+returns-clause-early g c = open_early (kind_of g.G.Stage.state g.G.Stage.ended) c.args.self.now c.args.stage.now c.open.result c.open.ensures.refused

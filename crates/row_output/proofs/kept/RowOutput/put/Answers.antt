@@ -4,8 +4,10 @@ use Rattle.order_top.specs.Finish.{Row, finished}
 use Rattle.text_output.specs.Output.{kind_of}
 use Rattle.row_output.specs.declared.fault.Refused.{Refused}
 use Rattle.row_output.specs.Kept.{HasKept, HasRows, asked_of}
-use Rattle.row_output.specs.Rows.{IsRefused, IsRefusedAt}
+use Rattle.row_output.specs.Orders.{IsPlain}
+use Rattle.row_output.specs.Rows.{IsRefused, IsRefusedAt, IsRefusedEarly}
 use Rattle.row_output.specs.Sinks.{Purpose, files_in}
+use Rattle.row_output.proofs.Early.{put_early}
 use Rattle.row_output.proofs.KeptCalls.{asked_for, rows_have, rows_little, rows_stop_at, rows_refused, one_more}
 use Rattle.row_output.proofs.SinkCalls.{refused_on}
 use Rattle.row_output.proofs.kept.RowOutput.put.Goals as goal
@@ -29,6 +31,16 @@ returns-in_err-take-clause-refused g c =
     c.from_residual.result _ c.from_residual.ensures.1
     (λ why so start rows more has. rows_refused kind o c.args.stage.now c.take.new.stage start rows (rows ++ (c.args.row.now ∷ more)) why (so start rows more) has)
     c.in_err-take.ensures.refused
+
+pub returns-in_err-take-clause-early : goal.returns-in_err-take-clause-early
+returns-in_err-take-clause-early g c =
+    let kind = kind_of g.G.Stage.state g.G.Stage.ended in
+    let o = c.args.self.now in
+    refused_on (λ (why : Refused). (start : _) (rows : List Row) → HasKept kind o.kept o.order o.sink start rows c.args.stage.now → IsPlain o.order)
+    (λ (why : Refused). (start : _) (rows : List Row) → HasRows kind o start rows c.args.stage.now → IsRefusedEarly (asked_of o) why)
+    c.from_residual.result _ c.from_residual.ensures.1
+    (λ why so start rows has. put_early kind o start rows c.args.stage.now why (so start rows) has)
+    c.in_err-take.ensures.early
 
 pub returns-in_err-take-clause-uncounted : goal.returns-in_err-take-clause-uncounted
 returns-in_err-take-clause-uncounted g c = on_err _ c.from_residual.result refl
