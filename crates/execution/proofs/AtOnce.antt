@@ -91,7 +91,7 @@ behind : {A B : Type 0} (first : Result A TypeFault) (next : A → Result B Type
 behind (Ok a) next value is = (a, refl, is)
 behind (Err fault) next value is = absurd cc
 
-ok_same : {X : Type 0} (x y : X) (result : Result X TypeFault) → result ≡ Ok x → result ≡ Ok y → x ≡ y
+pub ok_same : {X : Type 0} (x y : X) (result : Result X TypeFault) → result ≡ Ok x → result ≡ Ok y → x ≡ y
 ok_same x y result first second = let same = sym first ∙ second in cc
 
 of_rows_is : (plan : PlannedQuery) (planned : Result Planned TypeFault) → over_rows planned ≡ Ok plan → (own : Planned) × (planned ≡ Ok own) × (plan ≡ of_rows own)

@@ -1,5 +1,5 @@
 -- What a run over sampled columns says of its query.
-use Rattle.std.proofs.Common.{◌≡◌, ◌∙◌, ◌+◌, Bool, List, ℕ, ℤ, Option, Some, None, inl, inr, ap, subst}
+use Rattle.std.proofs.Common.{◌≡◌, ◌⊎◌, ◌∙◌, ◌+◌, Bool, List, ℕ, ℤ, length, Option, Some, None, inl, inr, ap, subst}
 use Rattle.grammar.specs.Filled.{given_bad}
 use Rattle.grammar.specs.Trees as model
 use Rattle.lp_model.specs.Outside.{Folder, Told}
@@ -7,8 +7,8 @@ use Rattle.command_words.specs.declared.spec.Spec.{Spec}
 use Rattle.delimited_input.specs.declared.options.DelimitedOptions.{DelimitedOptions}
 use Rattle.delimited_input.specs.Lines.{delimited_lines}
 use Rattle.log_reading.specs.declared.span.Span.{Span}
-use Rattle.log_reading.specs.Page.{IsTooMany}
-use Rattle.log_reading.specs.Spans.{AreKept, BadLine, spans_bad_lines}
+use Rattle.log_reading.specs.Page.{IsTooMany, IsWithin}
+use Rattle.log_reading.specs.Spans.{AreKept, BadLine, spans_bad, spans_bad_lines}
 use Rattle.text_output.specs.Output.{StageKind}
 use Rattle.query_run.specs.declared.executing.Counts.{Counts}
 use Rattle.query_run.specs.declared.executing.Written.{Written}
@@ -20,10 +20,11 @@ use Rattle.column_kinds.specs.Spans.{past_of}
 use Rattle.execution.specs.declared.formats.LogFormat.TheVariants as F
 use Rattle.execution.specs.Budgets.{IsBudget}
 use Rattle.execution.specs.declared.errors.BadBudget.{BadBudget}
-use Rattle.execution.specs.Executed.{IsExecuted, IsStopped, IsParseError, IsUnplaced, IsUnplanned, IsUntouched}
+use Rattle.execution.specs.Executed.{IsEarly, IsExecuted, IsStopped, IsParseError, IsUnplaced, IsUnplanned, IsUntouched}
 use Rattle.execution.specs.Plans.{PlannedQuery}
-use Rattle.execution.proofs.Budgeting.{AreAll, told_beside}
-use Rattle.execution.specs.Telling.{IsFront, IsRefused, IsTold, Telling, telling}
+use Rattle.execution.proofs.AtOnce.{ok_same}
+use Rattle.execution.proofs.Budgeting.{AreAll, all_of, told_beside}
+use Rattle.execution.specs.Telling.{IsFront, IsRefused, IsTold, IsUnplacedEarly, Telling, plan_at, telling}
 use Rattle.execution.specs.Telling.{IsUnplaced as IsRefusedOutput}
 
 abbrev Kept : DelimitedOptions → Bool → List Span → Folder → Type 0
@@ -73,12 +74,26 @@ module _ {S : Type 0} (kind : StageKind S) (told : Option Folder) (start now : S
   abbrev Unplaces : Option Folder → List Span → Refused → Type 0
   Unplaces told spans why = Told told (λ folder. Kept options waits spans folder → IsRefusedOutput kind (rules_with limit spec moment q asked) start (past_of (delimited_lines options) waits folder spans) why now)
 
-  unplaced_all : (told : Option Folder) (spans : List Span) (why : Refused) → Unplaces told spans why → IsUnplaced (F.Sampled options limit) waits told asked spec moment q spans why
-  unplaced_all None spans why refused = tt
-  unplaced_all (Some folder) spans why refused = λ kept. record { plan = (refused kept).plan; is_planned = (refused kept).planned; front = λ again. (refused kept).refused }
+  abbrev ComesIn : Option Folder → List Span → BadBudget → Refused → Type 0
+  ComesIn told spans budget why = Told told (λ folder. Kept options waits spans folder
+      → IsUnplacedEarly (rules_with limit spec moment q asked) (past_of (delimited_lines options) waits folder spans) why ⊎ IsWithin (Some budget.most) (length (spans_bad (delimited_lines options) waits folder spans)))
 
-  pub unplaced : (slice spans : List Span) (why : Refused) → slice ≡ spans → Unplaces told slice why → IsUnplaced (F.Sampled options limit) waits told asked spec moment q spans why
-  unplaced slice spans why listed refused = subst (λ (s : List Span). IsUnplaced (F.Sampled options limit) waits told asked spec moment q s why) listed (unplaced_all told slice why refused)
+  unplaced_all : (told : Option Folder) (spans : List Span) (why : Refused) (budget : BadBudget) → IsBudget spec.errors (given_bad q) budget → Unplaces told spans why → ComesIn told spans budget why → IsUnplaced (F.Sampled options limit) waits told asked spec moment q spans why
+  unplaced_all None spans why budget budgeted refused early = tt
+  unplaced_all (Some folder) spans why budget budgeted refused early = λ kept.
+      let is = refused kept in
+      record {
+        plan = is.plan;
+        is_planned = is.planned;
+        refused = λ again. is.refused;
+        in_turn = λ again. elim (early kept) [
+          | inl e ↦ inl (subst (λ (p : PlannedQuery). IsEarly p (asked p) why) (ok_same e.plan is.plan (plan_at (rules_with limit spec moment q asked) (past_of (delimited_lines options) waits folder spans)) e.planned is.planned) e.early)
+          | inr within ↦ inr (all_of spec.errors (given_bad q) budget (length (spans_bad (delimited_lines options) waits folder spans)) budgeted within)
+        ];
+      }
+
+  pub unplaced : (slice spans : List Span) (why : Refused) (budget : BadBudget) → slice ≡ spans → IsBudget spec.errors (given_bad q) budget → Unplaces told slice why → ComesIn told slice budget why → IsUnplaced (F.Sampled options limit) waits told asked spec moment q spans why
+  unplaced slice spans why budget listed budgeted refused early = subst (λ (s : List Span). IsUnplaced (F.Sampled options limit) waits told asked spec moment q s why) listed (unplaced_all told slice why budget budgeted refused early)
 
   unplaced_front : (told : Option Folder) (spans : List Span) (why : Refused) → Unplaces told spans why
       → Told told (λ folder. Kept options waits spans folder → IsFront kind (rules_with limit spec moment q asked) start (past_of (delimited_lines options) waits folder spans) now)

@@ -11,6 +11,7 @@ use Rattle.query_run.specs.declared.executing.Written.{Written}
 use Rattle.query_types.specs.Built.{is_built}
 use Rattle.query_types.specs.declared.table.TableColumns.{TableColumns}
 use Rattle.row_output.specs.Asked.{Files, RowsText}
+use Rattle.row_output.specs.declared.fault.Refused.{Refused}
 use Rattle.column_kinds.specs.Judged.{table_of}
 use Rattle.column_kinds.specs.Past.{Past, told_at}
 use Rattle.sampled_run.specs.declared.fault.SampleFault.{SampleFault}
@@ -18,10 +19,12 @@ use Rattle.sampled_run.specs.declared.fault.SampleFault.TheVariants as F
 use Rattle.sampled_run.specs.Finishes.{asked_by}
 use Rattle.sampled_run.specs.Rules.{rules_of}
 use Rattle.sampled_run.specs.Ran as rows
+use Rattle.sampled_run.specs.Ran.{OnRefusedOne}
+use Rattle.sampled_run.proofs.Early.{refused_so}
 use Rattle.sampled_groups.specs.Rules.{group_rules_of}
 use Rattle.sampled_groups.specs.Ran as groups
 use Rattle.execution.specs.Plans.{asked_for, of_groups, of_rows}
-use Rattle.execution.specs.Telling.{IsFront, IsStoppedBy, IsTold, IsWithin, Telling, telling}
+use Rattle.execution.specs.Telling.{IsFront, IsStoppedBy, IsTold, IsUnplacedEarly, IsWithin, Telling, telling}
 use Rattle.execution.proofs.QueryPlans.{planned_groups, planned_rows, unplanned_groups, unplanned_rows}
 
 -- a fact of an answer, where the folder is told, that follows from another
@@ -36,6 +39,20 @@ pub err_told : {T E : Type 0} (result : Result T E) (told : Option Folder) (P Q 
 err_told (Ok t) told P Q follows is = tt
 err_told (Err e) None P Q follows is = tt
 err_told (Err e) (Some folder) P Q follows is = follows e folder is
+
+-- and so of why an output is refused
+pub err_refused : {T : Type 0} (result : Result T SampleFault) (told : Option Folder) (Kept Within : Folder → Type 0) (P Q : Refused → Folder → Type 0) → ((why : Refused) (folder : Folder) → P why folder → Q why folder)
+    → IfErr result (λ fault. OnRefusedOne fault (λ why. Told told (λ folder. Kept folder → P why folder ⊎ Within folder))) → IfErr result (λ fault. OnRefusedOne fault (λ why. Told told (λ folder. Kept folder → Q why folder ⊎ Within folder)))
+err_refused (Ok t) told Kept Within P Q follows is = tt
+err_refused (Err fault) told Kept Within P Q follows is =
+    refused_so fault (λ why. Told told (λ folder. Kept folder → P why folder ⊎ Within folder)) (λ why. Told told (λ folder. Kept folder → Q why folder ⊎ Within folder)) (λ why. turn told why) is
+  where
+    turn : (told : Option Folder) (why : Refused) → Told told (λ folder. Kept folder → P why folder ⊎ Within folder) → Told told (λ folder. Kept folder → Q why folder ⊎ Within folder)
+    turn None why is = tt
+    turn (Some folder) why is = λ kept. elim (is kept) [
+      | inl early ↦ inl (follows why folder early)
+      | inr within ↦ inr within
+    ]
 
 module _ {S : Type 0} (kind : StageKind S) (limit : ℕ) (pattern : List Piece) (moment : ℤ) (q : Query) (files : Option Files) (text : RowsText) (start : S) (past : Past) where
   abbrev rules : Telling
@@ -71,6 +88,9 @@ module _ {S : Type 0} (kind : StageKind S) (limit : ℕ) (pattern : List Piece) 
     rows_stopped F.Output now s = rows_front now s
     rows_stopped F.Memory now s = rows_front now s
 
+    pub rows_early : (why : Refused) → rows.IsUnplacedEarly (rules_of limit pattern moment q (asked_by files text q)) past why → IsUnplacedEarly rules past why
+    rows_early why e = record { plan = of_rows e.plan; planned = planned_rows table moment q e.plan built e.planned; early = e.early }
+
   -- over groups
   module _ (built : is_built q ≡ false) where
     groups_front : (now : S) → groups.IsFront kind (group_rules_of limit pattern moment q (asked_by files text q)) start past now → IsFront kind rules start past now
@@ -97,3 +117,6 @@ module _ {S : Type 0} (kind : StageKind S) (limit : ℕ) (pattern : List Piece) 
     groups_stopped F.Logs now s = groups_front now s
     groups_stopped F.Output now s = groups_front now s
     groups_stopped F.Memory now s = groups_front now s
+
+    pub groups_early : (why : Refused) → groups.IsUnplacedFirst (group_rules_of limit pattern moment q (asked_by files text q)) past why → IsUnplacedEarly rules past why
+    groups_early why e = record { plan = of_groups e.plan; planned = planned_groups table moment q e.plan built e.planned; early = e.refused }

@@ -18,6 +18,7 @@ use Rattle.column_kinds.specs.Judged.{table_of}
 use Rattle.column_kinds.specs.Past.{Past, told_at}
 use Rattle.sampled_run.specs.declared.fault.SampleFault.{SampleFault}
 use Rattle.sampled_run.specs.declared.fault.SampleFault.TheVariants as F
+use Rattle.execution.specs.Executed.{IsEarly}
 use Rattle.execution.specs.Plans.{PlannedQuery, query_plan, told_rows}
 
 -- what a run is asked: from how many records kinds are judged, how times are read, the moment, the query, and, by a plan, what becomes of its rows
@@ -56,6 +57,12 @@ pub record IsUnplaced {S : Type 0} (kind : StageKind S) (rules : Telling) (start
   pub planned : plan_at rules past ≡ Ok plan
   pub stops : Stops kind (rules.asked plan) start (rows_at rules past plan) now
   pub refused : IsRefusedOutput (rules.asked plan) (rows_at rules past plan) why
+
+-- an output of its rows may be refused before the last line is read
+pub record IsUnplacedEarly (rules : Telling) (past : Past) (why : Refused) : Type 0 where
+  pub plan : PlannedQuery
+  pub planned : plan_at rules past ≡ Ok plan
+  pub early : IsEarly plan (rules.asked plan) why
 
 -- nothing is written, or its rows were to be
 abbrev pub IsFront : {S : Type 0} → StageKind S → Telling → S → Past → S → Type 0

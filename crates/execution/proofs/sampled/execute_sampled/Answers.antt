@@ -55,7 +55,7 @@ returns-in-Err-Refused-clause-stopped g c =
 pub returns-in-Err-Refused-clause-refused : goal.returns-in-Err-Refused-clause-refused
 returns-in-Err-Refused-clause-refused g c =
     rw c.in-Err-Refused.field-0-is (unplaced (kind_of g.G.Stage.state g.G.Stage.ended) (g.L.LogSource.folder c.sample_query.new.logs) c.args.stage.now c.sample_query.new.stage (asked_for (files_for c.args.into) (wanted_text c.args.wanted c.args.moment.seconds) (query_of c.args.query.now)) c.args.spec.now c.args.moment.seconds (query_of c.args.query.now) c.args.options c.args.limit c.args.waits
-    c.as_slice.result.now c.args.spans.now _ c.as_slice.ensures (rw c.in-Err-Refused.field-0-is at c.in-Err-Refused.ensures.stopped))
+    c.as_slice.result.now c.args.spans.now _ c.args.budget c.as_slice.ensures c.requires.budget (rw c.in-Err-Refused.field-0-is at c.in-Err-Refused.ensures.stopped) (rw c.in-Err-Refused.field-0-is at c.in-Err-Refused.ensures.early))
 
 pub returns-in-Err-Plan-clause-stopped : goal.returns-in-Err-Plan-clause-stopped
 returns-in-Err-Plan-clause-stopped g c =
