@@ -25,23 +25,14 @@ use line_input::{Fields, LineReader, Splitter, Standing};
 use log_reading::{LogSource, Page, RunFault, Span, TookList, take_spans};
 use lp_outside::Stage;
 use lp_time::Pattern;
-use query_run::{Counts, Writer, Written};
+use query_run::{Counts, Writer, Written, new_chunk};
 use query_tree::Query;
 use row_output::{Into, Refused};
 use sampled_table::SampledPicker;
-use std::alloc::{AllocError, Global};
+use std::alloc::Global;
 use std::marker::PhantomData;
 
-const CHUNK: usize = 65536;
-
 type SampledPage<'a, G> = Page<Sampled<'a, RowMaker<'a, G>, Writer<SampledPicker<'a>>>>;
-
-// So many zero bytes.
-fn zeros(alloc: Global, size: usize) -> Result<Vec<u8>, AllocError>
-    ensures { IfOk result (λ bytes. length bytes.items ≡ size) }
-{
-    vec![in alloc; 0u8; size]
-}
 
 // Why a run stops, where the reading of its logs did, and its writer for this.
 fn read_fault(fault: RunFault, refused: Option<Refused>) -> SampleFault
@@ -167,7 +158,7 @@ fn read_page<'a, R: LineReader, L: LogSource, G: Stage>(
     ensures later { G.faults stage.old ≤ G.faults stage.new }
     ensures output { IsErrOf result SampleFault.Output → Rose (G.faults stage.old) (G.faults stage.new) }
 {
-    let Ok(mut chunk) = zeros(alloc, CHUNK) else {
+    let Ok(mut chunk) = new_chunk(alloc) else {
         return Err(SampleFault::Memory);
     };
     let mut page = first_page(alloc, limit, pattern, moment, query, most_bad, wanted, into);
