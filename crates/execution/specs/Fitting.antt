@@ -1,7 +1,6 @@
 -- A plan that fits the table of its format.
 use Rattle.std.specs.Prelude.{◌≡◌, ◌+◌, length, option_map}
-use Rattle.group_planning.specs.declared.plan.GroupPlan.{GroupPlan}
-use Rattle.group_planning.specs.Groups.{grouped_in}
+use Rattle.group_planning.specs.Groups.{GroupPlan, grouped_in}
 use Rattle.input_tables.specs.declared.format.TableFormat.{TableFormat}
 use Rattle.input_tables.specs.Tables.{columns_of}
 use Rattle.query_types.specs.Conditions.{filter_of}

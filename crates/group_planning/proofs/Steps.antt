@@ -3,11 +3,8 @@ use Rattle.std.proofs.Common.{◌≡◌, ℕ, ◌+◌, ◌<◌, ◌≤◌, Bool,
 use Rattle.std.proofs.Math.Seq.{take-length}
 use Rattle.std.proofs.lemmas.List.{take-append-le, length-take-le, append-nil}
 use Rattle.grammar.specs.Trees.{Tree, Item}
-use Rattle.grammar.specs.Trees.{trees_of as listed}
-use Rattle.lp_values.specs.declared.kind.Kind.{Kind}
 use Rattle.lp_values.specs.declared.value.Value.{Value}
 use Rattle.query_tree.specs.Views.{tree_of, item_of}
-use Rattle.query_tree.specs.declared.expression.Expr.{Expr}
 use Rattle.query_tree.specs.declared.query.Item.{Item as Given}
 use Rattle.query_types.specs.declared.fault.TypeFault.{TypeFault}
 use Rattle.query_types.specs.declared.table.TableColumns.{TableColumns}
@@ -17,31 +14,14 @@ use Rattle.query_types.specs.Terms.{Term, column}
 use Rattle.query_types.proofs.Answering.{joined_one}
 use Rattle.query_types.proofs.Forms.{dropped}
 use Rattle.query_types.proofs.Steps.{columns_step}
-use Rattle.group_planning.specs.Senses.{Sense, field}
-use Rattle.group_planning.specs.Sensing.{Named, sensed}
-use Rattle.group_planning.specs.Checks.{fit_sensed, all_fit_sensed}
+use Rattle.senses.specs.Senses.{Sense, field}
+use Rattle.sensing.specs.Sensing.{Named, sensed}
 use Rattle.group_planning.specs.Clauses.{items_sensed, names_in_force, with_all_named, with_named}
 
 pub star_step : {A : Type 0} (star : ℕ) (columns : List A) (i : ℕ) (front : List Sense) → i < length columns
     → front ++ map (field star) (columns_from i (drop i columns)) ≡ (front ++ field star (column i) ∷ []) ++ map (field star) (columns_from (i + 1) (drop (i + 1) columns))
 star_step star columns i front here =
     ap (λ (l : List Term). front ++ map (field star) l) (columns_step columns i [] here) ∙ sym (append_assoc front (field star (column i) ∷ []) (map (field star) (columns_from (i + 1) (drop (i + 1) columns))))
-
--- the values of an IN stop at one that has a fault
-pub fitting_stops : (wide : Bool) (table : TableColumns) (moment : Value) (aliases : List Named) (kind : Kind) (front : List Sense) (items : List Expr) (i : ℕ) (item : Expr) (fault : TypeFault)
-    → i < length items → item ≡ get_or items i item → fit_sensed wide table moment aliases kind (tree_of item) ≡ Err fault
-    → joined front (all_fit_sensed wide table moment aliases kind (listed (map tree_of (drop i items)))) ≡ Err fault
-fitting_stops wide table moment aliases kind front items i item fault here is found =
-    ap (λ rest. joined front (all_fit_sensed wide table moment aliases kind (listed (map tree_of rest)))) (dropped items i item here is)
-    ∙ ap (λ r. joined front (added r (all_fit_sensed wide table moment aliases kind (listed (map tree_of (drop (i + 1) items)))))) found
-
-pub fitting_more : (wide : Bool) (table : TableColumns) (moment : Value) (aliases : List Named) (kind : Kind) (front : List Sense) (items : List Expr) (i : ℕ) (item : Expr) (sense : Sense)
-    → i < length items → item ≡ get_or items i item → fit_sensed wide table moment aliases kind (tree_of item) ≡ Ok sense
-    → joined front (all_fit_sensed wide table moment aliases kind (listed (map tree_of (drop i items)))) ≡ joined (front ++ sense ∷ []) (all_fit_sensed wide table moment aliases kind (listed (map tree_of (drop (i + 1) items))))
-fitting_more wide table moment aliases kind front items i item sense here is found =
-    ap (λ rest. joined front (all_fit_sensed wide table moment aliases kind (listed (map tree_of rest)))) (dropped items i item here is)
-    ∙ ap (λ r. joined front (added r (all_fit_sensed wide table moment aliases kind (listed (map tree_of (drop (i + 1) items)))))) found
-    ∙ joined_one front sense (all_fit_sensed wide table moment aliases kind (listed (map tree_of (drop (i + 1) items))))
 
 alias_length : (table : TableColumns) (moment : Value) (before : List Named) (alias : Option (List ℕ)) (value : Tree) → length (with_named table moment before alias value) ≡ length before + count_alias alias
 alias_length table moment before None value = omega arith

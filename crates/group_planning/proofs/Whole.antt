@@ -1,6 +1,5 @@
 -- The plan of a query, from its parts.
-use Rattle.std.proofs.Common.{◌≡◌, ℤ, ◌+◌, Bool, List, [], length, map, Option, Result, sym, ◌∙◌, ap, arith, length-append}
-use Rattle.std.proofs.lemmas.List.{length-map}
+use Rattle.std.proofs.Common.{◌≡◌, ℤ, Bool, List, Result, sym, ◌∙◌, ap}
 use Rattle.lp_values.specs.declared.part.Part.TheVariants.{Both}
 use Rattle.lp_values.specs.declared.value.Value.{Value}
 use Rattle.slot_reading.specs.Stamps.{stamp_value}
@@ -8,17 +7,14 @@ use Rattle.query_tree.specs.Views.{query_of}
 use Rattle.query_tree.specs.declared.query.Query.{Query}
 use Rattle.query_types.specs.declared.fault.TypeFault.{TypeFault}
 use Rattle.query_types.specs.declared.table.TableColumns.{TableColumns}
-use Rattle.query_types.specs.Conditions.{Filter}
 use Rattle.query_types.specs.Meanings.{followed}
 use Rattle.query_types.specs.Parts.{parts_of}
-use Rattle.query_types.specs.Planned.{Covers}
-use Rattle.query_types.specs.Terms.{Term}
 use Rattle.query_types.proofs.Parts.{query_parts}
-use Rattle.group_planning.specs.Asked.{is_grouped}
-use Rattle.group_planning.specs.Clauses.{Clauses, clauses_sensed, using_named, with_all_named}
-use Rattle.group_planning.specs.Sensing.{Named}
-use Rattle.group_planning.specs.Gathered.{Counted, aggregates_of, seated}
-use Rattle.group_planning.specs.Groups.{group_plan_of, groups_behind, groups_of_parts, row_items}
+use Rattle.senses.specs.Clauses.{Clauses}
+use Rattle.sensing.specs.Sensing.{Named}
+use Rattle.judging.specs.Asked.{is_grouped}
+use Rattle.group_planning.specs.Clauses.{clauses_sensed, using_named, with_all_named}
+use Rattle.group_planning.specs.Groups.{group_plan_of, groups_behind, groups_of_parts}
 
 -- the plan of a query is that of its parts
 pub whole : (table : TableColumns) (number : ℤ) (moment : Value) (q : Query) (grouped : Bool) (using all : List Named) (r : Result Clauses TypeFault) → moment ≡ stamp_value Both number → grouped ≡ is_grouped (query_of q)
@@ -32,18 +28,3 @@ whole table number moment q grouped using all r moment_is grouped_is using_is al
     ∙ ap (λ u. followed (clauses_sensed table moment parts u (with_all_named table moment u parts.items) grouped) (groups_behind grouped table moment parts)) (sym using_is)
     ∙ ap (λ l. followed (clauses_sensed table moment parts using l grouped) (groups_behind grouped table moment parts)) (sym all_is)
     ∙ ap (λ r. followed r (groups_behind grouped table moment parts)) found
-
--- a row has a value for each key and for each aggregate
-pub row_width : (clauses : Clauses) → length (row_items clauses) ≡ length clauses.keys + length (map (λ (one : Counted). one.how) (aggregates_of clauses))
-row_width clauses =
-    let keys = map (seated [] []) clauses.keys in
-    let arguments = map (λ (one : Counted). seated [] [] one.of) (aggregates_of clauses) in
-    let one : length keys ≡ length clauses.keys = length-map clauses.keys (seated [] []) in
-    let two : length arguments ≡ length (aggregates_of clauses) = length-map (aggregates_of clauses) (λ one. seated [] [] one.of) in
-    let three : length (map (λ (one : Counted). one.how) (aggregates_of clauses)) ≡ length (aggregates_of clauses) = length-map (aggregates_of clauses) (λ one. one.how) in
-    let sum : length (row_items clauses) ≡ length keys + length arguments = length-append keys arguments in
-    omega arith
-
--- no column of a table is used by what is asked of a group's row
-pub none_used : (items : List Term) (condition : Option Filter) → Covers [] items condition
-none_used items condition = record { item = λ k here is. absurd (omega arith); mentioned = λ k here is. absurd (omega arith) }

@@ -1,5 +1,5 @@
 -- What the clauses of a query mean, in their order, or the first fault in them.
-use Rattle.std.specs.Prelude.{ℕ, Bool, true, false, not, List, [], ◌∷◌, ◌++◌, map, Option, Some, None, option_map, Result, Ok}
+use Rattle.std.specs.Prelude.{ℕ, Bool, true, false, not, List, [], ◌∷◌, ◌++◌, map, Option, Some, None, Result, Ok}
 use Rattle.grammar.specs.Trees.{Tree, Item, Parts}
 use Rattle.grammar.specs.Trees.{trees_of as listed}
 use Rattle.lp_values.specs.declared.value.Value.{Value}
@@ -8,10 +8,11 @@ use Rattle.query_types.specs.declared.fault.TypeFault.TheVariants as F
 use Rattle.query_types.specs.declared.table.TableColumns.{TableColumns}
 use Rattle.query_types.specs.Meanings.{added, followed, where_it_is}
 use Rattle.query_types.specs.Planned.{columns_from}
-use Rattle.group_planning.specs.declared.clauses.SenseClauses.{SenseClauses}
-use Rattle.group_planning.specs.Senses.{Sense, field, listed_senses}
-use Rattle.group_planning.specs.Sensing.{Named, sensed, all_sensed}
-use Rattle.group_planning.specs.Checks.{Check, check_of, maybe_checked}
+use Rattle.senses.specs.Senses.{Sense, field}
+use Rattle.senses.specs.Checks.{Check}
+pub use Rattle.senses.specs.Clauses.{Clauses}
+use Rattle.sensing.specs.Sensing.{Named, sensed, all_sensed}
+use Rattle.sensing.specs.Checked.{maybe_checked}
 
 -- these aliases, and behind them that of an item, which may use those before it
 abbrev pub with_named : TableColumns → Value → List Named → Option (List ℕ) → Tree → List Named
@@ -38,26 +39,6 @@ items_sensed wide table moment before all (item ∷ items) = added (sensed wide 
 abbrev pub list_sensed : Bool → TableColumns → Value → List Named → List Named → Option ℕ → List Item → Result (List Sense) TypeFault
 list_sensed grouped table moment before all (Some star) items = where_it_is (not grouped) (F.StarWithGroups star) (map (field star) (columns_from 0 table.columns))
 list_sensed grouped table moment before all None items = items_sensed true table moment before all items
-
--- what the clauses of a query mean
-pub record Clauses : Type 0 where
-  pub using : List Sense
-  pub items : List Sense
-  pub condition : Option Check
-  pub keys : List Sense
-  pub having : Option Check
-  pub order : List Sense
-
--- the same, less where it lies in memory
-abbrev pub clauses_of : SenseClauses → Clauses
-clauses_of clauses = record {
-  using = listed_senses clauses.using;
-  items = listed_senses clauses.items;
-  condition = option_map check_of clauses.condition;
-  keys = listed_senses clauses.keys;
-  having = option_map check_of clauses.having;
-  order = listed_senses clauses.order;
-}
 
 -- the aliases of USING, and those with the ones of SELECT behind them
 abbrev pub using_named : TableColumns → Value → Parts → List Named

@@ -1,9 +1,7 @@
-pub mod Senses
-pub mod Sensing
-pub mod Checks
 pub mod Clauses
-pub mod Judged
-pub mod Gathered
 pub mod Groups
-pub mod Asked
 pub mod Subquery
+pub use Rattle.senses.specs.Senses
+pub use Rattle.sensing.specs.Sensing
+pub use Rattle.sensing.specs.Checked
+pub use Rattle.judging.specs.Asked

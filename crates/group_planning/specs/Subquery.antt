@@ -12,11 +12,12 @@ use Rattle.query_types.specs.declared.table.TableColumns.{TableColumns}
 use Rattle.query_types.specs.Built.{is_built}
 use Rattle.query_types.specs.Meanings.{followed}
 use Rattle.query_types.specs.Planned.{Planned, plan_of}
-use Rattle.group_planning.specs.Senses.{Sense}
-use Rattle.group_planning.specs.Sensing.{Named}
-use Rattle.group_planning.specs.Checks.{Check, maybe_checked}
+use Rattle.senses.specs.Senses.{Sense}
+use Rattle.sensing.specs.Sensing.{Named}
+use Rattle.senses.specs.Checks.{Check}
+use Rattle.sensing.specs.Checked.{maybe_checked}
 use Rattle.group_planning.specs.Clauses.{all_named, items_sensed, using_named}
-use Rattle.group_planning.specs.Judged.{list_misplaced, maybe_misplaced}
+use Rattle.judging.specs.Judged.{list_misplaced, maybe_misplaced}
 
 -- the place of the first GROUPING, of the items first. Where there is none it is 0, but a subquery comes here only with one in it
 abbrev pub place_or_start : Option ℕ → ℕ

@@ -2,31 +2,19 @@
 ghost use Rattle.std.specs.Prelude.{◌≡◌, ◌≤◌, false, [], length, map, option_map, take};
 ghost use Rattle.query_types.specs.Meanings.{Answers};
 ghost use Rattle.query_types.specs.Parts.{parts_of};
-ghost use Rattle.group_planning.specs.Senses.{listed_senses};
-ghost use Rattle.group_planning.specs.Sensing.{named_of};
-ghost use Rattle.group_planning.specs.Checks.{check_of};
-ghost use Rattle.group_planning.specs.Clauses.{clauses_behind, clauses_of, clauses_sensed, ended_clauses, items_sensed, list_sensed, selected_clauses, sourced_clauses, with_all_named};
+ghost use Rattle.senses.specs.Senses.{listed_senses};
+ghost use Rattle.sensing.specs.Sensing.{named_of};
+ghost use Rattle.senses.specs.Checks.{check_of};
+ghost use Rattle.senses.specs.Clauses.{clauses_of};
+ghost use Rattle.group_planning.specs.Clauses.{clauses_behind, clauses_sensed, ended_clauses, items_sensed, list_sensed, selected_clauses, sourced_clauses, with_all_named};
 
-use crate::alias::SenseAlias;
-use crate::check::SenseCheck;
-use crate::checking::maybe_checked;
 use crate::selecting::{all_sensed, columns_sensed, front, items_sensed};
-use crate::sense::SenseList;
 use lp_values::Value;
 use query_tree::Query;
 use query_types::{TableColumns, TypeFault};
+use senses::{SenseCheck, SenseClauses, SenseList};
+use sensing::{SenseAlias, maybe_checked};
 use std::alloc::Global;
-
-/// What the clauses of a query mean.
-#[derive(Drop)]
-pub struct SenseClauses {
-    pub using: SenseList,
-    pub items: SenseList,
-    pub condition: Option<SenseCheck>,
-    pub keys: SenseList,
-    pub having: Option<SenseCheck>,
-    pub order: SenseList,
-}
 
 // What is selected, of aliases of which so many are those of USING.
 fn list_sensed(

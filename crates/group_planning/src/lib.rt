@@ -5,27 +5,12 @@
 //! [`plan_subquery`] answers the plan that `specs::Subquery` gives a subquery, in which aggregates and GROUPING are faults.
 #![tactic(auto)]
 
-mod aggregates;
-mod alias;
-mod asking;
-mod calls;
-mod check;
-mod checking;
 mod clauses;
-mod fitting;
-mod gathering;
-mod judging;
-mod kinds;
-mod plan;
 mod planning;
-mod sameness;
-mod seating;
 mod selecting;
-mod sense;
-mod sensing;
 mod subquery;
 
-pub use asking::is_grouped;
-pub use plan::GroupPlan;
+pub use judging::is_grouped;
 pub use planning::plan_groups;
+pub use seating::GroupPlan;
 pub use subquery::plan_subquery;

@@ -4,16 +4,15 @@ ghost use Rattle.grammar.specs.Trees.{trees_of as listed};
 ghost use Rattle.query_tree.specs.Views.{tree_of, trees_of, items_of};
 ghost use Rattle.query_types.specs.Meanings.{Answers};
 ghost use Rattle.query_types.specs.Planned.{columns_from, count_alias};
-ghost use Rattle.group_planning.specs.Senses.{field, listed_senses};
-ghost use Rattle.group_planning.specs.Sensing.{all_sensed, named_of, result_of, sensed};
+ghost use Rattle.senses.specs.Senses.{field, listed_senses};
+ghost use Rattle.sensing.specs.Sensing.{all_sensed, named_of, result_of, sensed};
 ghost use Rattle.group_planning.specs.Clauses.{items_sensed, names_in_force, with_all_named, with_named};
 
-use crate::alias::SenseAlias;
-use crate::sense::{SenseForm, SenseList};
-use crate::sensing::sensed;
 use lp_values::{Text, Value};
 use query_tree::{Expr, ExprList, Item, ItemList};
 use query_types::{Meaning, TableColumns, TypeFault};
+use senses::{SenseForm, SenseList};
+use sensing::{SenseAlias, sensed};
 use std::alloc::{AllocError, Global};
 
 // What an expression means, or its first fault, to be kept.

@@ -5,22 +5,20 @@ ghost use Rattle.query_types.specs.Conditions.{filter_of};
 ghost use Rattle.query_types.specs.Meanings.{Answers};
 ghost use Rattle.query_types.specs.Parts.{parts_of};
 ghost use Rattle.query_types.specs.Planned.{Covers, planned_in};
-ghost use Rattle.group_planning.specs.Senses.{sense_of};
-ghost use Rattle.group_planning.specs.Sensing.{named_of};
-ghost use Rattle.group_planning.specs.Checks.{check_of};
+ghost use Rattle.senses.specs.Senses.{sense_of};
+ghost use Rattle.sensing.specs.Sensing.{named_of};
+ghost use Rattle.senses.specs.Checks.{check_of};
 ghost use Rattle.group_planning.specs.Clauses.{with_all_named};
 ghost use Rattle.group_planning.specs.Subquery.{grouping_among, grouping_in, grouping_place, subquery_plan_of};
 
-use crate::alias::SenseAlias;
-use crate::check::SenseCheck;
-use crate::checking::maybe_checked;
-use crate::judging::{all_misplaced, maybe_misplaced};
 use crate::planning::aliases_of;
 use crate::selecting::items_sensed;
-use crate::sense::SenseForm;
+use judging::{all_misplaced, maybe_misplaced};
 use lp_values::Value;
 use query_tree::Query;
 use query_types::{Plan, TableColumns, TypeFault, is_built, moment_value, plan};
+use senses::{SenseCheck, SenseForm};
+use sensing::{SenseAlias, maybe_checked};
 use std::alloc::Global;
 
 // The place of the first GROUPING among items and in WHERE.

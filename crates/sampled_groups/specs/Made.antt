@@ -5,8 +5,7 @@ use Rattle.lp_time.specs.declared.piece.Piece.{Piece}
 use Rattle.query_tree.specs.Views.{query_of}
 use Rattle.query_types.specs.Planned.{Planned, planned_in}
 use Rattle.query_types.specs.declared.fault.TypeFault.{TypeFault}
-use Rattle.group_planning.specs.Groups.{Grouped, group_plan_of, grouped_in}
-use Rattle.group_planning.specs.declared.plan.GroupPlan.{GroupPlan}
+use Rattle.group_planning.specs.Groups.{Grouped, GroupPlan, group_plan_of, grouped_in}
 use Rattle.group_rollup.specs.Tables.{Holds}
 use Rattle.row_output.specs.Asked.{Asked}
 use Rattle.row_output.specs.Kept.{IsNew, asked_of}

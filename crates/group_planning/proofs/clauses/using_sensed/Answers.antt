@@ -2,8 +2,8 @@ use Rattle.std.proofs.Common.{◌∙◌, false, [], List, subst}
 use Rattle.query_types.specs.Meanings.{Answers}
 use Rattle.query_types.specs.Parts.{parts_of}
 use Rattle.group_planning.specs.Clauses.{items_sensed}
-use Rattle.group_planning.specs.Senses.{listed_senses}
-use Rattle.group_planning.specs.Sensing.{Named}
+use Rattle.senses.specs.Senses.{listed_senses}
+use Rattle.sensing.specs.Sensing.{Named}
 use Rattle.group_planning.proofs.clauses.using_sensed.Goals as goal
 
 pub items_sensed-requires-clause-all : goal.items_sensed-requires-clause-all

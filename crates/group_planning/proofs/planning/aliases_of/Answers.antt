@@ -2,8 +2,8 @@ use Rattle.std.proofs.Common.{◌∙◌, ◌≤◌, ℕ, List, length, map, take
 use Rattle.std.proofs.lemmas.List.{length-map}
 use Rattle.query_types.specs.Parts.{parts_of}
 use Rattle.group_planning.specs.Clauses.{with_all_named}
-use Rattle.group_planning.specs.Sensing.{Named, named_of}
-use Rattle.group_planning.specs.declared.alias.SenseAlias.{SenseAlias}
+use Rattle.sensing.specs.Sensing.{Named, named_of}
+use Rattle.sensing.specs.declared.alias.SenseAlias.{SenseAlias}
 use Rattle.group_planning.proofs.Steps.{kept_front}
 use Rattle.group_planning.proofs.planning.aliases_of.Goals as goal
 

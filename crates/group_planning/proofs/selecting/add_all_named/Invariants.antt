@@ -1,6 +1,6 @@
 use Rattle.std.proofs.Common.{◌≡◌, map, drop}
 use Rattle.query_tree.specs.Views.{item_of}
-use Rattle.group_planning.specs.Sensing.{named_of}
+use Rattle.sensing.specs.Sensing.{named_of}
 use Rattle.group_planning.specs.Clauses.{with_all_named}
 use Rattle.group_planning.proofs.selecting.add_all_named.Given as goal
 

@@ -2,8 +2,8 @@ use Rattle.std.proofs.Common.{◌≡◌, map, drop}
 use Rattle.grammar.specs.Trees.{trees_of as listed}
 use Rattle.query_tree.specs.Views.{tree_of}
 use Rattle.query_types.specs.Meanings.{joined}
-use Rattle.group_planning.specs.Senses.{sense_of}
-use Rattle.group_planning.specs.Sensing.{all_sensed, named_of}
+use Rattle.senses.specs.Senses.{sense_of}
+use Rattle.sensing.specs.Sensing.{all_sensed, named_of}
 use Rattle.group_planning.proofs.selecting.all_sensed.Given as goal
 
 abbrev pub invariant-loop-value : goal.invariant-loop-value

@@ -2,8 +2,8 @@ use Rattle.std.proofs.Common.{◌≡◌, ◌∙◌, ◌+◌, ◌++◌, ◌∷◌
 use Rattle.std.proofs.lemmas.List.{map_push}
 use Rattle.query_types.specs.Planned.{columns_from}
 use Rattle.query_types.specs.Terms.{Term, column}
-use Rattle.group_planning.specs.declared.sense.SenseForm.{SenseForm, Field}
-use Rattle.group_planning.specs.Senses.{Sense, field, sense_of}
+use Rattle.senses.specs.declared.sense.SenseForm.{SenseForm, Field}
+use Rattle.senses.specs.Senses.{Sense, field, sense_of}
 use Rattle.group_planning.proofs.Steps.{star_step}
 use Rattle.group_planning.proofs.selecting.columns_sensed.Goals as goal
 

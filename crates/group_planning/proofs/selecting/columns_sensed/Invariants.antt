@@ -1,6 +1,6 @@
 use Rattle.std.proofs.Common.{◌≡◌, ◌++◌, map, drop}
 use Rattle.query_types.specs.Planned.{columns_from}
-use Rattle.group_planning.specs.Senses.{field, sense_of}
+use Rattle.senses.specs.Senses.{field, sense_of}
 use Rattle.group_planning.proofs.selecting.columns_sensed.Given as goal
 
 abbrev pub invariant-loop-index : goal.invariant-loop-index

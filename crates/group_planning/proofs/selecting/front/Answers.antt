@@ -1,6 +1,6 @@
 use Rattle.std.proofs.Common.{sym}
 use Rattle.std.proofs.lemmas.List.{take-map}
-use Rattle.group_planning.specs.Sensing.{named_of}
+use Rattle.sensing.specs.Sensing.{named_of}
 use Rattle.group_planning.proofs.selecting.front.Goals as goal
 
 pub returns : goal.returns

@@ -3,9 +3,9 @@ use Rattle.std.proofs.lemmas.List.{length-map, map_push}
 use Rattle.query_tree.specs.Views.{tree_of, item_of}
 use Rattle.query_types.specs.Meanings.{joined}
 use Rattle.query_types.specs.Planned.{count_alias}
-use Rattle.group_planning.specs.declared.sense.SenseForm.{SenseForm}
-use Rattle.group_planning.specs.Senses.{sense_of}
-use Rattle.group_planning.specs.Sensing.{Named, named_of, sensed}
+use Rattle.senses.specs.declared.sense.SenseForm.{SenseForm}
+use Rattle.senses.specs.Senses.{sense_of}
+use Rattle.sensing.specs.Sensing.{Named, named_of, sensed}
 use Rattle.group_planning.specs.Clauses.{items_sensed, with_all_named}
 use Rattle.group_planning.proofs.Steps.{items_step}
 use Rattle.group_planning.proofs.selecting.items_sensed.Goals as goal

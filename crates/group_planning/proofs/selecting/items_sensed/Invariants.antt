@@ -1,8 +1,8 @@
 use Rattle.std.proofs.Common.{◌≡◌, ◌≤◌, length, map, take, drop}
 use Rattle.query_tree.specs.Views.{item_of}
 use Rattle.query_types.specs.Meanings.{joined}
-use Rattle.group_planning.specs.Senses.{sense_of}
-use Rattle.group_planning.specs.Sensing.{named_of}
+use Rattle.senses.specs.Senses.{sense_of}
+use Rattle.sensing.specs.Sensing.{named_of}
 use Rattle.group_planning.specs.Clauses.{items_sensed, with_all_named}
 use Rattle.group_planning.proofs.selecting.items_sensed.Given as goal
 

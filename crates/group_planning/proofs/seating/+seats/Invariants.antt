@@ -1,8 +1,0 @@
-use Rattle.std.proofs.Common.{◌≡◌, map, take}
-use Rattle.query_types.specs.Terms.{term_of}
-use Rattle.group_planning.specs.Gathered.{counted_of, seated}
-use Rattle.group_planning.specs.Senses.{sense_of}
-use Rattle.group_planning.proofs.seating.+seats.Given as goal
-
-abbrev pub invariant-seat_formed-loop-part : goal.invariant-seat_formed-loop-part
-invariant-seat_formed-loop-part l = map term_of l.parts.items ≡ map (seated (map sense_of l.keys) (map counted_of l.found)) (map sense_of (take l.part-index l.of))

@@ -1,6 +1,0 @@
-use Rattle.std.proofs.Common.{◌≡◌, map, take}
-use Rattle.group_planning.specs.Senses.{sense_of}
-use Rattle.group_planning.proofs.sense.+copied.Given as goal
-
-abbrev pub invariant-loop-part : goal.invariant-loop-part
-invariant-loop-part l = map sense_of l.parts.items ≡ map sense_of (take l.part-index l.part-items)

@@ -1,5 +1,0 @@
-use Rattle.group_planning.proofs.Forms.{formed_sense}
-use Rattle.group_planning.proofs.sense.formed.Goals as goal
-
-pub returns : goal.returns
-returns c = formed_sense c.args.kind c.args.by c.args.of

@@ -1,0 +1,3 @@
+mod Gathers
+mod Seats
+mod Widths

@@ -1,0 +1,2 @@
+mod Sensed
+mod Steps

@@ -1,0 +1,2 @@
+pub mod Sensing
+pub mod Checked
