@@ -5,6 +5,7 @@ use Rattle.lp_model.specs.Outside.{Folder, OnlyGrow}
 use Rattle.grammar.specs.Trees.{Query}
 use Rattle.command_words.specs.declared.spec.Spec.{Spec}
 use Rattle.commit.specs.Faults.{FitsWhole, IsApart}
+use Rattle.commit.specs.Keeping.{KeepsEntries}
 use Rattle.query_run.specs.declared.executing.Counts.{Counts}
 use Rattle.reports.specs.declared.status.Status.{Status}
 use Rattle.requests.specs.Texts.{HoldsQuery}
@@ -13,7 +14,7 @@ use Rattle.checkpointed_command.specs.Counted.{IsCounted, IsWhole}
 use Rattle.checkpointed_command.specs.Refusals.{IsRefused, IsRefusedBehind, IsSettledBy, IsUnread, IsUnsettled, IsUnsuited}
 use Rattle.checkpointed_command.specs.Steps.{ending_by}
 use Rattle.checkpointed_command.proofs.Answering.{IsMild, mild_unasked, mild_unfit, unsettled_not_well}
-use Rattle.checkpointed_command.proofs.Files.{Nears, near_as, fits_as}
+use Rattle.checkpointed_command.proofs.Files.{Nears, near_as, fits_as, keeps_as}
 
 pub unsettled_ends : (disk : DiskState) (ledger stage : List ℕ) (status : Status) → IsUnsettled disk ledger stage status → ending_by status ≢ well
 unsettled_ends disk ledger stage status is = subst (λ (s : Status). ending_by s ≢ well) (sym is.status_is) (unsettled_not_well is.fault)
@@ -22,8 +23,14 @@ pub mild_asking : (before now : Option Folder) (spec : Spec) (status : Status) �
 mild_asking before now spec status (inl unread) = subst IsMild (sym unread.status_is) (mild_unasked unread.fault)
 mild_asking before now spec status (inr unsuited) = mild_unfit unsuited.q status unsuited.why
 
-pub settled_by : (old new : DiskState) (ledger stage l s : List ℕ) → ledger ≡ l → stage ≡ s → Nears old new ledger stage → (old.tells → IsApart ledger stage old.seen → FitsWhole ledger stage old.seen) → IsSettledBy old new l s
-settled_by old new ledger stage l s ledger_is stage_is near fits = record { settles = near_as old new ledger stage l s ledger_is stage_is near; fits = fits_as old ledger stage l s ledger_is stage_is fits }
+pub settled_by : (old new : DiskState) (ledger stage l s : List ℕ) → ledger ≡ l → stage ≡ s → Nears old new ledger stage → (old.tells → IsApart ledger stage old.seen → FitsWhole ledger stage old.seen)
+    → (old.tells → IsApart ledger stage old.seen → KeepsEntries ledger old.seen new.seen) → (old.tells → new.tells) → IsSettledBy old new l s
+settled_by old new ledger stage l s ledger_is stage_is near fits keeps tells = record {
+  settles = near_as old new ledger stage l s ledger_is stage_is near;
+  fits = fits_as old ledger stage l s ledger_is stage_is fits;
+  keeps = keeps_as old new ledger stage l s ledger_is stage_is keeps;
+  tells = tells;
+}
 
 module _ {D : Type 0} (state : D → DiskState) (old settled : D) (ledger stage : List ℕ) where
   asking_behind : (before now : Option Folder) (spec : Spec) (moment : ℤ) (status : Status) → IsUnread before now spec status ⊎ IsUnsuited before now spec status → IsRefusedBehind state (state settled) ledger stage before now spec moment status

@@ -3,6 +3,7 @@ use Rattle.std.proofs.Common.{◌≡◌, ℕ, List, Option, Result, subst}
 use Rattle.disk_model.specs.Disk.{DiskState}
 use Rattle.lp_model.specs.Outside.{Folder}
 use Rattle.commit.specs.Faults.{FitsWhole, IsApart}
+use Rattle.commit.specs.Keeping.{KeepsEntries}
 use Rattle.commit.specs.Resume.{CanSettle, Settles}
 use Rattle.query_run.specs.declared.executing.Counts.{Counts}
 use Rattle.checkpointed_run.specs.Entries.{Request}
@@ -25,6 +26,10 @@ step_as result request told now old new ledger stage l s ledger_is stage_is step
 pub fits_as : (old : DiskState) (ledger stage l s : List ℕ) → ledger ≡ l → stage ≡ s → (old.tells → IsApart ledger stage old.seen → FitsWhole ledger stage old.seen) → old.tells → IsApart l s old.seen → FitsWhole l s old.seen
 fits_as old ledger stage l s ledger_is stage_is fits =
     subst (λ (x : List ℕ). old.tells → IsApart x s old.seen → FitsWhole x s old.seen) ledger_is (subst (λ (x : List ℕ). old.tells → IsApart ledger x old.seen → FitsWhole ledger x old.seen) stage_is fits)
+
+pub keeps_as : (old new : DiskState) (ledger stage l s : List ℕ) → ledger ≡ l → stage ≡ s → (old.tells → IsApart ledger stage old.seen → KeepsEntries ledger old.seen new.seen) → old.tells → IsApart l s old.seen → KeepsEntries l old.seen new.seen
+keeps_as old new ledger stage l s ledger_is stage_is keeps =
+    subst (λ (x : List ℕ). old.tells → IsApart x s old.seen → KeepsEntries x old.seen new.seen) ledger_is (subst (λ (x : List ℕ). old.tells → IsApart ledger x old.seen → KeepsEntries ledger old.seen new.seen) stage_is keeps)
 
 pub undamaged_as : (old : DiskState) (status : Status) (ledger stage l s : List ℕ) → ledger ≡ l → stage ≡ s → (IsDamaged status → CanSettle old ledger stage → ⊥) → IsDamaged status → CanSettle old l s → ⊥
 undamaged_as old status ledger stage l s ledger_is stage_is none =

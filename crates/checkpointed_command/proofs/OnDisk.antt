@@ -1,7 +1,8 @@
 -- What a commit that settles its disk says of that disk.
-use Rattle.std.proofs.Common.{◌≡◌, ℕ, Result, Err, IsErrOf, refl, ◌∙◌, ap, subst}
+use Rattle.std.proofs.Common.{◌≡◌, ℕ, Result, Err, IsErrOf, refl, sym, ◌∙◌, ap, subst}
 use Rattle.disk_model.specs.Disk.{DiskState}
 use Rattle.commit.specs.Faults.{BreaksAt, FitsWhole, IsApart}
+use Rattle.commit.specs.Keeping.{KeepsEntries}
 use Rattle.commit.specs.Phases.{disk_of, ledger_of, stage_of}
 use Rattle.commit.specs.declared.phases.Commit.{Commit}
 use Rattle.commit.specs.declared.phases.CommitFiles.{CommitFiles}
@@ -18,6 +19,16 @@ module _ {D : Type 0} (state : D → DiskState) (disk : D) (files : CommitFiles)
       → (state disk).tells → IsApart files.ledger files.stage (state disk).seen → FitsWhole files.ledger files.stage (state disk).seen
   fits_of fits = subst (λ (d : D). (state d).tells → IsApart files.ledger files.stage (state d).seen → FitsWhole files.ledger files.stage (state d).seen) same
       (subst (λ (f : CommitFiles). (disk_of state commit).tells → IsApart f.ledger f.stage (disk_of state commit).seen → FitsWhole f.ledger f.stage (disk_of state commit).seen) files_are fits)
+
+  -- the disk that it leaves is another
+  pub keeps_of : (x y : D) → x ≡ y → ((disk_of state commit).tells → IsApart (ledger_of commit) (stage_of commit) (disk_of state commit).seen → KeepsEntries (ledger_of commit) (disk_of state commit).seen (state y).seen)
+      → (state disk).tells → IsApart files.ledger files.stage (state disk).seen → KeepsEntries files.ledger (state disk).seen (state x).seen
+  keeps_of x y is keeps = subst (λ (d : D). (state d).tells → IsApart files.ledger files.stage (state d).seen → KeepsEntries files.ledger (state d).seen (state x).seen) same
+      (subst (λ (f : CommitFiles). (disk_of state commit).tells → IsApart f.ledger f.stage (disk_of state commit).seen → KeepsEntries f.ledger (disk_of state commit).seen (state x).seen) files_are
+      (subst (λ (d : D). (disk_of state commit).tells → IsApart (ledger_of commit) (stage_of commit) (disk_of state commit).seen → KeepsEntries (ledger_of commit) (disk_of state commit).seen (state d).seen) (sym is) keeps))
+
+  pub tells_of : (x y : D) → x ≡ y → ((disk_of state commit).tells → (state y).tells) → (state disk).tells → (state x).tells
+  tells_of x y is tells = subst (λ (d : D). (state d).tells → (state x).tells) same (subst (λ (d : D). (disk_of state commit).tells → (state d).tells) (sym is) tells)
 
 module _ {D : Type 0} (state : D → DiskState) (disk : D) (files : CommitFiles) (commit : Commit D) where
   damage_of : (fault : LedgerRefused) → ((part : Part2) (p : ℕ) → fault ≡ C.LedgerFault part p → (disk_of state commit).tells → IsApart (ledger_of commit) (stage_of commit) (disk_of state commit).seen → BreaksAt (ledger_of commit) (stage_of commit) (disk_of state commit).seen part p)

@@ -2,6 +2,7 @@
 -- query run over the logs.
 use Rattle.std.specs.Prelude.{◌≡◌, ◌⊎◌, ℕ, ℤ, List, map, Option}
 use Rattle.commit.specs.Faults.{FitsWhole, IsApart}
+use Rattle.commit.specs.Keeping.{KeepsEntries}
 use Rattle.commit.specs.Resume.{CanSettle, Settles}
 use Rattle.disk_model.specs.Disk.{DiskState}
 use Rattle.grammar.specs.Trees.{Query}
@@ -34,10 +35,12 @@ pub record IsUnsettled (disk : DiskState) (ledger stage : List ℕ) (status : St
   pub damage : IsDamage disk ledger stage fault
   pub status_is : status ≡ unsettled fault
 
--- it is, as what was read of it fits
+-- it is, as what was read of it fits, and its ledger's entries stay
 pub record IsSettledBy (old new : DiskState) (ledger stage : List ℕ) : Type 0 where
   pub settles : CanSettle old ledger stage → Settles old new ledger stage
   pub fits : old.tells → IsApart ledger stage old.seen → FitsWhole ledger stage old.seen
+  pub keeps : old.tells → IsApart ledger stage old.seen → KeepsEntries ledger old.seen new.seen
+  pub tells : old.tells → new.tells
 
 -- the query isn't read
 pub record IsUnread (before now : Option Folder) (spec : Spec) (status : Status) : Type 0 where

@@ -2,6 +2,7 @@
 ghost use Rattle.std.specs.Prelude.{◌≡◌, ◌≤◌, OnOk, IfErr, IsErrOf};
 ghost use Rattle.lp_model.specs.Outside.{Rose};
 ghost use Rattle.commit.specs.Faults.{FitsWhole, IsApart};
+ghost use Rattle.commit.specs.Keeping.{KeepsEntries};
 ghost use Rattle.commit.specs.Resume.{CanSettle, Settles};
 ghost use Rattle.reports.specs.declared.status.Status.TheVariants as S;
 ghost use Rattle.checkpointed_command.specs.Refusals.{IsUnsettled};
@@ -16,6 +17,9 @@ use reports::Status;
 pub(crate) fn settle_ledger<D: Disk>(disk: &mut D, files: CommitFiles) -> Result<(), Status>
     ensures settles { CanSettle (D.state disk.old) files.ledger files.stage → Settles (D.state disk.old) (D.state disk.new) files.ledger files.stage }
     ensures fits { OnOk result ((D.state disk.old).tells → IsApart files.ledger files.stage (D.state disk.old).seen → FitsWhole files.ledger files.stage (D.state disk.old).seen) }
+    // The ledger's entries stay, and the last of them is done.
+    ensures keeps { OnOk result ((D.state disk.old).tells → IsApart files.ledger files.stage (D.state disk.old).seen → KeepsEntries files.ledger (D.state disk.old).seen (D.state disk.new).seen) }
+    ensures tells { OnOk result ((D.state disk.old).tells → (D.state disk.new).tells) }
     ensures refused { IfErr result (IsUnsettled (D.state disk.old) files.ledger files.stage) }
     ensures undamaged { IfErr result (λ status. IsDamaged status → CanSettle (D.state disk.old) files.ledger files.stage → ⊥) }
     ensures later { D.faults disk.old ≤ D.faults disk.new }

@@ -28,6 +28,14 @@ stage_of c = c.files.stage
 abbrev pub staged_of : {D : Type 0} → Commit D → ℕ
 staged_of c = c.staged
 
+-- where the closed gate stands, or the last entry's
+abbrev pub place_of : {D : Type 0} → Commit D → ℕ
+place_of c = c.place
+
+-- where the next pair stands, behind an entry that is sealed
+abbrev pub next_of : {D : Type 0} → Commit D → ℕ
+next_of c = c.next
+
 -- the reference and the two files stay
 pub record Same {D : Type 0} (old new : Commit D) : Type 0 where
   pub same_reference : new.disk.ghost_name ≡ old.disk.ghost_name

@@ -12,6 +12,7 @@ ghost use Rattle.ledger.specs.declared.refused.Part2.TheVariants.{Stage};
 ghost use Rattle.recovery_model.specs.Recovered.{AreApart, Recovers};
 ghost use Rattle.commit.specs.States.{ShowsFiles, LiesIn};
 ghost use Rattle.commit.specs.Faults.{IsApart, FitsWhole, BreaksAt};
+ghost use Rattle.commit.specs.Keeping.{KeepsEntries};
 ghost use Rattle.commit.specs.Redo.{frames_in};
 ghost use Rattle.commit.specs.Outputs.{AllStaged, BreaksOutputs};
 
@@ -55,7 +56,7 @@ impl<'d, D> Drop for Commit<'d, D> {
 }
 
 impl<'d, D: Disk> Commit<'d, D> {
-    ghost use Rattle.commit.specs.Phases.{disk_of, ledger_of, stage_of, staged_of, Same, Goes, Unsettled, Settled, Staged, Sealed, Opened, ShowsEntry, PreservesHeld, SettlesHeld, LeavesEither, HasFrames};
+    ghost use Rattle.commit.specs.Phases.{disk_of, ledger_of, stage_of, staged_of, place_of, next_of, Same, Goes, Unsettled, Settled, Staged, Sealed, Opened, ShowsEntry, PreservesHeld, SettlesHeld, LeavesEither, HasFrames};
 
     /// A disk that may have been stopped anywhere.
     pub fn new(disk: &'d mut D, files: CommitFiles) -> Self
@@ -90,6 +91,9 @@ impl<'d, D: Disk> Commit<'d, D> {
         // What a read gave fits, or breaks at the place that is answered.
         ensures fits { OnOk result ((disk_of D.state self.old).tells → IsApart (ledger_of self.old) (stage_of self.old) ((disk_of D.state self.old).seen) → FitsWhole (ledger_of self.old) (stage_of self.old) ((disk_of D.state self.old).seen)) }
         ensures fault { (part : Part2) (p : ℕ) → IsErrOf result (LedgerFault part p) → (disk_of D.state self.old).tells → IsApart (ledger_of self.old) (stage_of self.old) ((disk_of D.state self.old).seen) → BreaksAt (ledger_of self.old) (stage_of self.old) ((disk_of D.state self.old).seen) part p }
+        // And of its ledger the entries stay, of which the last is done.
+        ensures keeps { OnOk result ((disk_of D.state self.old).tells → IsApart (ledger_of self.old) (stage_of self.old) ((disk_of D.state self.old).seen) → KeepsEntries (ledger_of self.old) ((disk_of D.state self.old).seen) ((disk_of D.state self.new).seen)) }
+        ensures tells { OnOk result ((disk_of D.state self.old).tells → (disk_of D.state self.new).tells) }
         ensures reason { HasReason (D.faults self.old.disk.now) (D.faults self.new.disk.now) result }
     {
         match settle_disk(self.disk, &self.files.ledger, &self.files.stage) {
@@ -121,6 +125,10 @@ impl<'d, D: Disk> Commit<'d, D> {
         // An entry that was sealed has a length of 64 bits.
         ensures small { OnOk result (length (payload_of (entry_of entry.now)) < 2 ^ 64) }
         ensures sealed { OnOk result ((entries : List Entry) (before after : Files) → Settled D.state self.old entries before → Staged D.state self.old (entry_of entry.now) before after → Sealed D.state self.new (entry_of entry.now) entries before after) }
+        // The gate's place stays, and at Ok the next pair's is behind the entry.
+        ensures gate { place_of self.new ≡ place_of self.old }
+        ensures behind { OnOk result (next_of self.new ≡ place_of self.old + 10 + length (payload_of (entry_of entry.now))) }
+        ensures refused { OnErr result (next_of self.new ≡ next_of self.old) }
         ensures cause { HasCause (D.faults self.old.disk.now) (D.faults self.new.disk.now) result }
     {
         let size = entry.size();
@@ -143,6 +151,9 @@ impl<'d, D: Disk> Commit<'d, D> {
         // The entry lies behind its pair, at a refusal too.
         ensures lies { (entry : Entry) (entries : List Entry) (before after : Files) → Sealed D.state self.old entry entries before after → LiesIn (disk_of D.state self.new) (ledger_of self.old) (entries ++ entry ∷ []) entry }
         ensures opened { OnOk result ((entry : Entry) (entries : List Entry) (before after : Files) → Sealed D.state self.old entry entries before after → Opened D.state self.new entry (entries ++ entry ∷ []) after) }
+        // Both places stay.
+        ensures gate { place_of self.new ≡ place_of self.old }
+        ensures behind { next_of self.new ≡ next_of self.old }
         ensures cause { HasCause (D.faults self.old.disk.now) (D.faults self.new.disk.now) result }
     {
         open_gate(self.disk, &self.files.ledger, self.place)

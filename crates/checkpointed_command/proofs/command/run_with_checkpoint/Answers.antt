@@ -38,7 +38,7 @@ returns-in-Err-ask_query-clause-refused g c =
     let files = c.files_of.result in
     let status = c.in-Err-ask_query.status in
     refused_asking g.D.Disk.state c.args.disk.now c.settle_ledger.new.disk ledger stage (g.L.Logs.folder c.args.logs.now) (g.L.Logs.folder c.ask_query.new.logs) c.args.spec.now c.args.moment status
-    (settled_by (g.D.Disk.state c.args.disk.now) (g.D.Disk.state c.settle_ledger.new.disk) files.ledger files.stage ledger stage c.files_of.ensures.ledger c.files_of.ensures.stage c.settle_ledger.ensures.settles c.in-Ok.ensures.fits)
+    (settled_by (g.D.Disk.state c.args.disk.now) (g.D.Disk.state c.settle_ledger.new.disk) files.ledger files.stage ledger stage c.files_of.ensures.ledger c.files_of.ensures.stage c.settle_ledger.ensures.settles c.in-Ok.ensures.fits c.in-Ok.ensures.keeps c.in-Ok.ensures.tells)
     c.in-Err-ask_query.ensures.refused
 
 pub returns-clause-grows : goal.returns-clause-grows
@@ -63,7 +63,7 @@ returns-clause-refused g c =
     let files = c.files_of.result in
     refused_settled g.D.Disk.state c.args.disk.now c.settle_ledger.new.disk ledger stage (g.L.Logs.folder c.args.logs.now) (g.L.Logs.folder c.ask_query.new.logs) (g.L.Logs.folder c.run_query-counted.new.logs) c.args.spec.now c.args.moment
     c.in-Ok-ask_query.written.text (query_of c.in-Ok-ask_query.written.query) c.run_query-counted.result
-    (settled_by (g.D.Disk.state c.args.disk.now) (g.D.Disk.state c.settle_ledger.new.disk) files.ledger files.stage ledger stage c.files_of.ensures.ledger c.files_of.ensures.stage c.settle_ledger.ensures.settles c.in-Ok.ensures.fits)
+    (settled_by (g.D.Disk.state c.args.disk.now) (g.D.Disk.state c.settle_ledger.new.disk) files.ledger files.stage ledger stage c.files_of.ensures.ledger c.files_of.ensures.stage c.settle_ledger.ensures.settles c.in-Ok.ensures.fits c.in-Ok.ensures.keeps c.in-Ok.ensures.tells)
     c.ask_query.ensures.grows c.in-Ok-ask_query.ensures.query (simp to_z-of_z at c.run_query-counted.ensures.refused)
 
 pub returns-clause-whole : goal.returns-clause-whole
@@ -74,7 +74,7 @@ returns-clause-whole g c =
     let files = c.files_of.result in
     whole_settled g.D.Disk.state c.args.disk.now c.settle_ledger.new.disk ledger stage (g.L.Logs.folder c.args.logs.now) (g.L.Logs.folder c.ask_query.new.logs) (g.L.Logs.folder c.run_query-counted.new.logs) c.args.spec.now c.args.moment
     c.in-Ok-ask_query.written.text (query_of c.in-Ok-ask_query.written.query) c.run_query-counted.result
-    (settled_by (g.D.Disk.state c.args.disk.now) (g.D.Disk.state c.settle_ledger.new.disk) files.ledger files.stage ledger stage c.files_of.ensures.ledger c.files_of.ensures.stage c.settle_ledger.ensures.settles c.in-Ok.ensures.fits)
+    (settled_by (g.D.Disk.state c.args.disk.now) (g.D.Disk.state c.settle_ledger.new.disk) files.ledger files.stage ledger stage c.files_of.ensures.ledger c.files_of.ensures.stage c.settle_ledger.ensures.settles c.in-Ok.ensures.fits c.in-Ok.ensures.keeps c.in-Ok.ensures.tells)
     c.ask_query.ensures.grows c.in-Ok-ask_query.ensures.query (simp to_z-of_z at c.run_query-counted.ensures.ran)
 
 pub returns-clause-given : goal.returns-clause-given
@@ -84,6 +84,6 @@ returns-clause-given g c =
     let files = c.files_of.result in
     inr (
       c.settle_ledger.new.disk,
-      settled_by (g.D.Disk.state c.args.disk.now) (g.D.Disk.state c.settle_ledger.new.disk) files.ledger files.stage ledger stage c.files_of.ensures.ledger c.files_of.ensures.stage c.settle_ledger.ensures.settles c.in-Ok.ensures.fits,
+      settled_by (g.D.Disk.state c.args.disk.now) (g.D.Disk.state c.settle_ledger.new.disk) files.ledger files.stage ledger stage c.files_of.ensures.ledger c.files_of.ensures.stage c.settle_ledger.ensures.settles c.in-Ok.ensures.fits c.in-Ok.ensures.keeps c.in-Ok.ensures.tells,
       c.run_query-counted.ensures.given (g.L.Logs.folder c.args.logs.now) (g.L.Logs.given c.args.logs.now) c.ask_query.ensures.grows c.in-Ok-ask_query.ensures.query c.ask_query.ensures.given,
     )

@@ -11,3 +11,8 @@ pub returns-clause-small : goal.returns-clause-small
 returns-clause-small g c =
     let bound = c.in_ok-seal.ensures.bound in
     omega (arith, bound)
+
+pub returns-clause-behind : goal.returns-clause-behind
+returns-clause-behind g c =
+    let bound = c.in_ok-seal.ensures.bound in
+    place_behind c.args.self.now.place (length (payload_of (entry_of c.args.entry.now))) _ c.size-size.ensures (omega (arith, bound))
