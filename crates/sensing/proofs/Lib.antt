@@ -1,2 +1,2 @@
-mod Sensed
+mod Terms
 mod Steps

@@ -1,6 +1,6 @@
 use Rattle.std.proofs.Common.{◌∙◌, Some, None, ap, sym}
 use Rattle.std.specs.Option.{option_copied}
-use Rattle.sensing.proofs.Sensed.{place_given}
+use Rattle.sensing.proofs.Terms.{place_given}
 use Rattle.sensing.proofs.calls.first_place.Goals as goal
 
 pub returns-in-Some : goal.returns-in-Some

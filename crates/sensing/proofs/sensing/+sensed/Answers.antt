@@ -14,7 +14,7 @@ use Rattle.query_types.proofs.Lists.{called_tree}
 use Rattle.senses.specs.declared.sense.SenseForm.{SenseForm}
 use Rattle.senses.specs.Senses.{Sense, sense_of}
 use Rattle.sensing.specs.Sensing.{all_sensed, case_closed, case_senses, named_of, sensed, standing}
-use Rattle.sensing.proofs.Sensed.{call_standing, call_given, argument_step, argument_more, all_known, case_parts, case_last, ended}
+use Rattle.sensing.proofs.Terms.{call_standing, call_given, argument_step, argument_more, all_known, case_parts, case_last, ended}
 use Rattle.sensing.proofs.sensing.+sensed.Goals as goal
 
 pub call_sensed-returns-in_err-callee : goal.call_sensed-returns-in_err-callee
