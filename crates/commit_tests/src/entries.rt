@@ -50,8 +50,12 @@ pub fn named(text: &str) -> Option<Name> {
     Name::read(text).ok()
 }
 
+fn text(alloc: Global, text: &str) -> Option<Text> {
+    Text::from_str(alloc, text).ok()
+}
+
 fn add_word(alloc: Global, words: &mut TextList, word: &str) -> Option<()> {
-    words.push(Text::from_str(alloc, word).ok()?).ok()
+    words.push(text(alloc, word)?).ok()
 }
 
 fn add_words(alloc: Global, words: &mut TextList) -> Option<()> {
@@ -66,14 +70,18 @@ fn standing(alloc: Global, lines: u8) -> Option<Bytes> {
     Some(standing)
 }
 
-fn span(alloc: Global, from: u8, to: u8, lines: u8) -> Option<EntrySpan> {
-    let standing = standing(alloc, lines)?;
-    Some(EntrySpan {
-        identity: named("a.log")?,
+fn span_at(identity: Name, from: u8, to: u8, standing: Bytes) -> EntrySpan {
+    EntrySpan {
+        identity,
         from: u64::from(from),
         to: u64::from(to),
         standing,
-    })
+    }
+}
+
+fn span(alloc: Global, from: u8, to: u8, lines: u8) -> Option<EntrySpan> {
+    let log = named("a.log")?;
+    Some(span_at(log, from, to, standing(alloc, lines)?))
 }
 
 // How many bytes of a stage the frame of a text is.
@@ -81,22 +89,31 @@ fn frame_size(output: &Written) -> u64 {
     (output.text.len() as u64).wrapping_add(24)
 }
 
+fn mark_at(output: &Written, place: u64) -> Mark {
+    Mark {
+        last: place,
+        length: output.text.len() as u64,
+    }
+}
+
 fn output_at(output: &Written, place: u64) -> Option<Output> {
+    let mark = mark_at(output, place);
     Some(Output {
         name: named(output.name)?,
         base: u64::from(output.base),
-        mark: Mark {
-            last: place,
-            length: output.text.len() as u64,
-        },
+        mark,
     })
+}
+
+fn add_output(list: &mut OutputList, output: &Written, place: u64) -> Option<()> {
+    list.push(output_at(output, place)?).ok()
 }
 
 // Adds the outputs, and gives the length of a stage with a frame for each text.
 fn add_outputs(list: &mut OutputList, outputs: &[Written]) -> Option<u64> {
     let mut place: u64 = 0;
     for output in outputs {
-        list.push(output_at(output, place)?).ok()?;
+        add_output(list, output, place)?;
         place = place.wrapping_add(frame_size(output));
     }
     Some(place)
@@ -104,11 +121,11 @@ fn add_outputs(list: &mut OutputList, outputs: &[Written]) -> Option<u64> {
 
 fn input_text(alloc: Global) -> Option<InputText> {
     let of = "-i:TEXTLINE -headerRow:ON -iSeparator:tab -iRotation:NAMES";
-    InputText::read(Text::from_str(alloc, of).ok()?)
+    InputText::read(text(alloc, of)?)
 }
 
 fn query(alloc: Global) -> Option<Text> {
-    Text::from_str(alloc, "SELECT Index, Text INTO o.csv FROM a.log").ok()
+    text(alloc, "SELECT Index, Text INTO o.csv FROM a.log")
 }
 
 fn bare(alloc: Global, input: InputText, query: Text) -> Entry {
@@ -135,18 +152,22 @@ fn bare_entry(alloc: Global) -> Option<Entry> {
     Some(bare(alloc, input, query))
 }
 
-fn fill(alloc: Global, entry: &mut Entry, span: EntrySpan, outputs: &[Written]) -> Option<()> {
-    entry.spans.push(span).ok()?;
+fn worded(alloc: Global) -> Option<Entry> {
+    let mut entry = bare_entry(alloc)?;
     add_words(alloc, &mut entry.words)?;
-    entry.staged = add_outputs(&mut entry.outputs, outputs)?;
-    Some(())
+    Some(entry)
+}
+
+fn with_span(alloc: Global, span: EntrySpan) -> Option<Entry> {
+    let mut entry = worded(alloc)?;
+    entry.spans.push(span).ok()?;
+    Some(entry)
 }
 
 /// The entry of a run that read lines of `a.log` from one place up to another.
 pub fn entry_of(alloc: Global, from: u8, to: u8, lines: u8, outputs: &[Written]) -> Option<Entry> {
-    let span = span(alloc, from, to, lines)?;
-    let mut entry = bare_entry(alloc)?;
-    fill(alloc, &mut entry, span, outputs)?;
+    let mut entry = with_span(alloc, span(alloc, from, to, lines)?)?;
+    entry.staged = add_outputs(&mut entry.outputs, outputs)?;
     Some(entry)
 }
 

@@ -25,23 +25,27 @@ LPCHECKPOINT0001\xA5\x5A\x1F\x01\0\0\0\0\0\0\
 const STAGE: &[u8] =
     b"\xFF\xFF\xFF\xFF\xFF\xFF\xFF\xFF\0\0\0\0\0\0\0\0\0\0\0\0\x0F\0\0\0Index,Text\n1,a\n";
 
-fn length_of(disk: &mut MemoryDisk) -> Option<u64> {
-    disk.length(&named("cp")?).ok()
+fn length_of<D: Disk>(disk: &mut D) -> Option<u64> {
+    let ledger = named("cp")?;
+    disk.length(&ledger).ok()
 }
 
-fn has_end(disk: &mut MemoryDisk) -> bool {
+fn first_end() -> End {
     let last = LastEntry {
         pair: 16,
         payload: 26,
         length: 287,
         done: true,
     };
-    let end = End {
+    End {
         entries: 1,
         last: Some(last),
         pair: 313,
-    };
-    end_of(disk) == Some(end)
+    }
+}
+
+fn has_end<D: Disk>(disk: &mut D) -> bool {
+    end_of(disk) == Some(first_end())
 }
 
 fn is_ledger(disk: &mut MemoryDisk) -> bool {
@@ -91,7 +95,7 @@ fn byte(text: &str) -> Option<u8> {
     u8::try_from(read_integer(text)?).ok()
 }
 
-fn damage(disk: &mut MemoryDisk) -> Option<u64> {
+fn damage<D: Disk>(disk: &mut D) -> Option<u64> {
     let ledger = named("cp")?;
     match walk(disk, &ledger) {
         Err(
@@ -104,22 +108,31 @@ fn damage(disk: &mut MemoryDisk) -> Option<u64> {
     }
 }
 
-fn change(disk: &mut MemoryDisk, place: u64, byte: u8) -> Option<()> {
+fn change<D: Disk>(disk: &mut D, place: u64, byte: u8) -> Option<()> {
     let ledger = named("cp")?;
     disk.write_at(&ledger, place, &[byte]).ok()
 }
 
-// Where the ledger after the first run is damaged with another byte at a place.
+// Where a ledger is damaged with another byte at a place.
+fn damage_with<D: Disk>(disk: &mut D, place: u64, byte: u8) -> Option<u64> {
+    change(disk, place, byte)?;
+    damage(disk)
+}
+
+// Where the ledger after the first run is damaged so.
 fn damage_by(alloc: Global, place: u64, byte: u8) -> Option<u64> {
     let mut disk = after_one(alloc)?;
-    change(&mut disk, place, byte)?;
-    damage(&mut disk)
+    damage_with(&mut disk, place, byte)
+}
+
+fn damage_of(alloc: Global, change: &str) -> Option<u64> {
+    let (place, new) = change.split_once(' ')?;
+    damage_by(alloc, number(place)?, byte(new)?)
 }
 
 fn is_damaged(alloc: Global, row: &str) -> Option<bool> {
     let (change, want) = row.split_once(" => ")?;
-    let (place, new) = change.split_once(' ')?;
-    let at = damage_by(alloc, number(place)?, byte(new)?)?;
+    let at = damage_of(alloc, change)?;
     Some(at == number(want)?)
 }
 
@@ -153,10 +166,22 @@ fn add_plain(values: &mut ValueList) -> Option<()> {
     add(values, Value::Real(Real { millionths: 513 }))
 }
 
-fn add_others(alloc: Global, values: &mut ValueList) -> Option<()> {
-    add_text(values, Text::from_str(alloc, "ab").ok()?)?;
-    add(values, Value::Stamp(Stamp::new(86_400, Part::Date)?))?;
+fn add_short(alloc: Global, values: &mut ValueList) -> Option<()> {
+    add_text(values, Text::from_str(alloc, "ab").ok()?)
+}
+
+fn add_stamp(values: &mut ValueList) -> Option<()> {
+    add(values, Value::Stamp(Stamp::new(86_400, Part::Date)?))
+}
+
+fn add_long(alloc: Global, values: &mut ValueList) -> Option<()> {
     add_text(values, long_text(alloc)?)
+}
+
+fn add_others(alloc: Global, values: &mut ValueList) -> Option<()> {
+    add_short(alloc, values)?;
+    add_stamp(values)?;
+    add_long(alloc, values)
 }
 
 // A list with a value of each kind.
@@ -184,25 +209,34 @@ fn sealed(alloc: Global, entry: &Entry) -> Option<MemoryDisk> {
     if opened { Some(disk) } else { None }
 }
 
-fn seal_and_open(disk: &mut MemoryDisk, entry: &Entry) -> Option<bool> {
+fn seal_and_open<D: Disk>(disk: &mut D, entry: &Entry) -> Option<bool> {
     let mut commit = Commit::new(disk, files()?);
-    Some(begins(&mut commit) && seals_and_opens(&mut commit, entry))
+    Some(is_opened(&mut commit, entry))
 }
 
-// Whether there is one entry with the values, and its next pair at a place.
-fn has_values(disk: &mut MemoryDisk, pair: u64) -> Option<bool> {
+fn is_opened<'d, D: Disk>(commit: &mut Commit<'d, D>, entry: &Entry) -> bool {
+    begins(commit) && seals_and_opens(commit, entry)
+}
+
+// Whether there is one entry, and its next pair at a place.
+fn has_one<D: Disk>(disk: &mut D, pair: u64) -> Option<bool> {
     let end = end_of(disk)?;
-    let behind = disk.bytes(&named("cp")?).get(240..)?;
-    Some(end.entries == 1 && end.pair == pair && behind.starts_with(VALUES))
+    Some(end.entries == 1 && end.pair == pair)
+}
+
+fn has_values(disk: &MemoryDisk) -> Option<bool> {
+    let ledger = named("cp")?;
+    Some(disk.bytes(&ledger).get(240..)?.starts_with(VALUES))
+}
+
+fn sealed_values(alloc: Global, entry: &Entry) -> Option<bool> {
+    let mut disk = sealed(alloc, entry)?;
+    Some(has_one(&mut disk, 16 + 10 + 5336)? && has_values(&disk)?)
 }
 
 fn values_are_kept(alloc: Global) -> Option<bool> {
     let entry = entry_with_values(alloc)?;
-    let size = entry.size();
-    let sealed = sealed(alloc, &entry);
-    drop(entry);
-    let mut disk = sealed?;
-    Some(size == 5336 && has_values(&mut disk, 16 + 10 + 5336)?)
+    Some(entry.size() == 5336 && sealed_values(alloc, &entry)?)
 }
 
 #[test]
@@ -246,23 +280,42 @@ fn put_both<S: Stage>(stage: &mut S, name: &Name, bytes: &[u8]) -> Option<Mark> 
     }
 }
 
-fn put_pieces(disk: &mut MemoryDisk, bytes: &[u8]) -> Option<Mark> {
+fn put_in<'d, D: Disk>(commit: &mut Commit<'d, D>, bytes: &[u8]) -> Option<Mark> {
     let name = named("o.csv")?;
-    let mut commit = Commit::new(disk, files()?);
-    if begins(&mut commit) {
-        put_both(&mut commit, &name, bytes)
+    if begins(commit) {
+        put_both(commit, &name, bytes)
     } else {
         None
     }
 }
 
+fn put_pieces<D: Disk>(disk: &mut D, bytes: &[u8]) -> Option<Mark> {
+    let mut commit = Commit::new(disk, files()?);
+    put_in(&mut commit, bytes)
+}
+
 // The places of the frames' sizes in the stage, and the sizes.
+const SIZES: [(usize, [u8; 4]); 4] = [
+    (20, [0, 0x10, 0, 0]),
+    (4140, [0, 0x10, 0, 0]),
+    (8260, [0, 0x10, 0, 0]),
+    (12_380, [8, 0, 0, 0]),
+];
+
+fn has_size(stage: &[u8], place: usize, size: &[u8]) -> bool {
+    match stage.get(place..) {
+        Some(behind) => behind.starts_with(size),
+        None => false,
+    }
+}
+
 fn has_sizes(stage: &[u8]) -> bool {
+    for (place, size) in SIZES {
+        if !has_size(stage, place, &size) {
+            return false;
+        }
+    }
     stage.len() == 12_296 + 4 * 24
-        && stage.get(20..24) == Some([0, 0x10, 0, 0].as_slice())
-        && stage.get(4140..4144) == Some([0, 0x10, 0, 0].as_slice())
-        && stage.get(8260..8264) == Some([0, 0x10, 0, 0].as_slice())
-        && stage.get(12_380..12_384) == Some([8, 0, 0, 0].as_slice())
 }
 
 fn has_frames(disk: &MemoryDisk) -> bool {
@@ -272,15 +325,19 @@ fn has_frames(disk: &MemoryDisk) -> bool {
     }
 }
 
+const BEHIND: Mark = Mark {
+    last: 12_360,
+    length: 12_296,
+};
+
+fn keeps_frames(alloc: Global, bytes: &[u8]) -> bool {
+    let mut disk = MemoryDisk::new(alloc);
+    put_pieces(&mut disk, bytes) == Some(BEHIND) && has_frames(&disk)
+}
+
 fn frames_are_kept(alloc: Global) -> Option<bool> {
     let bytes = text_of(alloc, 8200)?;
-    let mut disk = MemoryDisk::new(alloc);
-    let mark = put_pieces(&mut disk, bytes.as_slice());
-    let want = Mark {
-        last: 12_360,
-        length: 12_296,
-    };
-    Some(mark == Some(want) && has_frames(&disk))
+    Some(keeps_frames(alloc, bytes.as_slice()))
 }
 
 // A text of more than one frame: all but the last have 4,096 bytes, and a second piece begins with a frame of its own.
@@ -315,19 +372,22 @@ fn add_many(alloc: Global, list: &mut OutputList, count: u64, last: u64) -> Opti
     add_output(list, long_name(alloc, last)?)
 }
 
+fn many(alloc: Global, last: u64) -> Option<OutputList> {
+    let mut list = OutputList::new(alloc);
+    add_many(alloc, &mut list, 300, last)?;
+    Some(list)
+}
+
 fn entry_of_many(alloc: Global, last: u64) -> Option<Entry> {
     let mut entry = first_entry(alloc)?;
-    entry.outputs = OutputList::new(alloc);
-    add_many(alloc, &mut entry.outputs, 300, last)?;
+    entry.outputs = many(alloc, last)?;
     Some(entry)
 }
 
 // The disk behind an entry of 300 outputs, whose names have 45,150 bytes.
 fn sealed_many(alloc: Global, last: u64) -> Option<MemoryDisk> {
     let entry = entry_of_many(alloc, last)?;
-    let disk = sealed(alloc, &entry);
-    drop(entry);
-    disk
+    sealed(alloc, &entry)
 }
 
 // Whether the ledger is read in few calls, and is damaged just there.

@@ -38,13 +38,17 @@ fn stage_at<S: Stage>(stage: &mut S, index: u32, name: &Name, base: u64, text: &
 }
 
 // Puts a text behind what its file holds.
-fn stage_one<S: Stage>(stage: &mut S, index: u32, output: &Written) -> Option<bool> {
-    let name = named(output.name)?;
-    match held(stage, &name) {
+fn stage_named<S: Stage>(stage: &mut S, index: u32, name: &Name, output: &Written) -> Option<bool> {
+    match held(stage, name) {
         Some(base) if base != u64::from(output.base) => None,
-        Some(base) => Some(stage_at(stage, index, &name, base, output.text)),
+        Some(base) => Some(stage_at(stage, index, name, base, output.text)),
         None => Some(false),
     }
+}
+
+fn stage_one<S: Stage>(stage: &mut S, index: u32, output: &Written) -> Option<bool> {
+    let name = named(output.name)?;
+    stage_named(stage, index, &name, output)
 }
 
 // Whether all texts are put.
@@ -89,15 +93,22 @@ pub fn seals_and_opens<'d, D: Disk>(commit: &mut Commit<'d, D>, entry: &Entry) -
     seals(commit, entry) && opens(commit)
 }
 
+// Whether the stage is emptied, and all texts are put there.
+fn stages<'d, D: Disk>(commit: &mut Commit<'d, D>, outputs: &[Written]) -> Option<bool> {
+    if begins(commit) {
+        stage_all(commit, outputs)
+    } else {
+        Some(false)
+    }
+}
+
 fn ends<'d, D: Disk>(
     commit: &mut Commit<'d, D>,
     outputs: &[Written],
     entry: &Entry,
 ) -> Option<bool> {
-    if !begins(commit) || !stage_all(commit, outputs)? {
-        return Some(false);
-    }
-    Some(seals_and_opens(commit, entry) && finishes(commit))
+    let staged = stages(commit, outputs)?;
+    Some(staged && seals_and_opens(commit, entry) && finishes(commit))
 }
 
 /// A whole run: the disk is settled, texts are staged, and an entry is sealed, opened and finished. Whether no call failed.
@@ -159,13 +170,19 @@ pub fn run_three<D: Disk>(disk: &mut D, entry: &Entry) -> Option<bool> {
     run(disk, &THREE, entry)
 }
 
+fn after(alloc: Global, entry: &Entry) -> Option<MemoryDisk> {
+    let mut disk = MemoryDisk::new(alloc);
+    if run_first(&mut disk, entry) == Some(true) {
+        Some(disk)
+    } else {
+        None
+    }
+}
+
 /// The disk after the first run.
 pub fn after_one(alloc: Global) -> Option<MemoryDisk> {
     let entry = first_entry(alloc)?;
-    let mut disk = MemoryDisk::new(alloc);
-    let done = run_first(&mut disk, &entry);
-    drop(entry);
-    if done == Some(true) { Some(disk) } else { None }
+    after(alloc, &entry)
 }
 
 // What a crash makes of the unsynced calls, all alike.

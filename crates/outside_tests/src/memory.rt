@@ -1,35 +1,81 @@
 // The objects in memory, and what a crash leaves of a disk.
-use crate::calls::{act, look, name, number, put, read_two, sign, word};
-use lp_outside::{Logs, Name};
+use crate::calls::{Answers, act, first_other, look, name, number, put, reads, sign, word};
+use lp_outside::{Logs, Name, Sink};
 use lp_values::Bytes;
 use memory_outside::{MemoryDisk, MemoryLogs, MemorySink, MemorySource, Torn, TornList};
-use std::alloc::{AllocError, Global};
-use std::test::Fail;
+use std::alloc::Global;
 
 // `k` for a call that is kept, `l` for one that is lost, and else one whose bytes are 7.
-fn torn_by(alloc: Global, letters: &str) -> Result<TornList, AllocError> {
-    let mut torn = TornList::new(alloc);
-    for letter in letters.as_bytes() {
-        torn.push(match *letter {
-            b'k' => Torn::Kept,
-            b'l' => Torn::Lost,
-            _ => Torn::Filled(7),
-        })?;
+fn torn_as(letter: u8) -> Torn {
+    match letter {
+        b'k' => Torn::Kept,
+        b'l' => Torn::Lost,
+        _ => Torn::Filled(7),
     }
-    Ok(torn)
 }
 
-/// Beside the calls of each disk `put NAME TEXT`, `fail CALL`, `stop CALLS`, `crash LETTERS` and `calls`.
-fn act_in_memory(alloc: Global, disk: &mut MemoryDisk, line: &str) -> Result<String, Fail> {
-    match word(line, 0) {
-        "put" => disk.put(&name(line, 1)?, word(line, 2).as_bytes())?,
-        "fail" => disk.fail(number(line, 1))?,
-        "stop" => disk.stop_after(number(line, 1)),
-        "crash" => disk.crash(&torn_by(alloc, word(line, 1))?)?,
-        "calls" => return Ok(format!(in alloc; "{}", disk.calls())?),
-        _ => return act(alloc, disk, line),
+fn torn_by(alloc: Global, letters: &str) -> Option<TornList> {
+    let mut torn = TornList::new(alloc);
+    for letter in letters.as_bytes() {
+        torn.push(torn_as(*letter)).ok()?;
     }
-    Ok(sign(alloc, true)?)
+    Some(torn)
+}
+
+fn crashes_as(alloc: Global, disk: &mut MemoryDisk, letters: &str) -> bool {
+    match torn_by(alloc, letters) {
+        Some(torn) => disk.crash(&torn).is_ok(),
+        None => false,
+    }
+}
+
+fn puts(disk: &mut MemoryDisk, line: &str) -> bool {
+    match name(line, 1) {
+        Some(name) => disk.put(&name, word(line, 2).as_bytes()).is_ok(),
+        None => false,
+    }
+}
+
+fn fails(disk: &mut MemoryDisk, call: u64) -> bool {
+    disk.fail(call).is_ok()
+}
+
+fn stops(disk: &mut MemoryDisk, calls: u64) -> bool {
+    disk.stop_after(calls);
+    true
+}
+
+fn calls_of(alloc: Global, disk: &MemoryDisk) -> Option<String> {
+    format!(in alloc; "{}", disk.calls()).ok()
+}
+
+// A disk in memory, and what it takes beside the calls of each disk: `put NAME TEXT`, `fail CALL`, `stop CALLS`, `crash
+// LETTERS` and `calls`.
+#[derive(Drop)]
+struct DiskCalls {
+    alloc: Global,
+    disk: MemoryDisk,
+}
+
+impl Answers for DiskCalls {
+    fn answer(&mut self, line: &str) -> Option<String> {
+        let is_ok = match word(line, 0) {
+            "put" => puts(&mut self.disk, line),
+            "fail" => fails(&mut self.disk, number(line, 1)),
+            "stop" => stops(&mut self.disk, number(line, 1)),
+            "crash" => crashes_as(self.alloc, &mut self.disk, word(line, 1)),
+            "calls" => return calls_of(self.alloc, &self.disk),
+            _ => return act(self.alloc, &mut self.disk, line),
+        };
+        sign(self.alloc, is_ok)
+    }
+}
+
+fn new_disk(alloc: Global) -> DiskCalls {
+    DiskCalls {
+        alloc,
+        disk: MemoryDisk::new(alloc),
+    }
 }
 
 // Zero bytes fill a gap. The call at which a disk stops is an unsynced one, and all fail until a crash.
@@ -56,24 +102,23 @@ length two => None
 crash kk => +
 read two 0 => 2 [97, 98]";
 
+fn first_of_disk<'a>(alloc: Global, rows: &'a str) -> Option<&'a str> {
+    let mut disk = new_disk(alloc);
+    first_other(&mut disk, rows)
+}
+
 #[test]
-fn a_disk_in_memory(rt: HostRuntime) -> Result<(), Fail> {
-    let mut disk = MemoryDisk::new(rt.alloc());
-    for row in LINES.lines() {
-        let (line, want) = row.split_once(" => ").ok_or("no answer")?;
-        let told = act_in_memory(rt.alloc(), &mut disk, line)?;
-        assert!(rt; told.as_str() == want, "{row} {}", told.as_str());
-    }
-    Ok(())
+fn a_disk_in_memory(rt: HostRuntime) {
+    assert_eq!(rt; first_of_disk(rt.alloc(), LINES), None);
 }
 
 const CALLS: &str = "\
-put one ab
-write one 2 cd
-sync one
-write one 1 XY
-write two 0 Z
-cut one 3";
+put one ab => +
+write one 2 cd => +
+sync one => +
+write one 1 XY => +
+write two 0 Z => +
+cut one 3 => +";
 
 // Without a letter a call is lost.
 const CRASHES: &str = "\
@@ -84,47 +129,89 @@ fff => a\u{7}\u{7}|\u{7}
 lfk => abc|\u{7}
 k => aXYd|";
 
-// What two unsynced calls of one file and one of another leave, behind a crash that tears them so.
-fn torn(alloc: Global, letters: &str) -> Result<Bytes, Fail> {
-    let mut disk = MemoryDisk::new(alloc);
-    for line in CALLS.lines() {
-        act_in_memory(alloc, &mut disk, line)?;
+fn holds(disk: &MemoryDisk, name: &Name, text: &str) -> bool {
+    disk.bytes(name) == text.as_bytes()
+}
+
+// Whether the two files have these texts.
+fn holds_both(disk: &MemoryDisk, texts: &str) -> Option<bool> {
+    let (first, second) = texts.split_once('|')?;
+    let is_first = holds(disk, &name("one", 0)?, first);
+    Some(is_first && holds(disk, &name("two", 0)?, second))
+}
+
+// The disk behind two unsynced calls of one file and one of another, and a crash that tears them so.
+fn torn(alloc: Global, letters: &str) -> Option<DiskCalls> {
+    let mut disk = new_disk(alloc);
+    let other = first_other(&mut disk, CALLS);
+    if other.is_none() && crashes_as(alloc, &mut disk.disk, letters) {
+        Some(disk)
+    } else {
+        None
     }
-    disk.crash(&torn_by(alloc, letters)?)?;
-    let mut told = Bytes::new(alloc);
-    told.add(disk.bytes(&name("one", 0)?))?;
-    told.push(b'|')?;
-    told.add(disk.bytes(&name("two", 0)?))?;
-    Ok(told)
+}
+
+fn leaves(alloc: Global, row: &str) -> Option<bool> {
+    let (letters, want) = row.split_once(" => ")?;
+    let disk = torn(alloc, letters)?;
+    holds_both(&disk.disk, want)
 }
 
 #[test]
-fn crashes(rt: HostRuntime) -> Result<(), Fail> {
+fn crashes(rt: HostRuntime) {
     for row in CRASHES.lines() {
-        let (letters, want) = row.split_once(" => ").ok_or("no bytes")?;
-        let told = torn(rt.alloc(), letters)?;
-        assert!(rt; told.as_slice() == want.as_bytes(), "{row}");
+        assert!(rt; leaves(rt.alloc(), row) == Some(true), "{row}");
     }
-    Ok(())
 }
 
-fn rename(logs: &mut MemoryLogs, from: &Name, to: &Name) -> Result<(), Fail> {
-    if logs.length(from)?.is_some() && logs.length(to)?.is_none() {
+fn puts_log(logs: &mut MemoryLogs, line: &str) -> bool {
+    match name(line, 1) {
+        Some(name) => logs.put(&name, word(line, 2).as_bytes()).is_ok(),
+        None => false,
+    }
+}
+
+fn renames(logs: &mut MemoryLogs, from: &Name, to: &Name) -> Option<()> {
+    if logs.length(from).ok()?.is_some() && logs.length(to).ok()?.is_none() {
         logs.rename(from, to);
     }
-    Ok(())
+    Some(())
 }
 
-/// Beside the calls of all logs `put NAME TEXT`, `rename FROM TO`, `remove NAME` and `fail CALL`.
-fn look_in_memory(alloc: Global, logs: &mut MemoryLogs, line: &str) -> Result<String, Fail> {
-    match word(line, 0) {
-        "put" => logs.put(&name(line, 1)?, word(line, 2).as_bytes())?,
-        "rename" => rename(logs, &name(line, 1)?, &name(line, 2)?)?,
-        "remove" => logs.remove(&name(line, 1)?),
-        "fail" => logs.fail(number(line, 1))?,
-        _ => return look(alloc, logs, line),
+fn renames_log(logs: &mut MemoryLogs, line: &str) -> Option<()> {
+    let from = name(line, 1)?;
+    let to = name(line, 2)?;
+    renames(logs, &from, &to)
+}
+
+fn removes_log(logs: &mut MemoryLogs, line: &str) -> Option<()> {
+    logs.remove(&name(line, 1)?);
+    Some(())
+}
+
+fn fails_logs(logs: &mut MemoryLogs, call: u64) -> bool {
+    logs.fail(call).is_ok()
+}
+
+// Logs in memory, and what they take beside the calls of all logs: `put NAME TEXT`, `rename FROM TO`, `remove NAME` and `fail
+// CALL`.
+#[derive(Drop)]
+struct LogsCalls {
+    alloc: Global,
+    logs: MemoryLogs,
+}
+
+impl Answers for LogsCalls {
+    fn answer(&mut self, line: &str) -> Option<String> {
+        let is_ok = match word(line, 0) {
+            "put" => puts_log(&mut self.logs, line),
+            "rename" => renames_log(&mut self.logs, line).is_some(),
+            "remove" => removes_log(&mut self.logs, line).is_some(),
+            "fail" => fails_logs(&mut self.logs, number(line, 1)),
+            _ => return look(self.alloc, &mut self.logs, line),
+        };
+        sign(self.alloc, is_ok)
     }
-    Ok(sign(alloc, true)?)
 }
 
 const LOOKS: &str = "\
@@ -141,33 +228,53 @@ fail 0 => +
 log-length b.log.1 => None
 log-length b.log.1 => Some(Some(4))";
 
-#[test]
-fn logs_in_memory(rt: HostRuntime) -> Result<(), Fail> {
-    let mut logs = MemoryLogs::new(rt.alloc());
-    for row in LOOKS.lines() {
-        let (line, want) = row.split_once(" => ").ok_or("no answer")?;
-        let told = look_in_memory(rt.alloc(), &mut logs, line)?;
-        assert!(rt; told.as_str() == want, "{row} {}", told.as_str());
-    }
-    Ok(())
+fn first_of_logs<'a>(alloc: Global, rows: &'a str) -> Option<&'a str> {
+    let mut logs = LogsCalls {
+        alloc,
+        logs: MemoryLogs::new(alloc),
+    };
+    first_other(&mut logs, rows)
 }
 
 #[test]
-fn input_and_output(rt: HostRuntime) -> Result<(), Fail> {
-    let mut bytes = Bytes::new(rt.alloc());
-    bytes.add(b"abc")?;
-    let mut source = MemorySource::new(rt.alloc(), bytes);
-    let mut sink = MemorySink::new(rt.alloc());
-    source.fail(1)?;
-    sink.fail(1)?;
-    let mut read = Bytes::new(rt.alloc());
-    for _ in 0..4 {
-        read_two(&mut source, &mut read)?;
+fn logs_in_memory(rt: HostRuntime) {
+    assert_eq!(rt; first_of_logs(rt.alloc(), LOOKS), None);
+}
+
+fn bytes_of(alloc: Global, text: &[u8]) -> Option<Bytes> {
+    let mut bytes = Bytes::new(alloc);
+    bytes.add(text).ok()?;
+    Some(bytes)
+}
+
+// What four reads of an input give, of which the second fails.
+fn given(alloc: Global) -> Option<Bytes> {
+    let mut source = MemorySource::new(alloc, bytes_of(alloc, b"abc")?);
+    if source.fail(1).is_err() {
+        return None;
     }
-    assert!(rt; read.as_slice() == b"ab!c".as_slice());
-    for want in [Some(4), None, Some(4)] {
-        assert!(rt; put(&mut sink, read.as_slice()) == want);
-    }
-    assert!(rt; sink.bytes() == b"ab!cab!c".as_slice());
-    Ok(())
+    reads(alloc, &mut source, 4)
+}
+
+fn is_given(alloc: Global, want: &[u8]) -> Option<bool> {
+    let read = given(alloc)?;
+    Some(read.as_slice() == want)
+}
+
+fn puts_thrice<S: Sink>(sink: &mut S, piece: &[u8]) -> bool {
+    let first = put(sink, piece) == Some(4);
+    let second = put(sink, piece).is_none();
+    first && second && put(sink, piece) == Some(4)
+}
+
+// Whether an output takes what it is offered, and fails at the second piece.
+fn is_taken(alloc: Global, piece: &[u8], want: &[u8]) -> bool {
+    let mut sink = MemorySink::new(alloc);
+    sink.fail(1).is_ok() && puts_thrice(&mut sink, piece) && sink.bytes() == want
+}
+
+#[test]
+fn input_and_output(rt: HostRuntime) {
+    assert!(rt; is_given(rt.alloc(), b"ab!c") == Some(true));
+    assert!(rt; is_taken(rt.alloc(), b"ab!c", b"ab!cab!c"));
 }

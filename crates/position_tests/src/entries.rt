@@ -1,4 +1,5 @@
-// Ledgers of runs that read lines of some logs.
+// Ledgers of runs that read lines of some logs. Each call has a function of its own, so that a caller's proof carries no more
+// than its answer: `None` is what no test may come to, as want of memory.
 use ledger::{
     Entry, EntrySpan, EntrySpanList, EntryWriter, InputText, ListValues, OutputList, create,
 };
@@ -6,7 +7,6 @@ use lp_outside::{Disk, Name};
 use lp_values::{Bytes, Text, TextList};
 use memory_outside::MemoryDisk;
 use std::alloc::Global;
-use std::test::Fail;
 
 /// How far a run read a log: the log's identity, the places, and the standing at the second one.
 #[derive(Clone, Copy)]
@@ -28,107 +28,148 @@ pub const COLUMNS: &[u8] = &[
 
 pub const INPUT: &str = "-i:TEXTLINE -headerRow:ON -iSeparator:tab -iRotation:NAMES";
 
-pub fn named(text: &str) -> Result<Name, Fail> {
-    match Name::read(text) {
-        Ok(name) => Ok(name),
-        Err(_) => Err(Fail::from("no name")),
-    }
+pub fn named(text: &str) -> Option<Name> {
+    Name::read(text).ok()
 }
 
-fn input_text(alloc: Global) -> Result<InputText, Fail> {
-    match InputText::read(Text::from_str(alloc, INPUT)?) {
-        Some(input) => Ok(input),
-        None => Err(Fail::from("no input text")),
-    }
+/// The text of a run that reads its logs so.
+pub fn input_text(alloc: Global, text: &str) -> Option<InputText> {
+    InputText::read(Text::from_str(alloc, text).ok()?)
 }
 
-fn words(alloc: Global) -> Result<TextList, Fail> {
-    let mut words = TextList::new(alloc);
-    for word in ["-i:TEXTLINE", "-iCheckpoint:cp"] {
-        words.push(Text::from_str(alloc, word)?)?;
-    }
-    Ok(words)
+fn query(alloc: Global) -> Option<Text> {
+    Text::from_str(alloc, "SELECT Text INTO o.csv FROM a.log").ok()
 }
 
-fn spans(alloc: Global, reads: &[Read]) -> Result<EntrySpanList, Fail> {
-    let mut spans = EntrySpanList::new(alloc);
+fn add_word(alloc: Global, words: &mut TextList, word: &str) -> Option<()> {
+    words.push(Text::from_str(alloc, word).ok()?).ok()
+}
+
+fn add_words(alloc: Global, words: &mut TextList) -> Option<()> {
+    add_word(alloc, words, "-i:TEXTLINE")?;
+    add_word(alloc, words, "-iCheckpoint:cp")
+}
+
+fn standing(alloc: Global, bytes: &[u8]) -> Option<Bytes> {
+    let mut standing = Bytes::new(alloc);
+    standing.add(bytes).ok()?;
+    Some(standing)
+}
+
+fn span(alloc: Global, read: &Read) -> Option<EntrySpan> {
+    let standing = standing(alloc, read.standing)?;
+    Some(EntrySpan {
+        identity: named(read.identity)?,
+        from: u64::from(read.from),
+        to: u64::from(read.to),
+        standing,
+    })
+}
+
+fn add_spans(alloc: Global, spans: &mut EntrySpanList, reads: &[Read]) -> Option<()> {
     for read in reads {
-        let mut standing = Bytes::new(alloc);
-        standing.add(read.standing)?;
-        spans.push(EntrySpan {
-            identity: named(read.identity)?,
-            from: u64::from(read.from),
-            to: u64::from(read.to),
-            standing,
-        })?;
+        spans.push(span(alloc, read)?).ok()?;
     }
-    Ok(spans)
+    Some(())
 }
 
-/// The entry of a run that read these lines, and wrote nothing.
-pub fn entry_of(alloc: Global, reads: &[Read]) -> Result<Entry, Fail> {
-    Ok(Entry {
+fn bare(alloc: Global, input: InputText, query: Text) -> Entry {
+    Entry {
         form: 1,
         moment: 0,
-        input: input_text(alloc)?,
-        words: words(alloc)?,
-        query: Text::from_str(alloc, "SELECT Text INTO o.csv FROM a.log")?,
+        input,
+        words: TextList::new(alloc),
+        query,
         template: Bytes::new(alloc),
-        spans: spans(alloc, reads)?,
+        spans: EntrySpanList::new(alloc),
         lists: ListValues::new(alloc),
         staged: 0,
         outputs: OutputList::new(alloc),
         processed: 1,
         output: 1,
         bad: 0,
-    })
+    }
+}
+
+fn bare_entry(alloc: Global) -> Option<Entry> {
+    let input = input_text(alloc, INPUT)?;
+    let query = query(alloc)?;
+    Some(bare(alloc, input, query))
+}
+
+fn fill(alloc: Global, entry: &mut Entry, reads: &[Read]) -> Option<()> {
+    add_words(alloc, &mut entry.words)?;
+    add_spans(alloc, &mut entry.spans, reads)
+}
+
+/// The entry of a run that read these lines, and wrote nothing.
+pub fn entry_of(alloc: Global, reads: &[Read]) -> Option<Entry> {
+    let mut entry = bare_entry(alloc)?;
+    fill(alloc, &mut entry, reads)?;
+    Some(entry)
+}
+
+// Whether an entry is written behind the closed gate at a place.
+fn writes<D: Disk>(disk: &mut D, ledger: &Name, pair: u32, entry: &Entry) -> bool {
+    let mut writer = EntryWriter::new(u64::from(pair) + 2);
+    writer.put_entry(disk, ledger, entry).is_ok() && writer.finish(disk, ledger).is_ok()
+}
+
+fn opens<D: Disk>(disk: &mut D, ledger: &Name, pair: u32) -> bool {
+    disk.write_at(ledger, u64::from(pair), &[0xA5, 0x5A])
+        .is_ok()
+}
+
+// The place behind an entry.
+fn behind(pair: u32, entry: &Entry) -> u32 {
+    let size = u32::try_from(entry.size()).unwrap_or(0);
+    pair.wrapping_add(10).wrapping_add(size)
 }
 
 // Writes an entry behind the closed gate at a place, opens the gate, and answers the place behind the entry.
-fn add_entry(disk: &mut MemoryDisk, ledger: &Name, pair: u32, entry: &Entry) -> Result<u32, Fail> {
-    let mut writer = EntryWriter::new(u64::from(pair) + 2);
-    if writer.put_entry(disk, ledger, entry).is_err() {
-        return Err(Fail::from("not written"));
+fn add_entry<D: Disk>(disk: &mut D, ledger: &Name, pair: u32, entry: &Entry) -> Option<u32> {
+    if writes(disk, ledger, pair, entry) && opens(disk, ledger, pair) {
+        Some(behind(pair, entry))
+    } else {
+        None
     }
-    if writer.finish(disk, ledger).is_err() {
-        return Err(Fail::from("not finished"));
-    }
-    if disk
-        .write_at(ledger, u64::from(pair), &[0xA5, 0x5A])
-        .is_err()
-    {
-        return Err(Fail::from("not opened"));
-    }
-    let size = u32::try_from(entry.size()).unwrap_or(0);
-    Ok(pair.wrapping_add(10).wrapping_add(size))
 }
 
-// A disk with the ledger `cp`, which has no entries.
-fn new_disk(alloc: Global, ledger: &Name) -> Result<MemoryDisk, Fail> {
-    let mut disk = MemoryDisk::new(alloc);
-    if create(&mut disk, ledger).is_err() {
-        return Err(Fail::from("not made"));
+fn add_run<D: Disk>(
+    alloc: Global,
+    disk: &mut D,
+    ledger: &Name,
+    pair: u32,
+    reads: &[Read],
+) -> Option<u32> {
+    let entry = entry_of(alloc, reads)?;
+    let behind = add_entry(disk, ledger, pair, &entry);
+    drop(entry);
+    behind
+}
+
+// Makes the ledger `cp` of runs that read these lines.
+fn make_ledger<D: Disk>(alloc: Global, disk: &mut D, runs: &[&[Read]]) -> Option<()> {
+    let ledger = named("cp")?;
+    create(disk, &ledger).ok()?;
+    let mut pair = 16;
+    for reads in runs {
+        pair = add_run(alloc, disk, &ledger, pair, reads)?;
     }
-    Ok(disk)
+    Some(())
 }
 
 /// A disk with the ledger `cp` of runs that read these lines.
-pub fn disk_with(alloc: Global, runs: &[&[Read]]) -> Result<MemoryDisk, Fail> {
-    let ledger = named("cp")?;
-    let mut disk = new_disk(alloc, &ledger)?;
-    let mut pair = 16;
-    for reads in runs {
-        pair = add_entry(&mut disk, &ledger, pair, &entry_of(alloc, reads)?)?;
-    }
-    Ok(disk)
+pub fn disk_with(alloc: Global, runs: &[&[Read]]) -> Option<MemoryDisk> {
+    let mut disk = MemoryDisk::new(alloc);
+    make_ledger(alloc, &mut disk, runs)?;
+    Some(disk)
 }
 
 /// The same of one run, or of none where it read nothing.
-pub fn disk_with_one(alloc: Global, reads: &[Read]) -> Result<MemoryDisk, Fail> {
-    let ledger = named("cp")?;
-    let mut disk = new_disk(alloc, &ledger)?;
-    if !reads.is_empty() {
-        add_entry(&mut disk, &ledger, 16, &entry_of(alloc, reads)?)?;
+pub fn disk_with_one(alloc: Global, reads: &[Read]) -> Option<MemoryDisk> {
+    if reads.is_empty() {
+        return disk_with(alloc, &[]);
     }
-    Ok(disk)
+    disk_with(alloc, &[reads])
 }

@@ -1,14 +1,15 @@
 // What runs read of the logs behind FROM, worked out by hand.
-use crate::entries::{COLUMNS, ONE, Read, disk_with_one, named};
+use crate::entries::{COLUMNS, ONE, Read, disk_with_one, input_text, named};
+use crate::loads::loaded;
 use checkpoint::{Rotation, Sources};
 use ledger::InputText;
+use line_input::Standing;
 use log_reading::Span;
-use lp_outside::{Name, NameFault};
+use lp_outside::{Logs, Name, NameFault};
 use lp_values::{Text, TextList};
-use memory_outside::MemoryLogs;
+use memory_outside::{MemoryDisk, MemoryLogs};
 use positions::{Positions, SpanFault, Spans};
-use std::alloc::{AllocError, Global};
-use std::test::Fail;
+use std::alloc::Global;
 
 // A row of the tables: what an earlier run read, each log up to a place (with `+` columns were in force there), the files
 // that are there, each with its size, the names behind FROM, and what is read of them.
@@ -20,18 +21,11 @@ struct Row<'a> {
     wanted: &'a str,
 }
 
-fn part<'a>(text: &'a str) -> Result<(&'a str, &'a str), Fail> {
-    match text.split_once(" | ") {
-        Some(parts) => Ok(parts),
-        None => Err(Fail::from("no row")),
-    }
-}
-
-fn row_of<'a>(line: &'a str) -> Result<Row<'a>, Fail> {
-    let (reads, rest) = part(line)?;
-    let (files, rest) = part(rest)?;
-    let (names, wanted) = part(rest)?;
-    Ok(Row {
+fn row_of<'a>(line: &'a str) -> Option<Row<'a>> {
+    let (reads, rest) = line.split_once(" | ")?;
+    let (files, rest) = rest.split_once(" | ")?;
+    let (names, wanted) = rest.split_once(" | ")?;
+    Some(Row {
         reads,
         files,
         names,
@@ -53,114 +47,188 @@ fn read_of<'a>(identity: &'a str, place: &str) -> Read<'a> {
 }
 
 // What an earlier run read, each log between spaces.
-fn reads_in<'a>(alloc: Global, reads: &'a str) -> Result<Vec<Read<'a>>, Fail> {
+fn reads_in<'a>(alloc: Global, reads: &'a str) -> Option<Vec<Read<'a>>> {
     let mut list = Vec::new(alloc);
     for word in reads.split(' ') {
         if let Some((identity, place)) = word.split_once('=') {
-            list.push(read_of(identity, place))?;
+            list.push(read_of(identity, place)).ok()?;
         }
     }
-    Ok(list)
+    Some(list)
 }
 
-fn positions_of(alloc: Global, reads: &str) -> Result<Positions, Fail> {
+fn disk_of(alloc: Global, reads: &str) -> Option<MemoryDisk> {
     let list = reads_in(alloc, reads)?;
-    let mut disk = disk_with_one(alloc, list.as_slice())?;
-    match Positions::load(alloc, &mut disk, &named("cp")?) {
-        Ok(positions) => Ok(positions),
-        Err(_) => Err(Fail::from("not loaded")),
-    }
+    disk_with_one(alloc, list.as_slice())
 }
 
-fn logs_with(alloc: Global, files: &str) -> Result<MemoryLogs, Fail> {
+fn positions_of(alloc: Global, reads: &str) -> Option<Positions> {
+    let mut disk = disk_of(alloc, reads)?;
+    loaded(alloc, &mut disk)
+}
+
+fn put(logs: &mut MemoryLogs, name: &str, size: usize) -> Option<()> {
+    let name = named(name)?;
+    logs.put(&name, b"12345678".get(..size).unwrap_or(b"")).ok()
+}
+
+fn logs_with(alloc: Global, files: &str) -> Option<MemoryLogs> {
     let mut logs = MemoryLogs::new(alloc);
     for word in files.split(' ') {
         if let Some((name, digits)) = word.split_once('=') {
-            let size: usize = digits.parse().unwrap_or(0);
-            logs.put(&named(name)?, b"12345678".get(..size).unwrap_or(b""))?;
+            put(&mut logs, name, digits.parse().unwrap_or(0))?;
         }
     }
-    Ok(logs)
+    Some(logs)
 }
 
-fn sources_of(alloc: Global, names: &str, rotation: Rotation) -> Result<Sources, Fail> {
+fn texts_of(alloc: Global, names: &str) -> Option<TextList> {
     let mut texts = TextList::new(alloc);
     for name in names.split(' ') {
-        texts.push(Text::from_str(alloc, name)?)?;
+        texts.push(Text::from_str(alloc, name).ok()?).ok()?;
     }
-    Ok(Sources {
-        names: texts,
-        rotation,
-    })
+    Some(texts)
+}
+
+fn sources_of(alloc: Global, names: &str, rotation: Rotation) -> Option<Sources> {
+    let names = texts_of(alloc, names)?;
+    Some(Sources { names, rotation })
 }
 
 // The text of a run that reads lines or words; the ledgers of these tests have that of lines.
-fn input_of(alloc: Global, format: &str) -> Result<InputText, Fail> {
-    let text = format!(in alloc; "-i:{format} -headerRow:ON -iSeparator:tab -iRotation:NAMES")?;
-    match InputText::read(Text::from_str(alloc, text.as_str())?) {
-        Some(input) => Ok(input),
-        None => Err(Fail::from("no input text")),
+fn input_of(alloc: Global, format: &str) -> Option<InputText> {
+    let text = format!(in alloc;
+        "-i:{format} -headerRow:ON -iSeparator:tab -iRotation:NAMES"
+    ).ok()?;
+    input_text(alloc, text.as_str())
+}
+
+// What a run reads, and how.
+#[derive(Drop)]
+struct Command {
+    sources: Sources,
+    input: InputText,
+}
+
+fn command_of(alloc: Global, names: &str, rotation: Rotation, format: &str) -> Option<Command> {
+    let input = input_of(alloc, format)?;
+    let sources = sources_of(alloc, names, rotation)?;
+    Some(Command { sources, input })
+}
+
+impl Command {
+    fn span<L: Logs>(
+        &self,
+        alloc: Global,
+        positions: &Positions,
+        logs: &mut L,
+    ) -> Result<Spans, SpanFault> {
+        positions.span(alloc, logs, &self.sources, &self.input)
     }
 }
 
-fn name_text(alloc: Global, name: &Name) -> Result<String, AllocError> {
-    String::from_str(alloc, name.as_str())
+fn text_of(alloc: Global, text: &str) -> Option<String> {
+    String::from_str(alloc, text).ok()
 }
 
-// The file of a span, its identity, its places, and the lines and the number of columns at the first one.
-fn show_span(alloc: Global, span: &Span) -> Result<String, Fail> {
-    let name = name_text(alloc, &span.name)?;
-    let identity = name_text(alloc, &span.identity)?;
-    let lines = span.standing.lines();
-    let columns = match span.standing.columns() {
+fn columns_of(standing: &Standing) -> usize {
+    match standing.columns() {
         Some(columns) => columns.len(),
         None => 0,
-    };
-    let (from, to) = (span.from, span.listed);
-    Ok(format!(in alloc; "{name} {identity} {from}-{to} {lines} {columns};")?)
+    }
 }
 
-fn show(alloc: Global, spans: &Spans) -> Result<String, Fail> {
+// The places of a span, and the lines and the number of columns at the first one.
+fn show_places(alloc: Global, span: &Span) -> Option<String> {
+    let lines = span.standing.lines();
+    let columns = columns_of(&span.standing);
+    let (from, to) = (span.from, span.listed);
+    format!(in alloc; "{from}-{to} {lines} {columns}").ok()
+}
+
+// The file of a span, its identity and its places.
+fn add_span(alloc: Global, to: &mut String, span: &Span) -> Option<()> {
+    let places = show_places(alloc, span)?;
+    add(to, span.name.as_str(), " ")?;
+    add(to, span.identity.as_str(), " ")?;
+    add(to, places.as_str(), ";")
+}
+
+fn add(to: &mut String, text: &str, end: &str) -> Option<()> {
+    to.push_str(text).ok()?;
+    to.push_str(end).ok()
+}
+
+fn show(alloc: Global, spans: &Spans) -> Option<String> {
     let mut to = String::new(alloc);
     for span in spans.as_slice() {
-        to.push_str(show_span(alloc, span)?.as_str())?;
+        add_span(alloc, &mut to, span)?;
     }
-    Ok(to)
+    Some(to)
 }
 
-fn show_fault(alloc: Global, fault: &SpanFault) -> Result<String, Fail> {
-    let shown = match fault {
-        SpanFault::NoSuchLog(name) => {
-            let name = name_text(alloc, name)?;
-            format!(in alloc; "no such log {name}")?
-        }
-        SpanFault::LostLog(stem, number) => {
-            let stem = name_text(alloc, stem)?;
-            format!(in alloc; "lost log {stem}.{number}")?
-        }
-        SpanFault::Shrunk { name, kept, found } => {
-            let name = name_text(alloc, name)?;
-            format!(in alloc; "{name} is {found} bytes, {kept} were read")?
-        }
-        SpanFault::InputChanged { kept: _, given: _ } => String::from_str(alloc, "changed")?,
-        SpanFault::TooManyLogs => String::from_str(alloc, "too many")?,
-        SpanFault::LogsFault => String::from_str(alloc, "failed")?,
-        SpanFault::BadName(NameFault::Stars) => String::from_str(alloc, "stars")?,
-        SpanFault::BadName(_) => String::from_str(alloc, "bad name")?,
-        SpanFault::Memory => String::from_str(alloc, "memory")?,
-    };
-    Ok(shown)
+fn show_missing(alloc: Global, name: &Name) -> Option<String> {
+    let name = text_of(alloc, name.as_str())?;
+    format!(in alloc; "no such log {name}").ok()
 }
 
-fn shown(alloc: Global, row: &Row, rotation: Rotation, format: &str) -> Result<String, Fail> {
-    let positions = positions_of(alloc, row.reads)?;
-    let mut logs = logs_with(alloc, row.files)?;
-    let sources = sources_of(alloc, row.names, rotation)?;
-    let input = input_of(alloc, format)?;
-    match positions.span(alloc, &mut logs, &sources, &input) {
+fn show_lost(alloc: Global, stem: &Name, number: u64) -> Option<String> {
+    let stem = text_of(alloc, stem.as_str())?;
+    format!(in alloc; "lost log {stem}.{number}").ok()
+}
+
+fn show_shrunk(alloc: Global, name: &Name, kept: u64, found: u64) -> Option<String> {
+    let name = text_of(alloc, name.as_str())?;
+    format!(in alloc; "{name} is {found} bytes, {kept} were read").ok()
+}
+
+// A fault that names no log.
+fn plain(fault: &SpanFault) -> &str {
+    match fault {
+        SpanFault::InputChanged { kept: _, given: _ } => "changed",
+        SpanFault::TooManyLogs => "too many",
+        SpanFault::LogsFault => "failed",
+        SpanFault::BadName(NameFault::Stars) => "stars",
+        SpanFault::BadName(_) => "bad name",
+        _ => "memory",
+    }
+}
+
+fn show_fault(alloc: Global, fault: &SpanFault) -> Option<String> {
+    match fault {
+        SpanFault::NoSuchLog(name) => show_missing(alloc, name),
+        SpanFault::LostLog(stem, number) => show_lost(alloc, stem, *number),
+        SpanFault::Shrunk { name, kept, found } => show_shrunk(alloc, name, *kept, *found),
+        _ => text_of(alloc, plain(fault)),
+    }
+}
+
+fn show_answer(alloc: Global, answer: Result<Spans, SpanFault>) -> Option<String> {
+    match answer {
         Ok(spans) => show(alloc, &spans),
         Err(fault) => show_fault(alloc, &fault),
     }
+}
+
+// What a run behind those of some positions reads of these files.
+fn ask(alloc: Global, positions: &Positions, files: &str, command: &Command) -> Option<String> {
+    let mut logs = logs_with(alloc, files)?;
+    let answer = command.span(alloc, positions, &mut logs);
+    drop(logs);
+    show_answer(alloc, answer)
+}
+
+fn shown(alloc: Global, row: &Row, command: &Command) -> Option<String> {
+    let positions = positions_of(alloc, row.reads)?;
+    ask(alloc, &positions, row.files, command)
+}
+
+// Whether the answer to a row is the one that it wants.
+fn is_wanted(alloc: Global, line: &str, rotation: Rotation, format: &str) -> Option<bool> {
+    let row = row_of(line)?;
+    let command = command_of(alloc, row.names, rotation, format)?;
+    let answer = shown(alloc, &row, &command)?;
+    Some(answer.as_str() == row.wanted)
 }
 
 // The first row whose answer is another one.
@@ -169,15 +237,13 @@ fn first_other<'a>(
     rows: &'a str,
     rotation: Rotation,
     format: &str,
-) -> Result<Option<&'a str>, Fail> {
+) -> Option<&'a str> {
     for line in rows.lines() {
-        let row = row_of(line)?;
-        let answer = shown(alloc, &row, rotation, format)?;
-        if answer.as_str() != row.wanted {
-            return Ok(Some(line));
+        if is_wanted(alloc, line, rotation, format) != Some(true) {
+            return Some(line);
         }
     }
-    Ok(None)
+    None
 }
 
 const NAMES: &str = "- | a.log=4 | a.log | a.log a.log 0-4 0 0;
@@ -196,10 +262,9 @@ a.log=3 | a.log=3 | c.log x//y | no such log c.log";
 // Each log from where it was left, with the columns in force there; a log that comes again at its first place; the first name
 // that can't be read is told.
 #[test]
-fn names_are_read_one_after_another(rt: HostRuntime) -> Result<(), Fail> {
-    let other = first_other(rt.alloc(), NAMES, Rotation::Names, "TEXTLINE")?;
+fn names_are_read_one_after_another(rt: HostRuntime) {
+    let other = first_other(rt.alloc(), NAMES, Rotation::Names, "TEXTLINE");
     assert_eq!(rt; other, None);
-    Ok(())
 }
 
 const NUMBERS: &str = "- | acc.log=2 | acc.log | acc.log acc.log.1 0-2 0 0;
@@ -231,10 +296,9 @@ acc.log.1=2 | acc.log.1=2 acc.log.3=0 | acc.log | lost log acc.log.2
 // stem's own file: never rotated, rotated twice since it was read, gaps, names that only look like those of generations,
 // several stems, and the first that can't be read.
 #[test]
-fn stems_are_read_generation_by_generation(rt: HostRuntime) -> Result<(), Fail> {
-    let other = first_other(rt.alloc(), NUMBERS, Rotation::Numbers, "TEXTLINE")?;
+fn stems_are_read_generation_by_generation(rt: HostRuntime) {
+    let other = first_other(rt.alloc(), NUMBERS, Rotation::Numbers, "TEXTLINE");
     assert_eq!(rt; other, None);
-    Ok(())
 }
 
 const CHANGED: &str = "a.log=3 | - | b.log | changed
@@ -243,36 +307,54 @@ a.log=3 | - | b* | changed
 
 // How logs are read is judged before any of them is looked for. A ledger without entries takes any text.
 #[test]
-fn another_input_text_is_told_first(rt: HostRuntime) -> Result<(), Fail> {
+fn another_input_text_is_told_first(rt: HostRuntime) {
     for rotation in [Rotation::Names, Rotation::Numbers] {
-        let other = first_other(rt.alloc(), CHANGED, rotation, "TEXTWORD")?;
+        let other = first_other(rt.alloc(), CHANGED, rotation, "TEXTWORD");
         assert_eq!(rt; other, None);
     }
-    Ok(())
 }
 
-// Whether the logs that fail at this call are told, and not whole spans.
-fn fails_at(alloc: Global, rotation: Rotation, call: u64) -> Result<bool, Fail> {
+// Logs that fail at a call.
+fn failing_logs(alloc: Global, call: u64) -> Option<MemoryLogs> {
     let mut logs = logs_with(alloc, "a=1 b=1 b.1=1")?;
-    logs.fail(call)?;
-    let positions = positions_of(alloc, "acc.log.1=2")?;
-    let sources = sources_of(alloc, "a b", rotation)?;
-    let input = input_of(alloc, "TEXTLINE")?;
-    match positions.span(alloc, &mut logs, &sources, &input) {
-        Ok(_) => Ok(false),
-        Err(SpanFault::LogsFault) => Ok(true),
-        Err(_) => Err(Fail::from("another fault")),
+    if logs.fail(call).is_ok() {
+        Some(logs)
+    } else {
+        None
     }
+}
+
+// Whether a failed call of the logs is told, and not whole spans; none for another fault.
+fn is_failed(answer: Result<Spans, SpanFault>) -> Option<bool> {
+    match answer {
+        Ok(_) => Some(false),
+        Err(SpanFault::LogsFault) => Some(true),
+        Err(_) => None,
+    }
+}
+
+fn is_told(alloc: Global, positions: &Positions, command: &Command, call: u64) -> Option<bool> {
+    let mut logs = failing_logs(alloc, call)?;
+    let answer = command.span(alloc, positions, &mut logs);
+    drop(logs);
+    is_failed(answer)
+}
+
+fn fails_at(alloc: Global, rotation: Rotation, call: u64) -> Option<bool> {
+    let command = command_of(alloc, "a b", rotation, "TEXTLINE")?;
+    let positions = positions_of(alloc, "acc.log.1=2")?;
+    is_told(alloc, &positions, &command, call)
 }
 
 // Each of these calls of the logs may fail, and then that is told.
 #[test]
-fn each_call_of_the_logs_may_fail(rt: HostRuntime) -> Result<(), Fail> {
+fn each_call_of_the_logs_may_fail(rt: HostRuntime) {
     for (rotation, calls) in [(Rotation::Names, 4), (Rotation::Numbers, 7)] {
         for call in 0..20 {
-            let fails = fails_at(rt.alloc(), rotation, call)?;
-            assert_eq!(rt; fails, call < calls);
+            assert!(rt;
+                fails_at(rt.alloc(), rotation, call) == Some(call < calls),
+                "at {call}"
+            );
         }
     }
-    Ok(())
 }
