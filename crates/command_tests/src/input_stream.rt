@@ -1,16 +1,17 @@
 // Runs over standard input.
 ghost use Rattle.std.specs.Prelude.{None};
 
-use logparser_cli::run;
+use crate::outside::{InMemory, Outside, giving, told_outputs};
+use crate::rows::{asked, bytes_of, check, words_of};
 use lp_outside::{Sink, SinkFailed, Source, SourceFailed};
-use lp_values::{Bytes, Text, TextList};
-use memory_outside::{MemoryDisk, MemoryLogs, MemorySink, MemorySource};
-use std::alloc::Global;
+use lp_values::{Bytes, TextList};
+use std::alloc::{AllocError, Global};
 use std::cell::Cell;
+use std::process::Abort;
 use std::test::Fail;
 
 // The options and the query of a run, what standard input gives, and what is told: the code, and what it writes to out and to err.
-// A `;` stands for a line's end, and each row has more options in front.
+// Each row has more options in front.
 const RUNS: &str = "\
 -i:TEXTLINE SELECT * FROM STDIN < x;y => 0 LogFilename,Index,Text;STDIN,1,x;STDIN,2,y;|Statistics:;-----------;Elements processed: 2;Elements output:    2;
 -i:TEXTLINE SELECT Index, Text FROM 'stdin' < a;;b; => 0 Index,Text;1,a;2,;3,b;|Statistics:;-----------;Elements processed: 3;Elements output:    3;
@@ -23,64 +24,47 @@ const RUNS: &str = "\
 -i:IISW3C SELECT sc-status FROM STDIN < 200; => 8 |logparser: parse errors: STDIN row 1;
 -i:TEXTLINE SELECT * FROM a.log, STDIN < x => 3 |logparser: query: at 21: STDIN misplaced;";
 
-// Bytes with `;` for a line's end, or back.
-fn turned(alloc: Global, bytes: &[u8], from: u8, to: u8) -> Result<Bytes, Fail> {
-    let mut turned = Bytes::new(alloc);
-    for byte in bytes {
-        turned.push(if *byte == from { to } else { *byte })?;
-    }
-    Ok(turned)
+fn words(alloc: Global, typed: &str) -> Result<TextList, Fail> {
+    let (option, query) = typed.split_once(' ').ok_or("no query")?;
+    Ok(words_of(alloc, &[option, "-o:CSV", "-e:0", query])?)
 }
 
-// What a run tells whose standard input gives these bytes, and whose call of that number fails there.
-fn told(alloc: Global, typed: &str, given: &str, failing: Option<u64>) -> Result<Bytes, Fail> {
-    let (option, query) = typed.split_once(' ').ok_or("no query")?;
-    let mut words = TextList::new(alloc);
-    for word in [option, "-o:CSV", "-e:0", query] {
-        words.push(Text::from_str(alloc, word)?)?;
-    }
-    let mut logs = MemoryLogs::new(alloc);
-    let mut disk = MemoryDisk::new(alloc);
-    let mut input = MemorySource::new(alloc, turned(alloc, given.as_bytes(), b';', b'\n')?);
-    if let Some(call) = failing {
-        input.fail(call)?;
-    }
-    let mut out = MemorySink::new(alloc);
-    let mut err = MemorySink::new(alloc);
-    let status = run(
-        alloc, &words, 0, &mut logs, &mut disk, &mut input, &mut out, &mut err,
-    );
-    let code = format!(in alloc; "{} ", status.code())?;
-    let mut told = Bytes::new(alloc);
-    told.add(code.as_str().as_bytes())?;
-    told.add(out.bytes())?;
-    told.push(b'|')?;
-    told.add(err.bytes())?;
-    turned(alloc, told.as_slice(), b'\n', b';')
+fn told_in(outside: &mut InMemory, alloc: Global, typed: &str) -> Result<Bytes, Fail> {
+    let words = words(alloc, typed)?;
+    Ok(told_outputs(outside, alloc, &words, 0)?)
+}
+
+// What a run tells as it is typed, whose standard input gives the bytes behind ` < `.
+fn told(alloc: Global, run: &str) -> Result<Bytes, Fail> {
+    let (typed, given) = run.split_once(" < ").ok_or("no input")?;
+    let given = bytes_of(alloc, given)?;
+    told_in(&mut giving(alloc, given), alloc, typed)
+}
+
+fn check_row(rt: &impl Abort, alloc: Global, row: &str) -> Result<(), Fail> {
+    let told = told(alloc, asked(row))?;
+    Ok(check(rt, alloc, row, &told)?)
 }
 
 #[test]
 fn standard_input_is_read(rt: HostRuntime) -> Result<(), Fail> {
     for row in RUNS.lines() {
-        let (run, want) = row.split_once(" => ").ok_or("no text")?;
-        let (typed, given) = run.split_once(" < ").ok_or("no input")?;
-        let told = told(rt.alloc(), typed, given, None)?;
-        assert!(rt; told.as_slice() == want.as_bytes(), "{row}");
+        check_row(&rt, rt.alloc(), row)?;
     }
     Ok(())
 }
 
+fn told_failing(outside: &mut InMemory, alloc: Global) -> Result<Bytes, Fail> {
+    outside.input.fail(0)?;
+    told_in(outside, alloc, "-i:TEXTLINE SELECT Text FROM STDIN")
+}
+
 #[test]
 fn standard_input_may_fail(rt: HostRuntime) -> Result<(), Fail> {
-    let told = told(
-        rt.alloc(),
-        "-i:TEXTLINE SELECT Text FROM STDIN",
-        "x;y",
-        Some(0),
-    )?;
-    let want = "5 |logparser: read fault: standard input;";
-    assert!(rt; told.as_slice() == want.as_bytes(), "{:?}", told.as_slice());
-    Ok(())
+    let given = bytes_of(rt.alloc(), "x;y")?;
+    let told = told_failing(&mut giving(rt.alloc(), given), rt.alloc())?;
+    let row = "a call fails => 5 |logparser: read fault: standard input;";
+    Ok(check(&rt, rt.alloc(), row, &told)?)
 }
 
 // Lines of 64 bytes, as many as there are left, and a count of the bytes that were given, which the output sees.
@@ -141,32 +125,30 @@ impl<'a> Sink for Writes<'a> {
     }
 }
 
-// How many of 1,048,576 bytes were given when a query first writes, and how often it writes.
-fn writes_of(alloc: Global, query: &str) -> Result<(Option<u64>, u64), Fail> {
-    let shared = Cell::new(0);
-    let mut input = Lines {
+// An input of 1,048,576 bytes, and an output that sees how many of them were given.
+fn streams(alloc: Global, shared: &Cell<u64>) -> Outside<Lines<'_>, Writes<'_>> {
+    let input = Lines {
         left: 1_048_576,
         given: 0,
         reads: 0,
         faults: 0,
-        shared: &shared,
+        shared,
     };
-    let mut out = Writes {
+    let out = Writes {
         first_at: None,
         count: 0,
-        shared: &shared,
+        shared,
     };
-    let mut words = TextList::new(alloc);
-    for word in ["-i:TEXTLINE", "-o:CSV", query] {
-        words.push(Text::from_str(alloc, word)?)?;
-    }
-    let mut logs = MemoryLogs::new(alloc);
-    let mut disk = MemoryDisk::new(alloc);
-    let mut err = MemorySink::new(alloc);
-    let _status = run(
-        alloc, &words, 0, &mut logs, &mut disk, &mut input, &mut out, &mut err,
-    );
-    Ok((out.first_at, out.count))
+    Outside::beside(alloc, input, out)
+}
+
+// How many of these bytes were given when a query first writes, and how often it writes.
+fn writes_of(alloc: Global, query: &str) -> Result<(Option<u64>, u64), AllocError> {
+    let words = words_of(alloc, &["-i:TEXTLINE", "-o:CSV", query])?;
+    let shared = Cell::new(0);
+    let mut streams = streams(alloc, &shared);
+    streams.run(alloc, &words, 0);
+    Ok((streams.out.first_at, streams.out.count))
 }
 
 // The first rows are out before the third piece is read, also where one line in ten is kept. Of all lines the text goes on in a

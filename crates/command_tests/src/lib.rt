@@ -12,7 +12,11 @@ mod input_stream;
 #[cfg(test)]
 mod messages;
 #[cfg(test)]
+mod outside;
+#[cfg(test)]
 mod query_files;
+#[cfg(test)]
+mod rows;
 #[cfg(test)]
 mod runs;
 #[cfg(test)]

@@ -1,9 +1,10 @@
 // Whole runs at the moment 0, as their words are typed, over logs and a disk in memory.
-use logparser_cli::run;
-use lp_outside::Name;
-use lp_values::{Bytes, Text, TextList};
-use memory_outside::{MemoryDisk, MemoryLogs, MemorySink, MemorySource};
-use std::alloc::Global;
+use crate::outside::{InMemory, add_file, giving, name, told_outputs};
+use crate::rows::{add_word, asked, bytes_of, check};
+use lp_values::{Bytes, TextList};
+use memory_outside::MemoryLogs;
+use std::alloc::{AllocError, Global};
+use std::process::Abort;
 use std::test::Fail;
 
 // The logs and templates of all runs, with `;` for a line's end.
@@ -29,71 +30,52 @@ twice.tpl <LPBODY></LPBODY><LPBODY></LPBODY>
 text.tpl x<LPBODY></LPBODY>
 sign.tpl <LPBODY>\r;%u%%</LPBODY>";
 
-// Adds bytes, with `;` for a line's end.
-fn add(to: &mut Bytes, bytes: &[u8]) -> Result<(), Fail> {
-    for byte in bytes {
-        to.push(if *byte == b'\n' { b';' } else { *byte })?;
+fn put(logs: &mut MemoryLogs, file: &str, bytes: &[u8]) -> Result<(), Fail> {
+    let file = name(file)?;
+    Ok(logs.put(&file, bytes)?)
+}
+
+fn add_log(logs: &mut MemoryLogs, alloc: Global, log: &str) -> Result<(), Fail> {
+    let (file, text) = log.split_once(' ').ok_or("no log")?;
+    put(logs, file, bytes_of(alloc, text)?.as_slice())
+}
+
+fn add_logs(logs: &mut MemoryLogs, alloc: Global) -> Result<(), Fail> {
+    for log in LOGS.lines() {
+        add_log(logs, alloc, log)?;
     }
     Ok(())
 }
 
-// The bytes of a text in which `;` stands for a line's end.
-fn lines(alloc: Global, text: &str) -> Result<Bytes, Fail> {
-    let mut lines = Bytes::new(alloc);
-    for byte in text.as_bytes() {
-        lines.push(if *byte == b';' { b'\n' } else { *byte })?;
+fn add_options(words: &mut TextList, alloc: Global, options: &str) -> Result<(), AllocError> {
+    for option in options.split(' ') {
+        if !option.is_empty() {
+            add_word(words, alloc, option)?;
+        }
     }
-    Ok(lines)
+    Ok(())
 }
 
-fn name(text: &str) -> Result<Name, Fail> {
-    Ok(Name::read(text).map_err(|_| "no name")?)
-}
-
-fn logs(alloc: Global) -> Result<MemoryLogs, Fail> {
-    let mut logs = MemoryLogs::new(alloc);
-    for log in LOGS.lines() {
-        let (file, text) = log.split_once(' ').ok_or("no log")?;
-        logs.put(&name(file)?, lines(alloc, text)?.as_slice())?;
-    }
-    Ok(logs)
+fn listed(alloc: Global, options: &str, query: &str) -> Result<TextList, AllocError> {
+    let mut words = TextList::new(alloc);
+    add_options(&mut words, alloc, options)?;
+    add_word(&mut words, alloc, query)?;
+    Ok(words)
 }
 
 // The words as they are typed: options, and the query between quotes.
 fn words(alloc: Global, typed: &str) -> Result<TextList, Fail> {
     let (options, rest) = typed.split_once('"').ok_or("no query")?;
     let query = rest.strip_suffix('"').ok_or("no end")?;
-    let mut words = TextList::new(alloc);
-    for option in options.split(' ') {
-        if !option.is_empty() {
-            words.push(Text::from_str(alloc, option)?)?;
-        }
-    }
-    words.push(Text::from_str(alloc, query)?)?;
-    Ok(words)
+    Ok(listed(alloc, options, query)?)
 }
 
 // The code of a run with what it writes to out and to err, and what a file holds behind it.
-fn told(alloc: Global, logs: &mut MemoryLogs, file: &str, typed: &str) -> Result<Bytes, Fail> {
-    let mut disk = MemoryDisk::new(alloc);
-    disk.put(&name("o.csv")?, b"z")?;
-    let mut input = MemorySource::new(alloc, Bytes::new(alloc));
-    let mut out = MemorySink::new(alloc);
-    let mut err = MemorySink::new(alloc);
-    let words = words(alloc, typed)?;
-    let status = run(
-        alloc, &words, 0, logs, &mut disk, &mut input, &mut out, &mut err,
-    );
-    let mut told = Bytes::new(alloc);
-    add(
-        &mut told,
-        format!(in alloc; "{} ", status.code())?.as_str().as_bytes(),
-    )?;
-    add(&mut told, out.bytes())?;
+fn told_in(outside: &mut InMemory, alloc: Global, file: &str, typed: &str) -> Result<Bytes, Fail> {
+    outside.disk.put(&name("o.csv")?, b"z")?;
+    let mut told = told_outputs(outside, alloc, &words(alloc, typed)?, 0)?;
     told.push(b'|')?;
-    add(&mut told, err.bytes())?;
-    told.push(b'|')?;
-    add(&mut told, disk.bytes(&name(file)?))?;
+    add_file(&mut told, &outside.disk, file)?;
     Ok(told)
 }
 
@@ -148,18 +130,31 @@ none -tpl:sign.tpl \"SELECT u FROM t.csv\" => 0 a%b%c%||
 none -i:TEXTLINE -headers:OFF \"SELECT TOP 1 Text, COUNT(*) AS n FROM g.log GROUP BY Text HAVING MAX(Index) > 1 ORDER BY n DESC\" => 0 x    2;||
 _x.csv -i:TEXTLINE -o:CSV \"SELECT Text, COUNT(*) AS n INTO _*.csv FROM g.log GROUP BY Text\" => 0 ||n;2;";
 
-fn is_told(alloc: Global, row: &str, options: &str) -> Result<bool, Fail> {
-    let (words, want) = row.split_once(" => ").ok_or("no text")?;
-    let (file, typed) = words.split_once(' ').ok_or("no words")?;
+fn told_over(
+    outside: &mut InMemory,
+    alloc: Global,
+    run: &str,
+    options: &str,
+) -> Result<Bytes, Fail> {
+    let (file, typed) = run.split_once(' ').ok_or("no words")?;
     let typed = format!(in alloc; "{options}{typed}")?;
-    let told = told(alloc, &mut logs(alloc)?, file, typed.as_str())?;
-    Ok(told.as_slice() == want.as_bytes())
+    add_logs(&mut outside.logs, alloc)?;
+    told_in(outside, alloc, file, typed.as_str())
+}
+
+fn told(alloc: Global, run: &str, options: &str) -> Result<Bytes, Fail> {
+    told_over(&mut giving(alloc, Bytes::new(alloc)), alloc, run, options)
+}
+
+fn check_row(rt: &impl Abort, alloc: Global, row: &str, options: &str) -> Result<(), Fail> {
+    let told = told(alloc, asked(row), options)?;
+    Ok(check(rt, alloc, row, &told)?)
 }
 
 #[test]
 fn worked_runs_are_told(rt: HostRuntime) -> Result<(), Fail> {
     for row in WORKED.lines() {
-        assert!(rt; is_told(rt.alloc(), row, "")?, "{row}");
+        check_row(&rt, rt.alloc(), row, "")?;
     }
     Ok(())
 }
@@ -167,27 +162,42 @@ fn worked_runs_are_told(rt: HostRuntime) -> Result<(), Fail> {
 #[test]
 fn further_runs_are_told(rt: HostRuntime) -> Result<(), Fail> {
     for row in FURTHER.lines() {
-        assert!(rt; is_told(rt.alloc(), row, "-stats:OFF ")?, "{row}");
+        check_row(&rt, rt.alloc(), row, "-stats:OFF ")?;
     }
     Ok(())
 }
 
-// A log of so many lines, each another one.
-fn many(alloc: Global, count: u32) -> Result<MemoryLogs, Fail> {
+fn add_number(to: &mut Bytes, alloc: Global, number: u32) -> Result<(), AllocError> {
+    to.add(format!(in alloc; "{number}\n")?.as_str().as_bytes())
+}
+
+// So many lines, each another one.
+fn numbers(alloc: Global, count: u32) -> Result<Bytes, AllocError> {
     let mut bytes = Bytes::new(alloc);
     for number in 0..count {
-        bytes.add(format!(in alloc; "{number}\n")?.as_str().as_bytes())?;
+        add_number(&mut bytes, alloc, number)?;
     }
-    let mut logs = MemoryLogs::new(alloc);
-    logs.put(&name("n.log")?, bytes.as_slice())?;
-    Ok(logs)
+    Ok(bytes)
+}
+
+fn told_of(outside: &mut InMemory, alloc: Global, log: &[u8]) -> Result<Bytes, Fail> {
+    put(&mut outside.logs, "n.log", log)?;
+    let typed = "-o:CSV \"SELECT Text, Index INTO *.csv FROM n.log\"";
+    told_in(outside, alloc, "none", typed)
+}
+
+fn told_many(alloc: Global, count: u32) -> Result<Bytes, Fail> {
+    let lines = numbers(alloc, count)?;
+    told_of(
+        &mut giving(alloc, Bytes::new(alloc)),
+        alloc,
+        lines.as_slice(),
+    )
 }
 
 #[test]
 fn outputs_are_counted(rt: HostRuntime) -> Result<(), Fail> {
-    let typed = "-o:CSV \"SELECT Text, Index INTO *.csv FROM n.log\"";
-    let told = told(rt.alloc(), &mut many(rt.alloc(), 10_001)?, "none", typed)?;
-    let want = "4 |logparser: input: more than 10000 outputs;|";
-    assert!(rt; told.as_slice() == want.as_bytes(), "{:?}", told.as_slice());
-    Ok(())
+    let told = told_many(rt.alloc(), 10_001)?;
+    let row = "many => 4 |logparser: input: more than 10000 outputs;|";
+    Ok(check(&rt, rt.alloc(), row, &told)?)
 }

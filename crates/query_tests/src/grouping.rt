@@ -1,106 +1,187 @@
 // Grouped queries over a table of the columns a, b and c, and their plan or their fault, worked out by hand.
+use crate::rows::{asked, check};
 use group_planning::{GroupPlan, is_grouped, plan_groups};
-use lp_values::{Bytes, Kind, Text, print};
-use query_text::read_query;
-use query_types::{Form, NamedKind, NamedKinds, Operation, Plan, TableColumns, TypeFault};
+use lp_values::{Bytes, Kind, Text, TextList, Value, print};
+use query_text::{ReadFault, read_query};
+use query_tree::Query;
+use query_types::{
+    Form, GroupShape, KindList, MeaningList, NamedKind, NamedKinds, Operation, PlaceList, Plan,
+    TableColumns, TypeFault,
+};
 use std::alloc::{AllocError, Global};
 use std::fmt::Write;
 use std::str;
-use std::test::Fail;
+
+fn add_column(
+    columns: &mut NamedKinds,
+    alloc: Global,
+    name: &str,
+    kind: Kind,
+) -> Result<(), AllocError> {
+    let name = Text::from_str(alloc, name)?;
+    columns.push(NamedKind { name, kind })
+}
+
+fn add_columns(columns: &mut NamedKinds, alloc: Global) -> Result<(), AllocError> {
+    for (name, kind) in [("a", Kind::Integer), ("b", Kind::Text), ("c", Kind::Real)] {
+        add_column(columns, alloc, name, kind)?;
+    }
+    Ok(())
+}
 
 pub(crate) fn table(alloc: Global) -> Result<TableColumns, AllocError> {
     let mut columns = NamedKinds::new(alloc);
-    for (name, kind) in [("a", Kind::Integer), ("b", Kind::Text), ("c", Kind::Real)] {
-        let name = Text::from_str(alloc, name)?;
-        columns.push(NamedKind { name, kind })?;
-    }
+    add_columns(&mut columns, alloc)?;
     Ok(TableColumns {
         columns,
         others: false,
     })
 }
 
-fn show_operation(to: &mut String, by: &Operation) -> Result<(), AllocError> {
+fn name_of(by: &Operation) -> &'static str {
     match by {
-        Operation::Call(function) => to.push_str(function.name()),
-        Operation::Case => to.push_str("CASE"),
-        _ => to.push_str("other"),
+        Operation::Call(function) => function.name(),
+        Operation::Case => "CASE",
+        _ => "other",
     }
+}
+
+fn show_operation(to: &mut String, by: &Operation) -> Result<(), AllocError> {
+    write!(to, " {}(", name_of(by))
+}
+
+fn show_column(to: &mut String, index: usize) -> Result<(), AllocError> {
+    write!(to, " #{index}")
+}
+
+fn show_constant(to: &mut String, alloc: Global, value: &Value) -> Result<(), AllocError> {
+    let mut bytes = Bytes::new(alloc);
+    print(value, &mut bytes)?;
+    write!(
+        to,
+        " '{}'",
+        str::from_utf8(bytes.as_slice()).unwrap_or("no text")
+    )
 }
 
 /// A form: a column by its place, behind `#`.
-pub(crate) fn show_form(to: &mut String, alloc: Global, form: &Form) -> Result<(), Fail> {
+pub(crate) fn show_form(to: &mut String, alloc: Global, form: &Form) -> Result<(), AllocError> {
     match form {
-        Form::Column(index) => write!(to, " #{index}")?,
-        Form::Constant(value) => {
-            let mut bytes = Bytes::new(alloc);
-            print(value, &mut bytes)?;
-            write!(to, " '{}'", str::from_utf8(bytes.as_slice())?)?;
-        }
+        Form::Column(index) => show_column(to, *index),
+        Form::Constant(value) => show_constant(to, alloc, value),
         Form::Made { kind: _, by, of } => {
-            to.push_str(" ")?;
             show_operation(to, by)?;
-            to.push_str("(")?;
             for part in of {
                 show_form(to, alloc, part)?;
             }
-            to.push_str(")")?;
+            to.push_str(")")
         }
     }
+}
+
+fn show_forms(to: &mut String, alloc: Global, items: &MeaningList) -> Result<(), AllocError> {
+    for item in items.as_slice() {
+        show_form(to, alloc, item.form())?;
+    }
     Ok(())
+}
+
+fn show_flag(to: &mut String, sign: &str, is_there: bool) -> Result<(), AllocError> {
+    if is_there { to.push_str(sign) } else { Ok(()) }
 }
 
 /// What a plan asks of each row, and whether it has a condition.
-pub(crate) fn show_items(to: &mut String, alloc: Global, plan: &Plan) -> Result<(), Fail> {
-    for item in plan.items.as_slice() {
-        show_form(to, alloc, item.form())?;
-    }
-    if plan.condition.is_some() {
-        to.push_str(" if")?;
+pub(crate) fn show_items(to: &mut String, alloc: Global, plan: &Plan) -> Result<(), AllocError> {
+    show_forms(to, alloc, &plan.items)?;
+    show_flag(to, " if", plan.condition.is_some())
+}
+
+fn show_shape(to: &mut String, shape: &GroupShape) -> Result<(), AllocError> {
+    write!(to, "{} keys", shape.keys)?;
+    show_flag(to, " rolled", shape.rollup)?;
+    for kind in shape.aggregates.as_slice() {
+        write!(to, " {kind:?}")?;
     }
     Ok(())
 }
 
-fn show_plan(to: &mut String, alloc: Global, plan: &GroupPlan) -> Result<(), Fail> {
-    write!(to, "{} keys", plan.shape.keys)?;
-    if plan.shape.rollup {
-        to.push_str(" rolled")?;
-    }
-    for kind in plan.shape.aggregates.as_slice() {
-        write!(to, " {kind:?}")?;
-    }
-    to.push_str("; rows")?;
-    show_items(to, alloc, &plan.rows)?;
-    to.push_str("; groups")?;
-    show_items(to, alloc, &plan.groups)?;
-    for place in plan.groups.order.as_slice() {
+fn show_order(to: &mut String, order: &PlaceList) -> Result<(), AllocError> {
+    for place in order.as_slice() {
         write!(to, " by {place}")?;
     }
-    to.push_str("; ")?;
-    for name in plan.groups.names.as_slice() {
+    Ok(())
+}
+
+fn show_names(to: &mut String, names: &TextList) -> Result<(), AllocError> {
+    for name in names.as_slice() {
         write!(to, "{}|", name.as_str())?;
     }
-    for kind in plan.groups.kinds.as_slice() {
+    Ok(())
+}
+
+fn show_kinds(to: &mut String, kinds: &KindList) -> Result<(), AllocError> {
+    for kind in kinds.as_slice() {
         write!(to, " {kind:?}")?;
     }
     Ok(())
+}
+
+fn show_rows(to: &mut String, alloc: Global, rows: &Plan) -> Result<(), AllocError> {
+    to.push_str("; rows")?;
+    show_items(to, alloc, rows)
+}
+
+fn show_groups(to: &mut String, alloc: Global, groups: &Plan) -> Result<(), AllocError> {
+    to.push_str("; groups")?;
+    show_items(to, alloc, groups)?;
+    show_order(to, &groups.order)
+}
+
+fn show_columns(to: &mut String, groups: &Plan) -> Result<(), AllocError> {
+    to.push_str("; ")?;
+    show_names(to, &groups.names)?;
+    show_kinds(to, &groups.kinds)
+}
+
+fn show_plan(to: &mut String, alloc: Global, plan: &GroupPlan) -> Result<(), AllocError> {
+    show_shape(to, &plan.shape)?;
+    show_rows(to, alloc, &plan.rows)?;
+    show_groups(to, alloc, &plan.groups)?;
+    show_columns(to, &plan.groups)
+}
+
+fn show_planned(
+    to: &mut String,
+    alloc: Global,
+    planned: &Result<GroupPlan, TypeFault>,
+) -> Result<(), AllocError> {
+    match planned {
+        Err(fault) => write!(to, "{fault:?}"),
+        Ok(plan) => show_plan(to, alloc, plan),
+    }
+}
+
+fn show_query(to: &mut String, alloc: Global, query: &Query) -> Result<(), AllocError> {
+    show_flag(to, "not grouped: ", !is_grouped(query))?;
+    let table = table(alloc)?;
+    show_planned(to, alloc, &plan_groups(alloc, query, &table, 0))
+}
+
+fn show_read(
+    to: &mut String,
+    alloc: Global,
+    read: &Result<Query, ReadFault>,
+) -> Result<(), AllocError> {
+    match read {
+        Err(_) => to.push_str("no query"),
+        Ok(query) => show_query(to, alloc, query),
+    }
 }
 
 // A query's plan or its fault, and whether it is grouped.
-fn shown(alloc: Global, text: &str) -> Result<String, Fail> {
+fn told(alloc: Global, text: &str) -> Result<String, AllocError> {
     let mut to = String::new(alloc);
-    match read_query(alloc, text.as_bytes()) {
-        Err(_) => to.push_str("no query")?,
-        Ok(query) => {
-            if !is_grouped(&query) {
-                to.push_str("not grouped: ")?;
-            }
-            match plan_groups(alloc, &query, &table(alloc)?, 0) {
-                Err(fault) => write!(to, "{fault:?}")?,
-                Ok(plan) => show_plan(&mut to, alloc, &plan)?,
-            }
-        }
-    }
+    show_read(&mut to, alloc, &read_query(alloc, text.as_bytes()))?;
     Ok(to)
 }
 
@@ -143,11 +224,9 @@ SELECT PROPCOUNT(a) FROM x => not grouped: UnknownFunction { at: 7 }
 SELECT a FROM x ORDER BY COUNT(*) => NotGrouped { at: 7 }";
 
 #[test]
-fn a_grouped_query_has_its_plan_or_its_fault(rt: HostRuntime) -> Result<(), Fail> {
+fn a_grouped_query_has_its_plan_or_its_fault(rt: HostRuntime) -> Result<(), AllocError> {
     for row in ROWS.lines() {
-        let (text, want) = row.split_once(" => ").ok_or("no answer")?;
-        let told = shown(rt.alloc(), text)?;
-        assert!(rt; told.as_str() == want, "{row}\n{told}");
+        check(&rt, row, told(rt.alloc(), asked(row))?.as_str());
     }
     Ok(())
 }

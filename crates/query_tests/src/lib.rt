@@ -11,6 +11,8 @@ mod listing;
 #[cfg(test)]
 mod queries;
 #[cfg(test)]
+mod rows;
+#[cfg(test)]
 mod subquery_plans;
 #[cfg(test)]
 mod tokens;

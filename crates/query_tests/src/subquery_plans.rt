@@ -1,21 +1,44 @@
 // Subqueries over a table of the columns a, b and c, and their plan or their fault, worked out by hand.
 use crate::grouping::{show_items, table};
+use crate::rows::{asked, check};
 use group_planning::plan_subquery;
-use query_text::read_query;
-use std::alloc::Global;
+use query_text::{ReadFault, read_query};
+use query_tree::Query;
+use query_types::{Plan, TypeFault};
+use std::alloc::{AllocError, Global};
 use std::fmt::Write;
-use std::test::Fail;
+
+fn show_planned(
+    to: &mut String,
+    alloc: Global,
+    planned: &Result<Plan, TypeFault>,
+) -> Result<(), AllocError> {
+    match planned {
+        Err(fault) => write!(to, "{fault:?}"),
+        Ok(plan) => show_items(to, alloc, plan),
+    }
+}
+
+fn show_query(to: &mut String, alloc: Global, query: &Query) -> Result<(), AllocError> {
+    let table = table(alloc)?;
+    show_planned(to, alloc, &plan_subquery(alloc, query, &table, 0))
+}
+
+fn show_read(
+    to: &mut String,
+    alloc: Global,
+    read: &Result<Query, ReadFault>,
+) -> Result<(), AllocError> {
+    match read {
+        Err(_) => to.push_str("no query"),
+        Ok(query) => show_query(to, alloc, query),
+    }
+}
 
 // The plan of a query that stands for a subquery, or its fault.
-fn shown(alloc: Global, text: &str) -> Result<String, Fail> {
+fn told(alloc: Global, text: &str) -> Result<String, AllocError> {
     let mut to = String::new(alloc);
-    match read_query(alloc, text.as_bytes()) {
-        Err(_) => to.push_str("no query")?,
-        Ok(query) => match plan_subquery(alloc, &query, &table(alloc)?, 0) {
-            Err(fault) => write!(to, "{fault:?}")?,
-            Ok(plan) => show_items(&mut to, alloc, &plan)?,
-        },
-    }
+    show_read(&mut to, alloc, &read_query(alloc, text.as_bytes()))?;
     Ok(to)
 }
 
@@ -34,11 +57,9 @@ SELECT GROUPING(a) FROM x WHERE b > 1 => KindMismatch { at: 36 }
 SELECT GROUPING(a, b) FROM x => WrongArity { at: 7 }";
 
 #[test]
-fn a_subquery_has_its_plan_or_its_fault(rt: HostRuntime) -> Result<(), Fail> {
+fn a_subquery_has_its_plan_or_its_fault(rt: HostRuntime) -> Result<(), AllocError> {
     for row in ROWS.lines() {
-        let (text, want) = row.split_once(" => ").ok_or("no answer")?;
-        let told = shown(rt.alloc(), text)?;
-        assert!(rt; told.as_str() == want, "{row}\n{told}");
+        check(&rt, row, told(rt.alloc(), asked(row))?.as_str());
     }
     Ok(())
 }

@@ -1,40 +1,63 @@
 // Texts and their tokens, worked out by hand.
-use query_lexer::{Keyword, TokenKind, Tokens, check_length, lex};
+use crate::rows::{asked, check};
+use query_lexer::{Keyword, LexFault, Token, TokenKind, Tokens, check_length, lex};
 use std::alloc::{AllocError, Global};
 use std::fmt::Write;
-use std::test::Fail;
+
+fn show_text(to: &mut String, form: &str, text: &str) -> Result<(), AllocError> {
+    to.push_str(form)?;
+    to.push_str(text)
+}
+
+fn show_integer(to: &mut String, value: i64, signed: bool) -> Result<(), AllocError> {
+    write!(to, "{value} {signed}")
+}
+
+fn show_real(to: &mut String, millionths: i64) -> Result<(), AllocError> {
+    write!(to, "{millionths}")
+}
 
 fn show(to: &mut String, kind: &TokenKind) -> Result<(), AllocError> {
     match kind {
-        TokenKind::Word(text) => write!(to, "word {}", text.as_str()),
-        TokenKind::Keyword(keyword) => write!(to, "{}", keyword.name()),
-        TokenKind::Str(text) => write!(to, "string {}", text.as_str()),
-        TokenKind::Integer { value, signed } => write!(to, "{value} {signed}"),
-        TokenKind::Real(real) => write!(to, "{}", real.millionths),
-        TokenKind::Name(text) => write!(to, "name {}", text.as_str()),
-        TokenKind::Symbol(sign) => write!(to, "{}", sign.text()),
+        TokenKind::Word(text) => show_text(to, "word ", text.as_str()),
+        TokenKind::Keyword(keyword) => to.push_str(keyword.name()),
+        TokenKind::Str(text) => show_text(to, "string ", text.as_str()),
+        TokenKind::Integer { value, signed } => show_integer(to, *value, *signed),
+        TokenKind::Real(real) => show_real(to, real.millionths),
+        TokenKind::Name(text) => show_text(to, "name ", text.as_str()),
+        TokenKind::Symbol(sign) => to.push_str(sign.text()),
     }
 }
 
-// The tokens, each with its place.
-fn show_all(alloc: Global, tokens: &Tokens) -> Result<String, AllocError> {
-    let mut to = String::new(alloc);
+// A token with its place.
+fn show_token(to: &mut String, token: &Token) -> Result<(), AllocError> {
+    write!(to, "{}:", token.at)?;
+    show(to, &token.kind)?;
+    to.push_str("|")
+}
+
+fn show_tokens(to: &mut String, tokens: &Tokens) -> Result<(), AllocError> {
     for token in tokens.as_slice() {
-        write!(to, "{}:", token.at)?;
-        show(&mut to, &token.kind)?;
-        to.push_str("|")?;
+        show_token(to, token)?;
     }
-    Ok(to)
+    Ok(())
+}
+
+fn show_lexed(to: &mut String, lexed: &Result<Tokens, LexFault>) -> Result<(), AllocError> {
+    match lexed {
+        Ok(tokens) => show_tokens(to, tokens),
+        Err(fault) => write!(to, "{fault}"),
+    }
 }
 
 fn told(alloc: Global, text: &str) -> Result<String, AllocError> {
+    let mut to = String::new(alloc);
     if check_length(text.as_bytes()).is_err() {
-        return String::from_str(alloc, "too long");
+        to.push_str("too long")?;
+    } else {
+        show_lexed(&mut to, &lex(alloc, text))?;
     }
-    match lex(alloc, text) {
-        Ok(tokens) => show_all(alloc, &tokens),
-        Err(fault) => format!(in alloc; "{fault}"),
-    }
+    Ok(to)
 }
 
 const TEXTS: &str = "\
@@ -52,10 +75,9 @@ FROM, a b => 0:FROM|4:,|6:word a|8:word b|
 a -9223372036854775809 => number too large at 2";
 
 #[test]
-fn texts_have_their_tokens(rt: HostRuntime) -> Result<(), Fail> {
+fn texts_have_their_tokens(rt: HostRuntime) -> Result<(), AllocError> {
     for row in TEXTS.lines() {
-        let (text, want) = row.split_once(" => ").ok_or("no tokens")?;
-        assert!(rt; told(rt.alloc(), text)?.as_str() == want, "{row}");
+        check(&rt, row, told(rt.alloc(), asked(row))?.as_str());
     }
     assert!(rt; Keyword::by_name("bY") == Some(Keyword::By) && Keyword::by_name("b").is_none());
     Ok(())

@@ -1,10 +1,10 @@
 // Words, and what they ask for, worked out by hand.
-use command_words::{OutputFormat, Spec, SpecFault};
+use crate::rows::{asked, check};
+use command_words::{OutputFormat, Spec, SpecFault, UsageFault};
 use lp_outside::Name;
 use lp_values::{Text, TextList};
 use std::alloc::{AllocError, Global};
 use std::fmt::Write;
-use std::test::Fail;
 
 fn shown(name: &Option<Name>) -> &str {
     match name {
@@ -35,24 +35,48 @@ fn show_output(to: &mut String, spec: &Spec) -> Result<(), AllocError> {
     write!(to, ", {} {}", spec.words.len(), spec.query.as_str())
 }
 
-fn show(alloc: Global, spec: &Spec) -> Result<String, AllocError> {
-    let mut to = String::new(alloc);
-    show_input(&mut to, spec)?;
-    show_output(&mut to, spec)?;
-    Ok(to)
+fn show(to: &mut String, spec: &Spec) -> Result<(), AllocError> {
+    show_input(to, spec)?;
+    show_output(to, spec)
 }
 
-// What words ask for, parted by blanks, or why they are refused.
-fn told(alloc: Global, words: &str) -> Result<String, AllocError> {
-    let mut list = TextList::new(alloc);
-    for word in words.split(' ') {
-        list.push(Text::from_str(alloc, word)?)?;
-    }
-    match Spec::read(alloc, &list) {
-        Ok(spec) => show(alloc, &spec),
-        Err(SpecFault::Usage(fault)) => format!(in alloc; "{} {}", fault.word, fault.kind.as_str()),
+fn show_usage(to: &mut String, fault: &UsageFault) -> Result<(), AllocError> {
+    write!(to, "{} {}", fault.word, fault.kind.as_str())
+}
+
+// What was read from words, or why they are refused.
+fn show_read(to: &mut String, read: &Result<Spec, SpecFault>) -> Result<(), AllocError> {
+    match read {
+        Ok(spec) => show(to, spec),
+        Err(SpecFault::Usage(fault)) => show_usage(to, fault),
         Err(SpecFault::Memory) => Err(AllocError),
     }
+}
+
+fn add_word(words: &mut TextList, alloc: Global, word: &str) -> Result<(), AllocError> {
+    let word = Text::from_str(alloc, word)?;
+    words.push(word)
+}
+
+fn add_words(words: &mut TextList, alloc: Global, text: &str) -> Result<(), AllocError> {
+    for word in text.split(' ') {
+        add_word(words, alloc, word)?;
+    }
+    Ok(())
+}
+
+// The words of a text, parted by blanks.
+fn words(alloc: Global, text: &str) -> Result<TextList, AllocError> {
+    let mut words = TextList::new(alloc);
+    add_words(&mut words, alloc, text)?;
+    Ok(words)
+}
+
+fn told(alloc: Global, text: &str) -> Result<String, AllocError> {
+    let words = words(alloc, text)?;
+    let mut to = String::new(alloc);
+    show_read(&mut to, &Spec::read(alloc, &words))?;
+    Ok(to)
 }
 
 const WORDS: &str = "\
@@ -63,10 +87,9 @@ query => None None true none Names true None 9, None Some(10) Auto 9 Overwrite n
 query -e:1 again => 2 second query";
 
 #[test]
-fn words_ask_for_options(rt: HostRuntime) -> Result<(), Fail> {
+fn words_ask_for_options(rt: HostRuntime) -> Result<(), AllocError> {
     for row in WORDS.lines() {
-        let (words, want) = row.split_once(" => ").ok_or("no options")?;
-        assert!(rt; told(rt.alloc(), words)?.as_str() == want, "{row}");
+        check(&rt, row, told(rt.alloc(), asked(row))?.as_str());
     }
     Ok(())
 }
