@@ -140,21 +140,17 @@ fn holds_both(disk: &MemoryDisk, texts: &str) -> Option<bool> {
     Some(is_first && holds(disk, &name("two", 0)?, second))
 }
 
-// The disk behind two unsynced calls of one file and one of another, and a crash that tears them so.
-fn torn(alloc: Global, letters: &str) -> Option<DiskCalls> {
-    let mut disk = new_disk(alloc);
-    let other = first_other(&mut disk, CALLS);
-    if other.is_none() && crashes_as(alloc, &mut disk.disk, letters) {
-        Some(disk)
-    } else {
-        None
-    }
+// Whether two unsynced calls of one file and one of another, and a crash that tears them so, leave the texts of a row.
+fn is_left(alloc: Global, disk: &mut DiskCalls, row: &str) -> Option<bool> {
+    let (letters, want) = row.split_once(" => ")?;
+    let are_called = first_other(disk, CALLS).is_none();
+    let is_torn = crashes_as(alloc, &mut disk.disk, letters);
+    Some(are_called && is_torn && holds_both(&disk.disk, want)?)
 }
 
 fn leaves(alloc: Global, row: &str) -> Option<bool> {
-    let (letters, want) = row.split_once(" => ")?;
-    let disk = torn(alloc, letters)?;
-    holds_both(&disk.disk, want)
+    let mut disk = new_disk(alloc);
+    is_left(alloc, &mut disk, row)
 }
 
 #[test]
