@@ -31,13 +31,13 @@ fn places(rt: HostRuntime) {
 
 // A disk over files whose opens and syncs are counted.
 #[derive(Drop)]
-struct CountedDisk<'a, D: Disk> {
+struct CountedDisk<'a, 'b, D: Disk> {
     alloc: Global,
     disk: &'a mut D,
-    counts: &'a Counts,
+    counts: &'b Counts,
 }
 
-impl<'a, D: Disk> Answers for CountedDisk<'a, D> {
+impl<'a, 'b, D: Disk> Answers for CountedDisk<'a, 'b, D> {
     // How many files and folders were synced so far, behind a call that didn't fail.
     fn answer(&mut self, line: &str) -> Option<String> {
         if !done(self.disk, line) {
@@ -69,7 +69,11 @@ write outside_synced/deep/two.csv 1 b => 16
 sync outside_synced/deep/two.csv => 17";
 
 // The first row at which a new handle has synced another number of times.
-fn first_of_syncs<'a>(rt: &HostRuntime, counts: &Counts, rows: &'a str) -> Option<&'a str> {
+fn first_of_syncs<'r, 'a>(
+    rt: &'r HostRuntime,
+    counts: &'r Counts,
+    rows: &'a str,
+) -> Option<&'a str> {
     let counted = Counted { rt, counts };
     let mut disk = FileDisk::new(&counted);
     let mut answers = CountedDisk {
