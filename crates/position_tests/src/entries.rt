@@ -166,10 +166,19 @@ pub fn disk_with(alloc: Global, runs: &[&[Read]]) -> Option<MemoryDisk> {
     Some(disk)
 }
 
-/// The same of one run, or of none where it read nothing.
-pub fn disk_with_one(alloc: Global, reads: &[Read]) -> Option<MemoryDisk> {
-    if reads.is_empty() {
-        return disk_with(alloc, &[]);
+// The same of one run, or of none where it read nothing.
+fn make_ledger_of_one<D: Disk>(alloc: Global, disk: &mut D, reads: &[Read]) -> Option<()> {
+    let ledger = named("cp")?;
+    create(disk, &ledger).ok()?;
+    if !reads.is_empty() {
+        add_run(alloc, disk, &ledger, 16, reads)?;
     }
-    disk_with(alloc, &[reads])
+    Some(())
+}
+
+/// A disk with the ledger `cp` of one run that reads these lines, or of none where there are none.
+pub fn disk_with_one(alloc: Global, reads: &[Read]) -> Option<MemoryDisk> {
+    let mut disk = MemoryDisk::new(alloc);
+    make_ledger_of_one(alloc, &mut disk, reads)?;
+    Some(disk)
 }
