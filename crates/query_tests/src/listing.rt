@@ -86,6 +86,24 @@ fn show_groups(
     }
 }
 
+fn show_over_rows(
+    to: &mut String,
+    alloc: Global,
+    query: &Query,
+    table: &TableColumns,
+) -> Result<(), AllocError> {
+    show_rows(to, alloc, &plan(alloc, query, table, 0))
+}
+
+fn show_over_groups(
+    to: &mut String,
+    alloc: Global,
+    query: &Query,
+    table: &TableColumns,
+) -> Result<(), AllocError> {
+    show_groups(to, alloc, &plan_groups(alloc, query, table, 0))
+}
+
 // What a plan asks of rows or of groups, or its fault.
 fn show_planned(
     to: &mut String,
@@ -94,9 +112,9 @@ fn show_planned(
     table: &TableColumns,
 ) -> Result<(), AllocError> {
     if is_built(query) {
-        show_rows(to, alloc, &plan(alloc, query, table, 0))
+        show_over_rows(to, alloc, query, table)
     } else {
-        show_groups(to, alloc, &plan_groups(alloc, query, table, 0))
+        show_over_groups(to, alloc, query, table)
     }
 }
 
