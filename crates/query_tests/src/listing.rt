@@ -86,15 +86,6 @@ fn show_groups(
     }
 }
 
-fn show_over_rows(
-    to: &mut String,
-    alloc: Global,
-    query: &Query,
-    table: &TableColumns,
-) -> Result<(), AllocError> {
-    show_rows(to, alloc, &plan(alloc, query, table, 0))
-}
-
 fn show_over_groups(
     to: &mut String,
     alloc: Global,
@@ -112,7 +103,7 @@ fn show_planned(
     table: &TableColumns,
 ) -> Result<(), AllocError> {
     if is_built(query) {
-        show_over_rows(to, alloc, query, table)
+        show_rows(to, alloc, &plan(alloc, query, table, 0))
     } else {
         show_over_groups(to, alloc, query, table)
     }
