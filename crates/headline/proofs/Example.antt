@@ -1,5 +1,5 @@
 -- A world in which calls happen: what is stated of them can be met.
-use Rattle.std.proofs.Common.{◌≡◌, ⊎_elim, ℕ, zero, suc, true, false, List, [], ◌∷◌, ◌++◌, length, Option, Some, None, IsSome, refl, sym, ◌∙◌, ap, arith, inl, inr, subst, Contains}
+use Rattle.std.proofs.Common.{◌≡◌, ◌<◌, ⊎_elim, ℕ, zero, suc, true, false, List, [], ◌∷◌, ◌++◌, length, Option, Some, None, IsSome, refl, sym, ◌∙◌, ap, arith, inl, inr, subst, Contains}
 use Rattle.std.specs.Prelude.{bytes_eq, codes, unwrap_or, Err, if◌then◌else◌, pos}
 use Rattle.std.specs.List.{AllByRecursion, AllZip}
 use Rattle.std.proofs.lemmas.Bool.{cases_Bool, false≢true}
@@ -14,6 +14,7 @@ use Rattle.logparser_cli.specs.CheckpointedCommandAsked.{IsAskedBy}
 use Rattle.logparser_cli.specs.Refusals.{IsRefused}
 use Rattle.logparser_cli.specs.Steps.{TakesSteps}
 use Rattle.commit.specs.Faults.{FitsWhole}
+use Rattle.commit.specs.Keeping.{KeepsEntries}
 use Rattle.commit.specs.Resume.{CanSettle, Settles}
 use Rattle.disk_model.specs.Disk.{Files}
 use Rattle.log_listing.specs.Firsts.{joined}
@@ -194,7 +195,7 @@ refused bytes = λ given world before after are_fine are_options ledger_is stage
       whole = tt;
     }
 
--- a disk that is left alone is settled where it could be, and an empty one fits
+-- a disk that is left alone is settled where it could be, and an empty one fits and keeps its entries
 settles : CanSettle (plain empty) ledger (stage_beside ledger) → Settles (plain empty) (plain empty) ledger (stage_beside ledger)
 settles can = record {
   each_moment = record {
@@ -209,10 +210,15 @@ settles can = record {
 fits : FitsWhole ledger (stage_beside ledger) empty
 fits = record { pairs = []; is = inl (omega arith, refl); staged = λ k output is. absurd (cc) }
 
+keeps : KeepsEntries ledger empty empty
+keeps [] (inl (short, none)) = record { pairs = []; is = inl (omega arith, refl); same = refl; finished = tt }
+keeps (pair ∷ pairs) (inl (short, none)) = absurd cc
+keeps pairs (inr held) = let long : 18 < 0 = held.long in absurd (omega arith)
+
 by_logs : (bytes : List ℕ) → IsRefused plain empty ledger (stage_beside ledger) (Some (table bytes)) (Some (table bytes)) spec (pos 0) S.LogsFault
 by_logs bytes = inr (record {
   settled = empty;
-  settles = record { settles = settles; fits = λ told apart. fits };
+  settles = record { settles = settles; fits = λ told apart. fits; keeps = λ told apart. keeps; tells = λ told. told };
   refused = inl (record { fault = F.Logs; why = tt; status_is = refl });
 })
 
