@@ -12,7 +12,7 @@
 //               filled  this call and all behind it fail so
 //               short   no stop: each write takes the half of its bytes
 //   STOP_LEDGER the end of the ledger's path
-//   STOP_COUNT  a file that gets the number of calls, where the program ends by itself
+//   STOP_COUNT  a file that gets the number of calls, and that of reads of the ledger, where the program ends by itself
 #define _GNU_SOURCE
 #include <dlfcn.h>
 #include <errno.h>
@@ -28,7 +28,7 @@
 
 #define MOST_FILES 4096
 
-static long calls, stop_at;
+static long calls, reads, stop_at;
 static const char *how = "";
 
 // The bytes of a file as its last sync left them, where it was changed since.
@@ -46,6 +46,7 @@ struct kept {
 static struct kept kept[MOST_FILES];
 static int files;
 
+static ssize_t (*real_pread)(int, void *, size_t, off_t);
 static ssize_t (*real_pwrite)(int, const void *, size_t, off_t);
 static ssize_t (*real_write)(int, const void *, size_t);
 static int (*real_ftruncate)(int, off_t);
@@ -55,6 +56,7 @@ __attribute__((constructor)) static void begin(void) {
   const char *at = getenv("STOP_AT");
   stop_at = at ? atol(at) : 0;
   how = getenv("STOP_HOW") ? getenv("STOP_HOW") : "";
+  real_pread = dlsym(RTLD_NEXT, "pread64");
   real_pwrite = dlsym(RTLD_NEXT, "pwrite64");
   real_write = dlsym(RTLD_NEXT, "write");
   real_ftruncate = dlsym(RTLD_NEXT, "ftruncate64");
@@ -66,13 +68,21 @@ __attribute__((destructor)) static void end(void) {
   if (!path) return;
   FILE *file = fopen(path, "w");
   if (!file) return;
-  fprintf(file, "%ld\n", calls);
+  fprintf(file, "%ld %ld\n", calls, reads);
   fclose(file);
 }
 
 static int is(const char *word) { return strcmp(how, word) == 0; }
 
 static int loses(void) { return is("lost") || is("others") || is("ledger") || is("last"); }
+
+static void find_path(int fd, char path[PATH_MAX]) {
+  char link[64];
+  snprintf(link, sizeof link, "/proc/self/fd/%d", fd);
+  ssize_t length = readlink(link, path, PATH_MAX - 1);
+  if (length < 0) abort();
+  path[length] = 0;
+}
 
 // Keeps a file's bytes before its first change since a sync.
 static struct kept *keep(int fd) {
@@ -87,11 +97,7 @@ static struct kept *keep(int fd) {
     file = &kept[files++];
     file->device = found.st_dev;
     file->inode = found.st_ino;
-    char link[64];
-    snprintf(link, sizeof link, "/proc/self/fd/%d", fd);
-    ssize_t length = readlink(link, file->path, sizeof file->path - 1);
-    if (length < 0) abort();
-    file->path[length] = 0;
+    find_path(fd, file->path);
   }
   free(file->bytes);
   file->size = found.st_size;
@@ -120,15 +126,15 @@ static void synced(int fd) {
     if (kept[i].device == found.st_dev && kept[i].inode == found.st_ino) kept[i].changed = kept[i].last_size = 0;
 }
 
-static int is_ledger(const struct kept *file) {
+static int is_ledger(const char *path) {
   const char *name = getenv("STOP_LEDGER");
-  size_t size = strlen(file->path), end = name ? strlen(name) : 0;
-  return end && size > end && strcmp(file->path + size - end, name) == 0;
+  size_t size = strlen(path), end = name ? strlen(name) : 0;
+  return end && size > end && strcmp(path + size - end, name) == 0;
 }
 
 static void stop(void) {
   for (int i = 0; i < files; i++) {
-    if (!kept[i].changed || (is("others") && is_ledger(&kept[i])) || (is("ledger") && !is_ledger(&kept[i]))) continue;
+    if (!kept[i].changed || (is("others") && is_ledger(kept[i].path)) || (is("ledger") && !is_ledger(kept[i].path))) continue;
     int fd = open(kept[i].path, O_WRONLY | O_TRUNC);
     if (fd < 0 || real_pwrite(fd, kept[i].bytes, kept[i].size, 0) != (ssize_t)kept[i].size) abort();
     if (is("last") && kept[i].last_size) real_pwrite(fd, kept[i].last, kept[i].last_size, kept[i].last_at);
@@ -150,6 +156,16 @@ static int fails(void) {
 }
 
 static int is_amid(void) { return calls == stop_at && is("amid"); }
+
+static ssize_t look(int fd, void *bytes, size_t size, off_t at) {
+  char path[PATH_MAX];
+  find_path(fd, path);
+  reads += is_ledger(path);
+  return real_pread(fd, bytes, size, at);
+}
+
+ssize_t pread(int fd, void *bytes, size_t size, off_t at) { return look(fd, bytes, size, at); }
+ssize_t pread64(int fd, void *bytes, size_t size, off_t at) { return look(fd, bytes, size, at); }
 
 static size_t half(size_t size) { return size > 1 ? size / 2 : size; }
 

@@ -6,12 +6,13 @@ use Rattle.grammar.specs.Trees.{Query}
 use Rattle.command_words.specs.declared.spec.Spec.{Spec}
 use Rattle.commit.specs.Faults.{FitsWhole, IsApart}
 use Rattle.commit.specs.Keeping.{KeepsEntries}
+use Rattle.ledger.specs.declared.walking.End.{End}
 use Rattle.query_run.specs.declared.executing.Counts.{Counts}
 use Rattle.reports.specs.declared.status.Status.{Status}
 use Rattle.requests.specs.Texts.{HoldsQuery}
 use Rattle.run_model.specs.Steps.{well}
 use Rattle.checkpointed_command.specs.Counted.{IsCounted, IsWhole}
-use Rattle.checkpointed_command.specs.Refusals.{IsRefused, IsRefusedBehind, IsSettledBy, IsUnread, IsUnsettled, IsUnsuited}
+use Rattle.checkpointed_command.specs.Refusals.{IsRefused, IsRefusedBehind, IsSettledBy, IsSettledSince, IsUnread, IsUnsettled, IsUnsuited}
 use Rattle.checkpointed_command.specs.Steps.{ending_by}
 use Rattle.checkpointed_command.proofs.Answering.{IsMild, mild_unasked, mild_unfit, unsettled_not_well}
 use Rattle.checkpointed_command.proofs.Files.{Nears, near_as, fits_as, keeps_as}
@@ -31,6 +32,11 @@ settled_by old new ledger stage l s ledger_is stage_is near fits keeps tells = r
   keeps = keeps_as old new ledger stage l s ledger_is stage_is keeps;
   tells = tells;
 }
+
+-- the same by other names of the same files
+pub since_as : {D : Type 0} (state : D → DiskState) (old new : D) (ledger stage l s : List ℕ) (known : Option End) → ledger ≡ l → stage ≡ s → IsSettledSince state old new ledger stage known → IsSettledSince state old new l s known
+since_as state old new ledger stage l s known ledger_is stage_is since =
+    subst (λ (x : List ℕ). IsSettledSince state old new x s known) ledger_is (subst (λ (x : List ℕ). IsSettledSince state old new ledger x known) stage_is since)
 
 module _ {D : Type 0} (state : D → DiskState) (old settled : D) (ledger stage : List ℕ) where
   asking_behind : (before now : Option Folder) (spec : Spec) (moment : ℤ) (status : Status) → IsUnread before now spec status ⊎ IsUnsuited before now spec status → IsRefusedBehind state (state settled) ledger stage before now spec moment status

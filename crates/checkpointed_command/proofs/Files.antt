@@ -2,11 +2,14 @@
 use Rattle.std.proofs.Common.{◌≡◌, ℕ, List, Option, Result, subst}
 use Rattle.disk_model.specs.Disk.{DiskState}
 use Rattle.lp_model.specs.Outside.{Folder}
+use Rattle.command_words.specs.declared.modes.Rotation.{Rotation as Word}
 use Rattle.commit.specs.Faults.{FitsWhole, IsApart}
 use Rattle.commit.specs.Keeping.{KeepsEntries}
+use Rattle.commit.specs.Known.{IsReadSince}
 use Rattle.commit.specs.Resume.{CanSettle, Settles}
 use Rattle.query_run.specs.declared.executing.Counts.{Counts}
 use Rattle.checkpointed_run.specs.Entries.{Request}
+use Rattle.ledger.specs.declared.walking.End.{End}
 use Rattle.reports.specs.declared.status.Status.{Status}
 use Rattle.checkpointed_run.specs.Steps.{TakesStep}
 use Rattle.checkpointed_run.specs.declared.over.LedgerStop.{LedgerStop}
@@ -18,6 +21,15 @@ Nears old new ledger stage = CanSettle old ledger stage → Settles old new ledg
 
 pub near_as : (old new : DiskState) (ledger stage l s : List ℕ) → ledger ≡ l → stage ≡ s → Nears old new ledger stage → Nears old new l s
 near_as old new ledger stage l s ledger_is stage_is near = subst (λ (x : List ℕ). Nears old new x s) ledger_is (subst (λ (x : List ℕ). Nears old new ledger x) stage_is near)
+
+pub known_as : (old new : DiskState) (known : Option End) (ledger l : List ℕ) → ledger ≡ l → IsReadSince old new ledger known → IsReadSince old new l known
+known_as old new known ledger l is since = subst (λ (x : List ℕ). IsReadSince old new x known) is since
+
+-- a fact by the names of the files, by how the logs are rotated and by their names
+pub same_by : (ledger stage l s : List ℕ) → ledger ≡ l → stage ≡ s → (a b : Word) → a ≡ b → (texts names : List (List ℕ)) → texts ≡ names → (P : List ℕ → List ℕ → Word → List (List ℕ) → Type 0) → P ledger stage a texts → P l s b names
+same_by ledger stage l s ledger_is stage_is a b rotation_is texts names names_are P p =
+    subst (λ (x : List ℕ). P x s b names) ledger_is
+    (subst (λ (x : List ℕ). P ledger x b names) stage_is (subst (λ (w : Word). P ledger stage w names) rotation_is (subst (λ (t : List (List ℕ)). P ledger stage a t) names_are p)))
 
 pub step_as : (result : Result Counts LedgerStop) (request : Request) (told now : Option Folder) (old new : DiskState) (ledger stage l s : List ℕ) → ledger ≡ l → stage ≡ s → TakesStep result request ledger stage told now old new → TakesStep result request l s told now old new
 step_as result request told now old new ledger stage l s ledger_is stage_is step =

@@ -3,12 +3,14 @@
 use Rattle.std.specs.Prelude.{◌≡◌, ◌⊎◌, ℕ, ℤ, List, map, Option}
 use Rattle.commit.specs.Faults.{FitsWhole, IsApart}
 use Rattle.commit.specs.Keeping.{KeepsEntries}
+use Rattle.commit.specs.Known.{IsReadSince}
 use Rattle.commit.specs.Resume.{CanSettle, Settles}
 use Rattle.disk_model.specs.Disk.{DiskState}
 use Rattle.grammar.specs.Trees.{Query}
 use Rattle.lp_model.specs.Outside.{Folder, OnlyGrow}
 use Rattle.command_words.specs.declared.spec.Spec.{Spec}
 use Rattle.ledger.specs.declared.refused.LedgerRefused.{LedgerRefused}
+use Rattle.ledger.specs.declared.walking.End.{End}
 use Rattle.ledger_model.specs.Inputs.{input_text}
 use Rattle.positions.specs.Spanning.{rule_of}
 use Rattle.checkpointed_run.specs.Inputs.{input_for}
@@ -41,6 +43,12 @@ pub record IsSettledBy (old new : DiskState) (ledger stage : List ℕ) : Type 0 
   pub fits : old.tells → IsApart ledger stage old.seen → FitsWhole ledger stage old.seen
   pub keeps : old.tells → IsApart ledger stage old.seen → KeepsEntries ledger old.seen new.seen
   pub tells : old.tells → new.tells
+
+-- it was, and only read since; this much was known then of the end of its ledger
+pub record IsSettledSince {D : Type 0} (state : D → DiskState) (old new : D) (ledger stage : List ℕ) (known : Option End) : Type 0 where
+  pub settled : D
+  pub by : IsSettledBy (state old) (state settled) ledger stage
+  pub since : IsReadSince (state settled) (state new) ledger known
 
 -- the query isn't read
 pub record IsUnread (before now : Option Folder) (spec : Spec) (status : Status) : Type 0 where

@@ -1,8 +1,9 @@
 // A run with a checkpoint, step by step.
-ghost use Rattle.std.specs.Prelude.{◌≡◌, ◌⊎◌, ◌≤◌, ◌++◌, ℕ, Option, codes, map, true, None, Some, IfOk, IfErr, IsErrOf, IsSome};
+ghost use Rattle.std.specs.Prelude.{◌≡◌, ◌⊎◌, ◌≤◌, ◌++◌, ℕ, Option, codes, map, true, None, Some, IfOk, IfErr, IfSome, IsErrOf, IsSome};
 ghost use Rattle.lp_model.specs.Outside.{Rose, OnlyGrow, Folder};
 ghost use Rattle.command_words.specs.Table.{IsInRange};
 ghost use Rattle.command_words.specs.declared.formats.OutputFormat.TheVariants as O;
+ghost use Rattle.commit.specs.Known.{IsLow, IsReadSince};
 ghost use Rattle.commit.specs.Resume.{CanSettle, Settles};
 ghost use Rattle.checkpointed_run.specs.Executed.{IsMoment};
 ghost use Rattle.checkpointed_run.specs.Texts.{has_text, output_of, sections_in};
@@ -33,6 +34,7 @@ use crate::statuses::{uncounted, untemplated};
 use crate::template::{RunTemplate, find_template};
 use checkpointed_run::run_over_ledger;
 use command_words::Spec;
+use ledger::End;
 use lp_outside::{Disk, Logs, Name};
 use lp_values::Text;
 use query_run::Counts;
@@ -41,12 +43,13 @@ use reports::Status;
 use requests::WrittenQuery;
 use std::alloc::Global;
 
-// Runs a query that was read over the logs behind FROM. It speaks also of an earlier disk that was settled since, and of earlier
-// logs that have grown since.
+// Runs a query that was read over the logs behind FROM. It speaks of the disk as it was when the end of its ledger was known, since
+// when it was only read; and also of an earlier one that was settled since, and of earlier logs that have grown since.
 fn run_prepared<L: Logs, D: Disk>(
     alloc: Global,
     spec: &Spec,
     ledger: &Name,
+    known: Option<End>,
     moment: i64,
     logs: &mut L,
     disk: &mut D,
@@ -61,12 +64,13 @@ fn run_prepared<L: Logs, D: Disk>(
     requires template { output_of spec.now (query_of query.old) ≡ O.Tpl → IsSome template.shared }
     requires sections { HasTemplate spec.now (query_of query.old) template.bytes (sections_in (λ t. t.value) template.shared) }
     requires fit { IsFit (query_of query.old) }
+    requires low { IfSome known IsLow }
     ensures grows { OnlyGrow (L.folder logs.old) (L.folder logs.new) }
-    ensures step { (earlier : D) (since : Option Folder) → (CanSettle (D.state earlier) ledger.now (ledger.now ++ codes ".stage") → Settles (D.state earlier) (D.state disk.old) ledger.now (ledger.now ++ codes ".stage")) → OnlyGrow since (L.folder logs.old)
+    ensures step { (read : D) → IsReadSince (D.state read) (D.state disk.old) ledger.now known → (earlier : D) (since : Option Folder) → (CanSettle (D.state earlier) ledger.now (ledger.now ++ codes ".stage") → Settles (D.state earlier) (D.state read) ledger.now (ledger.now ++ codes ".stage")) → OnlyGrow since (L.folder logs.old)
         → TakesStepWith result (request_of spec.now (query_of query.old) text template.bytes moment) ledger.now (ledger.now ++ codes ".stage") since (L.folder logs.new) (D.state earlier) (D.state disk.new) }
-    ensures ran { IfOk result (HasRun D.state (D.state disk.old) ledger.now (ledger.now ++ codes ".stage") (rule_of spec.now.rotation) (input_text (input_for spec.now (query_of query.old))) (map (λ name. name.text) (names_in (query_of query.old))) (request_of spec.now (query_of query.old) text template.bytes moment) (sections_in (λ t. t.value) template.shared) (L.folder logs.old) (L.folder logs.new)) }
-    ensures refused { IfErr result (λ status. IsCountless D.state (D.state disk.old) ledger.now (ledger.now ++ codes ".stage") (L.folder logs.old) (L.folder logs.new) (request_of spec.now (query_of query.old) text template.bytes moment) (sections_in (λ t. t.value) template.shared) status ⊎ (status ≡ S.Memory)) }
-    ensures given { GivesSpans (D.state disk.old) ledger.now (ledger.now ++ codes ".stage") (rule_of spec.now.rotation) (input_text (input_for spec.now (query_of query.old))) (map (λ name. name.text) (names_in (query_of query.old))) (query_of query.old) (L.folder logs.old) (L.folder logs.new) (L.given logs.old) (L.given logs.new) }
+    ensures ran { (read : D) → IsReadSince (D.state read) (D.state disk.old) ledger.now known → IfOk result (HasRun D.state (D.state read) ledger.now (ledger.now ++ codes ".stage") (rule_of spec.now.rotation) (input_text (input_for spec.now (query_of query.old))) (map (λ name. name.text) (names_in (query_of query.old))) (request_of spec.now (query_of query.old) text template.bytes moment) (sections_in (λ t. t.value) template.shared) (L.folder logs.old) (L.folder logs.new)) }
+    ensures refused { (read : D) → IsReadSince (D.state read) (D.state disk.old) ledger.now known → IfErr result (λ status. IsCountless D.state (D.state read) ledger.now (ledger.now ++ codes ".stage") (L.folder logs.old) (L.folder logs.new) (request_of spec.now (query_of query.old) text template.bytes moment) (sections_in (λ t. t.value) template.shared) status ⊎ (status ≡ S.Memory)) }
+    ensures given { (read : D) → IsReadSince (D.state read) (D.state disk.old) ledger.now known → GivesSpans (D.state read) ledger.now (ledger.now ++ codes ".stage") (rule_of spec.now.rotation) (input_text (input_for spec.now (query_of query.old))) (map (λ name. name.text) (names_in (query_of query.old))) (query_of query.old) (L.folder logs.old) (L.folder logs.new) (L.given logs.old) (L.given logs.new) }
     ensures later_logs { L.faults logs.old ≤ L.faults logs.new }
     ensures later { D.faults disk.old ≤ D.faults disk.new }
     ensures logs { IsErrOf result S.LogsFault → Rose (L.faults logs.old) (L.faults logs.new) }
@@ -88,6 +92,7 @@ fn run_prepared<L: Logs, D: Disk>(
         logs,
         &sources,
         files_of(ledger),
+        known,
         disk,
     ) {
         Ok(counts) => Ok(counts),
@@ -95,11 +100,12 @@ fn run_prepared<L: Logs, D: Disk>(
     }
 }
 
-// Finds the template of a query, and runs it. It speaks of an earlier disk and earlier logs too.
+// Finds the template of a query, and runs it. It speaks of earlier disks and earlier logs too.
 fn run_query<L: Logs, D: Disk>(
     alloc: Global,
     spec: &Spec,
     ledger: &Name,
+    known: Option<End>,
     moment: i64,
     logs: &mut L,
     disk: &mut D,
@@ -112,13 +118,14 @@ fn run_query<L: Logs, D: Disk>(
     requires stage { name_fault (ledger.now ++ codes ".stage") ≡ None }
     requires text { has_text spec.now (output_of spec.now (query_of query.old)) ≡ true }
     requires fit { IsFit (query_of query.old) }
+    requires low { IfSome known IsLow }
     ensures grows { OnlyGrow (L.folder logs.old) (L.folder logs.new) }
-    ensures step { (earlier : D) (since : Option Folder) → (CanSettle (D.state earlier) ledger.now (ledger.now ++ codes ".stage") → Settles (D.state earlier) (D.state disk.old) ledger.now (ledger.now ++ codes ".stage")) → OnlyGrow since (L.folder logs.old) → HoldsQuery since (L.folder logs.old) spec.now.query text (query_of query.old)
+    ensures step { (read : D) → IsReadSince (D.state read) (D.state disk.old) ledger.now known → (earlier : D) (since : Option Folder) → (CanSettle (D.state earlier) ledger.now (ledger.now ++ codes ".stage") → Settles (D.state earlier) (D.state read) ledger.now (ledger.now ++ codes ".stage")) → OnlyGrow since (L.folder logs.old) → HoldsQuery since (L.folder logs.old) spec.now.query text (query_of query.old)
         → TakesSteps spec.now ledger.now (ledger.now ++ codes ".stage") moment since (L.folder logs.new) (D.state earlier) (D.state disk.new) result }
-    ensures ran { IfOk result (λ counts. (since : Option Folder) → OnlyGrow since (L.folder logs.old) → HoldsQuery since (L.folder logs.old) spec.now.query text (query_of query.old) → IsCounted D.state (D.state disk.old) ledger.now (ledger.now ++ codes ".stage") since (L.folder logs.new) spec.now moment counts) }
-    ensures refused { IfErr result (λ status. (since : Option Folder) → OnlyGrow since (L.folder logs.old) → HoldsQuery since (L.folder logs.old) spec.now.query text (query_of query.old) → IsRefusedBehind D.state (D.state disk.old) ledger.now (ledger.now ++ codes ".stage") since (L.folder logs.new) spec.now moment status) }
-    ensures given { (since : Option Folder) (given : ℕ) → OnlyGrow since (L.folder logs.old) → HoldsQuery since (L.folder logs.old) spec.now.query text (query_of query.old) → ReadsOnce (L.folder logs.old) (query_files spec.now.query) given (L.given logs.old)
-        → ReadsBehind (D.state disk.old) ledger.now (ledger.now ++ codes ".stage") since (L.folder logs.new) spec.now given (L.given logs.new) }
+    ensures ran { (read : D) → IsReadSince (D.state read) (D.state disk.old) ledger.now known → IfOk result (λ counts. (since : Option Folder) → OnlyGrow since (L.folder logs.old) → HoldsQuery since (L.folder logs.old) spec.now.query text (query_of query.old) → IsCounted D.state (D.state read) ledger.now (ledger.now ++ codes ".stage") since (L.folder logs.new) spec.now moment counts) }
+    ensures refused { (read : D) → IsReadSince (D.state read) (D.state disk.old) ledger.now known → IfErr result (λ status. (since : Option Folder) → OnlyGrow since (L.folder logs.old) → HoldsQuery since (L.folder logs.old) spec.now.query text (query_of query.old) → IsRefusedBehind D.state (D.state read) ledger.now (ledger.now ++ codes ".stage") since (L.folder logs.new) spec.now moment status) }
+    ensures given { (read : D) → IsReadSince (D.state read) (D.state disk.old) ledger.now known → (since : Option Folder) (given : ℕ) → OnlyGrow since (L.folder logs.old) → HoldsQuery since (L.folder logs.old) spec.now.query text (query_of query.old) → ReadsOnce (L.folder logs.old) (query_files spec.now.query) given (L.given logs.old)
+        → ReadsBehind (D.state read) ledger.now (ledger.now ++ codes ".stage") since (L.folder logs.new) spec.now given (L.given logs.new) }
     ensures later_logs { L.faults logs.old ≤ L.faults logs.new }
     ensures later { D.faults disk.old ≤ D.faults disk.new }
     ensures logs { IsErrOf result S.LogsFault → Rose (L.faults logs.old) (L.faults logs.new) }
@@ -129,7 +136,7 @@ fn run_query<L: Logs, D: Disk>(
         Err(fault) => return Err(untemplated(fault)),
     };
     run_prepared(
-        alloc, spec, ledger, moment, logs, disk, query, text, template,
+        alloc, spec, ledger, known, moment, logs, disk, query, text, template,
     )
 }
 
@@ -161,16 +168,18 @@ pub fn run_with_checkpoint<L: Logs, D: Disk>(
     ensures logs { IsErrOf result S.LogsFault → Rose (L.faults logs.old) (L.faults logs.new) }
     ensures disk { IsErrOf result S.DiskFault → Rose (D.faults disk.old) (D.faults disk.new) }
 {
-    match settle_ledger(disk, files_of(ledger)) {
-        Ok(()) => {}
+    let known = match settle_ledger(disk, files_of(ledger)) {
+        Ok(known) => known,
         Err(status) => return Err(status),
-    }
+    };
     let WrittenQuery { query, text } = match ask_query(alloc, spec, logs) {
         Ok(written) => written,
         Err(status) => return Err(status),
     };
     let mut query = query;
-    let counted = run_query(alloc, spec, ledger, moment, logs, disk, &mut query, text);
+    let counted = run_query(
+        alloc, spec, ledger, known, moment, logs, disk, &mut query, text,
+    );
     drop(query);
     counted
 }

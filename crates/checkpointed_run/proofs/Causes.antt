@@ -1,10 +1,11 @@
 -- Why a run was refused, and which damage stopped it or that none did, from what its calls tell.
-use Rattle.std.proofs.Common.{◌≡◌, ℕ, true, List, Option, Err, refl, sym, subst}
+use Rattle.std.proofs.Common.{◌≡◌, ℕ, true, List, Option, Err, refl}
+use Rattle.std.specs.Bool.{⊤}
 use Rattle.std.specs.Result.{IsErrOf}
-use Rattle.commit.specs.Faults.{BreaksAt, FitsWhole, IsApart}
+use Rattle.commit.specs.Faults.{BreaksAt, IsApart}
 use Rattle.commit.specs.Resume.{CanSettle}
-use Rattle.disk_model.specs.Disk.{DiskState, Files, IsImage}
-use Rattle.run_entry.specs.Executed.{IsParseError, IsUnplaced, IsUnplanned}
+use Rattle.disk_model.specs.Disk.{DiskState, IsImage}
+use Rattle.run_entry.specs.Executed.{IsParseError, IsTypedInTurn, IsUnplaced, IsUnplanned}
 use Rattle.run_entry.specs.Faults.{IfParse, IfPlan, IfRefused}
 use Rattle.run_entry.specs.Formats.{log_format}
 use Rattle.run_entry.specs.Outputs.{asked_in}
@@ -13,16 +14,17 @@ use Rattle.tpl_output.specs.Sections.{Sections}
 use Rattle.run_entry.specs.Entries.{Request}
 use Rattle.run_entry.specs.RunFault.{RunFault}
 use Rattle.run_entry.specs.RunFault.TheVariants as X
-use Rattle.ledger.specs.Reader.{Rests}
 use Rattle.ledger_model.proofs.Reading.{ledger_apart}
 use Rattle.positions.specs.declared.fault.LoadFault.TheVariants as P
 use Rattle.run_model.specs.Logs.{Rotation}
 use Rattle.ledger.specs.declared.refused.LedgerRefused.{LedgerRefused}
 use Rattle.ledger.specs.declared.refused.LedgerRefused.TheVariants as C
 use Rattle.ledger.specs.declared.refused.Part2.{Part2}
+use Rattle.log_reading.specs.Spans.{bad_line}
 use Rattle.log_reading.specs.declared.span.Span.{Span}
+use Rattle.run_entry.proofs.InTurns.{exceeded_map}
 use Rattle.checkpointed_run.specs.Reasons.{FitsAsRead, IsDamage, RefusedFor, StopsAtDamage}
-use Rattle.checkpointed_run.specs.Refusals.{IsNotBegun}
+use Rattle.checkpointed_run.specs.Refusals.{IsAtDamage, IsNotBegun}
 use Rattle.checkpointed_run.specs.Steps.{IsDamaged}
 use Rattle.run_entry.specs.SubqueryFault.{SubqueryFault}
 use Rattle.run_entry.specs.SubqueryFault.TheVariants as Q
@@ -34,40 +36,23 @@ use Rattle.checkpointed_run.specs.declared.running.RunStop.{RunStop}
 use Rattle.checkpointed_run.specs.declared.running.RunStop.TheVariants as R
 
 -- why a run is refused, as it was told
-pub refused_for : (request : Request) (template : Sections) (told : Option Folder) (spans : List Span) (fault : RunFault)
+pub refused_for : (request : Request) (template : Sections) (told : Option Folder) (spans : List Span) (Nothing : Type 0) (fault : RunFault)
     → IfRefused {T = StagedRun} (Err fault) (IsUnplaced (log_format request.spec request.q) true told (asked_in request.spec template request.moment request.q spans) request.spec request.moment request.q spans)
     → IfPlan {T = StagedRun} (Err fault) (IsUnplanned (log_format request.spec request.q) true told request.spec request.moment request.q spans)
-    → IfParse {T = StagedRun} (Err fault) (IsParseError (log_format request.spec request.q) true told (asked_in request.spec template request.moment request.q spans) request.spec request.moment request.q spans) → RefusedFor request template told spans fault
-refused_for request template told spans (X.Plan fault) refused plan parse = plan
-refused_for request template told spans (X.Refused why) refused plan parse = refused
-refused_for request template told spans X.LogsFault refused plan parse = tt
-refused_for request template told spans X.StageFault refused plan parse = tt
-refused_for request template told spans (X.ParseErrors log row) refused plan parse = parse
-refused_for request template told spans X.Memory refused plan parse = tt
+    → IfPlan {T = StagedRun} (Err fault) (λ fault. IsTypedInTurn (log_format request.spec request.q) true told request.spec request.q spans)
+    → IfParse {T = StagedRun} (Err fault) (IsParseError (log_format request.spec request.q) true told Nothing (asked_in request.spec template request.moment request.q spans) request.spec request.moment request.q spans) → RefusedFor request template told spans fault
+refused_for request template told spans Nothing (X.Plan fault) refused plan turn parse = (plan, turn)
+refused_for request template told spans Nothing (X.Refused why) refused plan turn parse = refused
+refused_for request template told spans Nothing X.LogsFault refused plan turn parse = tt
+refused_for request template told spans Nothing X.StageFault refused plan turn parse = tt
+refused_for request template told spans Nothing (X.ParseErrors log row) refused plan turn parse = exceeded_map (log_format request.spec request.q) true told Nothing ⊤ (asked_in request.spec template request.moment request.q spans) request.spec request.moment request.q spans (bad_line log row) (λ nothing. tt) parse
+refused_for request template told spans Nothing X.Memory refused plan turn parse = tt
 
 -- what breaks when it is settled
 pub damage_is : {T : Type 0} (disk : DiskState) (ledger stage : List ℕ) (fault : LedgerRefused)
     → ((part : Part2) (p : ℕ) → IsErrOf {T = T} {E = LedgerRefused} (Err fault) (C.LedgerFault part p) → disk.tells → IsApart ledger stage disk.seen → BreaksAt ledger stage disk.seen part p) → IsDamage disk ledger stage fault
 damage_is disk ledger stage C.DiskFault breaks = tt
 damage_is disk ledger stage (C.LedgerFault part at) breaks = breaks part at refl
-
--- what fits fitted before some reads
-pub fits_rested : (a b : DiskState) (ledger stage : List ℕ) → Rests a b → FitsAsRead b ledger stage → FitsAsRead a ledger stage
-fits_rested a b ledger stage rests fits = λ tells apart.
-    let shows = rests.shows tells in
-    let same : b.seen ≡ a.seen = λ i name. shows.seen name i in
-    subst (λ (seen : Files). FitsWhole ledger stage seen) same (fits shows.tells (subst (λ (seen : Files). IsApart ledger stage seen) (sym same) apart))
-
--- and what breaks was broken
-pub damage_rested : (a b : DiskState) (ledger stage : List ℕ) → Rests a b → (stop : RunStop) → StopsAtDamage b ledger stage stop → StopsAtDamage a ledger stage stop
-damage_rested a b ledger stage rests (R.Subquery fault) is = fits_rested a b ledger stage rests is
-damage_rested a b ledger stage rests (R.Refused fault) is = fits_rested a b ledger stage rests is
-damage_rested a b ledger stage rests (R.BeforeGate C.DiskFault) is = tt
-damage_rested a b ledger stage rests (R.BeforeGate (C.LedgerFault part at)) is = λ tells apart.
-    let shows = rests.shows tells in
-    let same : b.seen ≡ a.seen = λ i name. shows.seen name i in
-    subst (λ (seen : Files). BreaksAt ledger stage seen part at) same (is shows.tells (subst (λ (seen : Files). IsApart ledger stage seen) (sym same) apart))
-damage_rested a b ledger stage rests (R.FromGate fault) is = fits_rested a b ledger stage rests is
 
 -- a run that tells no damage has found none, where what was read fits
 pub not_damaged : (disk : DiskState) (ledger stage : List ℕ) (stop : RunStop) → (IsDamagedStop stop → ⊥) → FitsAsRead disk ledger stage → StopsAtDamage disk ledger stage stop
@@ -130,3 +115,11 @@ none_loaded disk ledger stage rotation input texts before now (L.Logs fault) tel
 none_loaded disk ledger stage rotation input texts before now (L.Clash name) tells is can not_begun told = told
 none_loaded disk ledger stage rotation input texts before now (L.Run stop) tells is can not_begun told = not_begun
 none_loaded disk ledger stage rotation input texts before now L.Memory tells is can not_begun told = told
+
+-- a run that hadn't begun was told none behind the load
+pub none_begun : (disk : DiskState) (ledger stage : List ℕ) (rotation : Rotation) (input : List ℕ) (texts : List (List ℕ)) (before now : Option Folder) (stop : LedgerStop) → IsNotBegun disk ledger rotation input texts before now stop → IsAtDamage disk ledger stage stop
+none_begun disk ledger stage rotation input texts before now (L.Ledger fault) not_begun = tt
+none_begun disk ledger stage rotation input texts before now (L.Logs fault) not_begun = tt
+none_begun disk ledger stage rotation input texts before now (L.Clash name) not_begun = tt
+none_begun disk ledger stage rotation input texts before now (L.Run stop) not_begun = absurd not_begun
+none_begun disk ledger stage rotation input texts before now L.Memory not_begun = tt

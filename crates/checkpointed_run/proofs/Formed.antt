@@ -1,5 +1,5 @@
 -- What an entry has of a run that was carried out has its form.
-use Rattle.std.proofs.Common.{◌≡◌, ℕ, ◌+◌, ◌<◌, ◌≤◌, ◌^◌, false, List, [], ◌∷◌, length, map, inl, inr, sym, ◌∙◌, ap, subst, arith}
+use Rattle.std.proofs.Common.{◌≡◌, ℕ, ◌+◌, ◌<◌, ◌≤◌, ◌^◌, false, List, [], ◌∷◌, length, map, inl, inr, sym, ◌∙◌, ap, subst, arith, true}
 use Rattle.std.specs.Prelude.{bytes_eq, max, take}
 use Rattle.std.specs.List.{AllByRecursion}
 use Rattle.std.specs.Str.{IsUtf8}
@@ -66,7 +66,7 @@ unfolding last_end
 end_within bytes = omega arith
 
 -- a span that may be read ends in front of the last place of 64 bits
-end_low : (folder : Folder) (span : Span) → IsSpan span → span_end folder span < 2 ^ 64
+end_low : (folder : Folder) (span : Span) → IsSpan span → span_end true folder span < 2 ^ 64
 end_low folder span low =
     let last = end_within (cut_of folder span) in
     let cut = few_taken span.listed (bytes_in folder span.name) in
@@ -79,22 +79,22 @@ end_low folder span low =
     greatest_low a b n first second most = omega (arith, first, second, most)
 
 -- it is taken forwards, to a standing that fits
-pub took_formed : (format : LogFormat) (folder : Folder) (span : Span) → IsSpan span → IsFileName span.identity → IsTook (took_of (lines_in format) folder span)
+pub took_formed : (format : LogFormat) (folder : Folder) (span : Span) → IsSpan span → IsFileName span.identity → IsTook (took_of (lines_in format) true folder span)
 took_formed format folder span low name =
     let place = end_low folder span low in
     record {
       identity = name;
       forward = no_less span.from (last_end (cut_of folder span));
       place = place;
-      fits = standing_fits format (cut_of folder span) (span_end folder span) place;
-      short = standing_short format (cut_of folder span) (span_end folder span);
+      fits = standing_fits format (cut_of folder span) (span_end true folder span) place;
+      short = standing_short format (cut_of folder span) (span_end true folder span);
     }
   where
     no_less : (a b : ℕ) → a ≤ max a b
     no_less a b = omega arith
 
-pub spans_formed : (format : LogFormat) (folder : Folder) (spans : List Span) → AllByRecursion IsSpan spans → AllByRecursion (λ (log : Took). IsFileName log.identity) (map (took_of (lines_in format) folder) spans)
-    → AllByRecursion IsTook (map (took_of (lines_in format) folder) spans)
+pub spans_formed : (format : LogFormat) (folder : Folder) (spans : List Span) → AllByRecursion IsSpan spans → AllByRecursion (λ (log : Took). IsFileName log.identity) (map (took_of (lines_in format) true folder) spans)
+    → AllByRecursion IsTook (map (took_of (lines_in format) true folder) spans)
 spans_formed format folder [] low names = tt
 spans_formed format folder (span ∷ spans) (low, lows) (name, names) = (took_formed format folder span low name, spans_formed format folder spans lows names)
 
@@ -142,13 +142,13 @@ module _ {S : Type 0} (kind : StageKind S) (files : Files) (text : OutputText) (
 
   -- the whole
   pub has_form : (words : List (List ℕ)) (request : Request) (q : Query) (givens : List PlacedGiven) (lists : List (List Value)) (template : Sections) (into : Placed) (folder : Folder) (spans : List Span) (took : List Took) (rows : List (List Value)) (outputs : List Output) (staged : ℕ) (counts : Counts)
-      → IsReadWith words request q givens template into → AllSpans spans IsSpan → length spans ≤ 100_000 → took ≡ map (took_of (lines_in (log_format request.spec request.q)) folder) spans → FilesHold kind files text start rows outputs now → staged < 2 ^ 64
+      → IsReadWith words request q givens template into → AllSpans spans IsSpan → length spans ≤ 100_000 → took ≡ map (took_of (lines_in (log_format request.spec request.q)) true folder) spans → FilesHold kind files text start rows outputs now → staged < 2 ^ 64
       → AreParts request.spec.words request.template lists took outputs counts → HasForm request lists took outputs staged counts
   has_form words request q givens lists template into folder spans took rows outputs staged counts read low few took_is hold small parts =
       let format : LogFormat = log_format request.spec request.q in
       let names : AllByRecursion (λ (log : Took). IsFileName log.identity) took = recursion_from_All (λ (log : Took). IsFileName log.identity) took parts.each_log in
       let written = written_formed rows outputs hold (recursion_from_All IsOutput outputs parts.each_output) in
-      let many : length took ≡ length spans = ap length took_is ∙ length-map spans (took_of (lines_in format) folder) in
+      let many : length took ≡ length spans = ap length took_is ∙ length-map spans (took_of (lines_in format) true folder) in
       record {
         request_fits = request_formed words request q givens lists template into took outputs counts read parts;
         spans = subst (AllByRecursion IsTook) (sym took_is) (spans_formed format folder spans (spans_low spans low) (subst (AllByRecursion (λ (log : Took). IsFileName log.identity)) took_is names));

@@ -125,19 +125,19 @@ is_sound format written folder span bytes place is there starts from standing le
 
 -- what is taken of a sound span goes on from its log's kept place
 pub goes_on : (format : Format) (written : Written) (folder : Folder) (entries : List Entry) (span : Span) (bytes : List ℕ) → written span.identity ≡ Some bytes → folder span.name ≡ Some bytes → IsSound format written folder span
-    → span.from ≡ kept_place span.identity entries → GoesOn format written entries (kept_span (took_of format folder span))
+    → span.from ≡ kept_place span.identity entries → GoesOn format written entries (kept_span (took_of format true folder span))
 goes_on format written folder entries span bytes is there sound from =
     let holds : bytes_in folder span.name ≡ bytes = rw there refl in
     let cut : List ℕ = cut_of folder span in
     let cut_is : cut ≡ take span.listed bytes = ap (take span.listed) holds in
     let last = last_end_is_last cut in
-    let end : span_end folder span ≡ last_end cut = max-eq_right (last.last span.from sound.is_kept.at_end) in
-    let ends_cut : IsLineEnd cut (span_end folder span) = subst (IsLineEnd cut) (sym end) last.ends in
-    let ends : IsLineEnd bytes (span_end folder span) =
-    subst (λ (b : List ℕ). IsLineEnd b (span_end folder span)) (ap (λ (b : List ℕ). b ++ drop span.listed bytes) cut_is ∙ take-append-drop span.listed bytes)
-    (Rattle.lp_model.proofs.Appending.end_stays cut (drop span.listed bytes) (span_end folder span) ends_cut) in
+    let end : span_end true folder span ≡ last_end cut = max-eq_right (last.last span.from sound.is_kept.at_end) in
+    let ends_cut : IsLineEnd cut (span_end true folder span) = subst (IsLineEnd cut) (sym end) last.ends in
+    let ends : IsLineEnd bytes (span_end true folder span) =
+    subst (λ (b : List ℕ). IsLineEnd b (span_end true folder span)) (ap (λ (b : List ℕ). b ++ drop span.listed bytes) cut_is ∙ take-append-drop span.listed bytes)
+    (Rattle.lp_model.proofs.Appending.end_stays cut (drop span.listed bytes) (span_end true folder span) ends_cut) in
     let last_bytes : Rattle.run_model.specs.Logs.IsLastEnd (take span.listed bytes) (last_end cut) = subst (λ (b : List ℕ). Rattle.run_model.specs.Logs.IsLastEnd b (last_end cut)) cut_is last in
-    let standing : standing_at format cut true (span_end folder span) ≡ standing_at format bytes true (span_end folder span) =
+    let standing : standing_at format cut true (span_end true folder span) ≡ standing_at format bytes true (span_end true folder span) =
     ap (λ (t : ℕ). standing_at format cut true t) end
     ∙ (ap (λ (b : List ℕ). standing_at format b true (last_end cut)) cut_is ∙ (standing_at_end bytes span.listed (last_end cut) last_bytes format ∙ ap (λ (t : ℕ). standing_at format bytes true t) (sym end))) in
     record {
@@ -146,5 +146,5 @@ goes_on format written folder entries span bytes is there sound from =
       from_is = from;
       forward = subst (λ (t : ℕ). span.from ≤ t) (sym end) (last.last span.from sound.is_kept.at_end);
       ends = ends;
-      standing_is = ap (standing_layout (span_end folder span)).spell standing;
+      standing_is = ap (standing_layout (span_end true folder span)).spell standing;
     }

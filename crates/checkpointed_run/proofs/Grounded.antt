@@ -119,6 +119,6 @@ module _ (words : List (List ℕ)) (request : Request) (template : Sections) (in
     grounded = record {
       sound = all_sound lines after.written before.folder after.folder entries kept keeps well one_standing (standing_fits (log_format request.spec request.q)) starts_empty are_now.files spans are_now.each (spans_low spans low) shown;
       go_on = all_go_on lines after.written before.folder after.folder entries kept keeps well one_standing (standing_fits (log_format request.spec request.q)) starts_empty are_now.files spans are_now.each (spans_low spans low) shown;
-      apart = are_apart setting.rotation kept.places entries (map (λ name. name.text) (names_in request.q)) before.folder (Some after.folder) spans (λ (span : Span). kept_span (took_of lines after.folder span)) (λ s. refl) are_now;
+      apart = are_apart setting.rotation kept.places entries (map (λ name. name.text) (names_in request.q)) before.folder (Some after.folder) spans (λ (span : Span). kept_span (took_of lines true after.folder span)) (λ s. refl) are_now;
       same_input = same_input;
     }

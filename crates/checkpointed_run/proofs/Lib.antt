@@ -31,6 +31,7 @@ pub mod Values
 pub mod Tested
 pub use Rattle.run_entry.proofs.FormatLemmas
 pub use Rattle.run_entry.proofs.AtOnce
+pub use Rattle.run_entry.proofs.InTurns
 pub use Rattle.run_entry.proofs.OneMeaning
 pub use Rattle.run_entry.proofs.Options
 pub use Rattle.run_entry.proofs.Clashing

@@ -1,5 +1,5 @@
 -- What a run makes of the settled disk on which it was started: the next entry, of what was asked, with its texts staged.
-use Rattle.std.proofs.Common.{◌≡◌, ℕ, ◌+◌, ◌<◌, ◌≤◌, ◌^◌, ◌++◌, List, length, map, Some, refl, sym, ◌∙◌, ap, subst, arith}
+use Rattle.std.proofs.Common.{◌≡◌, ℕ, ◌+◌, ◌<◌, ◌≤◌, ◌^◌, ◌++◌, List, length, map, Some, refl, sym, ◌∙◌, ap, subst, arith, true}
 use Rattle.std.specs.Prelude.{codes}
 use Rattle.disk_model.specs.Disk.{DiskState, IsImage}
 use Rattle.disk_model.specs.Disk.{Files as Contents}
@@ -91,7 +91,7 @@ module _ {D : Type 0} (state : D → DiskState)
   abbrev pub made_entry : Entry
   made_entry = entry state ended words whole template into after_logs.written after_logs.folder spans started now took outputs counts entries files request.q givens lists (Some before.folder) give read_whole carried go whole_law has same ledger_is stage_is shown errors_are mode_is
 
-  pub kept_spans : made_entry.spans ≡ map (λ (span : Span). kept_span (took_of lines after_logs.folder span)) spans
+  pub kept_spans : made_entry.spans ≡ map (λ (span : Span). kept_span (took_of lines true after_logs.folder span)) spans
   kept_spans = spans_are state ended words whole template into after_logs.written after_logs.folder spans started now took outputs counts entries files request.q givens lists (Some before.folder) give read_whole carried go whole_law has same ledger_is stage_is shown errors_are mode_is
 
   abbrev pub listing : AreSpansOf setting.rotation kept.places entries (map (λ name. name.text) (names_in request.q)) (Some before.folder) (Some after_logs.folder) spans
@@ -109,7 +109,7 @@ module _ {D : Type 0} (state : D → DiskState)
   -- the entry lists the logs that are listed
   pub listed : AreListed setting.rotation entries (listing.reached) before.folder after_logs.folder made_entry.spans
   listed = subst (AreListed setting.rotation entries (listing.reached) before.folder after_logs.folder) (sym kept_spans)
-      (are_listed setting.rotation entries kept (map (λ name. name.text) (names_in request.q)) before.folder after_logs.folder spans (map (λ (span : Span). kept_span (took_of lines after_logs.folder span)) spans)
+      (are_listed setting.rotation entries kept (map (λ name. name.text) (names_in request.q)) before.folder after_logs.folder spans (map (λ (span : Span). kept_span (took_of lines true after_logs.folder span)) spans)
       (record { keeps = keeps; numbered = numbered setting.rotation meaning setting.parting before setting.start entries files may.parts may.shows may.known settled })
       listing (are_taken lines after_logs.folder spans))
 

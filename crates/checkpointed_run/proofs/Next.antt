@@ -67,14 +67,14 @@ use Rattle.checkpointed_run.proofs.WithFiles.{NamesDiffer, files_are_with, stage
 
 -- the entry's spans
 
-spans_kept : (format : Format) (folder : Folder) (spans : List Span) (took : List Took) → took ≡ map (took_of format folder) spans → map kept_span took ≡ map (λ (span : Span). kept_span (took_of format folder span)) spans
+spans_kept : (format : Format) (folder : Folder) (spans : List Span) (took : List Took) → took ≡ map (took_of format true folder) spans → map kept_span took ≡ map (λ (span : Span). kept_span (took_of format true folder span)) spans
 spans_kept format folder spans took is = ap (map kept_span) is ∙ twice spans
   where
-    twice : (spans : List Span) → map kept_span (map (took_of format folder) spans) ≡ map (λ (span : Span). kept_span (took_of format folder span)) spans
+    twice : (spans : List Span) → map kept_span (map (took_of format true folder) spans) ≡ map (λ (span : Span). kept_span (took_of format true folder span)) spans
     twice [] = refl
-    twice (s ∷ ss) = ap (λ (l : List EntrySpan). kept_span (took_of format folder s) ∷ l) (twice ss)
+    twice (s ∷ ss) = ap (λ (l : List EntrySpan). kept_span (took_of format true folder s) ∷ l) (twice ss)
 
-parts_are : (format : Format) (written : Written) (folder : Folder) (spans : List Span) → AllByRecursion (IsSound format written folder) spans → ArePartsOf format written folder spans (map (λ (span : Span). kept_span (took_of format folder span)) spans)
+parts_are : (format : Format) (written : Written) (folder : Folder) (spans : List Span) → AllByRecursion (IsSound format written folder) spans → ArePartsOf format written folder spans (map (λ (span : Span). kept_span (took_of format true folder span)) spans)
 parts_are format written folder [] sound = tt
 parts_are format written folder (s ∷ ss) (here, sound) = (record { identity = refl; from = refl; to = refl; shows = here.shows; is_kept = here.is_kept }, parts_are format written folder ss sound)
 
@@ -244,7 +244,7 @@ module _ {D : Type 0} (state : D → DiskState) (ended : Commit D → List ℕ �
   abbrev pub after : Contents
   after = files_with entry.outputs (filter (takes_part (mode_as request.spec.file_mode) before) splits) before
 
-  pub spans_are : entry.spans ≡ map (λ (span : Span). kept_span (took_of lines folder span)) spans
+  pub spans_are : entry.spans ≡ map (λ (span : Span). kept_span (took_of lines true folder span)) spans
   spans_are = spans_kept lines folder spans took (carried.took_is kept)
 
   pub format_is : meaning.format entry.input ≡ lines

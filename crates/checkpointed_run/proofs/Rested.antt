@@ -1,5 +1,7 @@
 -- Settling and reads in front of a run leave what its disk stands for: what holds of the run from then on holds from before them.
 use Rattle.std.proofs.Common.{◌≡◌, ⊎_elim, ℕ, ◌≤◌, List, Option, inl, inr, sym, subst, arith}
+use Rattle.ledger.specs.declared.walking.End.{End}
+use Rattle.commit.specs.Known.{IsReadSince}
 use Rattle.disk_model.specs.Disk.{DiskState, Files, IsImage, Nothing, Works}
 use Rattle.ledger_model.specs.Entries.{Entry}
 use Rattle.ledger.specs.Reader.{Rests}
@@ -19,7 +21,7 @@ use Rattle.tpl_output.specs.Sections.{Sections}
 use Rattle.run_entry.proofs.Keeping.{give_wider}
 use Rattle.run_entry.specs.Entries.{Request}
 use Rattle.checkpointed_run.specs.Committed.{ComesToGate, IsCommitted, StopsAtGate}
-use Rattle.checkpointed_run.specs.Phases.{IsSettledFrom}
+use Rattle.checkpointed_run.specs.Phases.{IsSettledFrom, as_of}
 use Rattle.checkpointed_run.specs.Staged.{HasStagedRun}
 use Rattle.checkpointed_run.specs.declared.running.RunStop.{RunStop}
 
@@ -86,6 +88,16 @@ module _ (a b c : DiskState) (ledger stage : List ℕ)
     seen = λ entries files r. second.seen entries files (first.seen entries files r);
     again = second.again;
   }
+
+-- a commit holds the same reference and the same files as it did
+pub same_of : {D : Type 0} (earlier : D) (c new : Commit D) → Same c new → Same (as_of earlier c) new
+same_of earlier c new same = record { same_reference = same.same_reference; files = same.files }
+
+-- what is known of the disk of a commit is what was known of that disk
+pub held_since : {D : Type 0} (state : D → DiskState) (earlier disk : D) (files : CommitFiles) (known : Option End) (commit : Commit D) → commit.disk.now ≡ disk → commit.files ≡ files → IsReadSince (state earlier) (state disk) files.ledger known
+    → IsReadSince (state earlier) (disk_of state commit) (ledger_of commit) known
+held_since {D = D} state earlier disk files known commit disk_is files_are since =
+    subst (λ (f : CommitFiles). IsReadSince (state earlier) (disk_of state commit) f.ledger known) (sym files_are) (subst (λ (d : D). IsReadSince (state earlier) (state d) files.ledger known) (sym disk_is) since)
 
 -- what was settled and then only read is settled
 module _ {D : Type 0} (state : D → DiskState)

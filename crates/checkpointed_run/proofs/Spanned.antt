@@ -46,7 +46,7 @@ module _ (format : Format) (written : Written) (before folder : Folder) (entries
   all_sound (f ∷ fs) (s ∷ ss) (is, are) (low, lows) (here, shown) = (sound_one f s is low here, all_sound fs ss are lows shown)
 
   pub all_go_on : (files : List Listed) (spans : List Span) → AllZip (IsSpanOf kept.places (Some before) (Some folder)) files spans → AllByRecursion IsSpan spans → AllByRecursion (IsShown written folder) spans
-      → AllByRecursion (GoesOn format written entries) (map (λ (span : Span). kept_span (took_of format folder span)) spans)
+      → AllByRecursion (GoesOn format written entries) (map (λ (span : Span). kept_span (took_of format true folder span)) spans)
   all_go_on [] [] are lows shown = tt
   all_go_on [] (s ∷ ss) are lows shown = absurd are
   all_go_on (f ∷ fs) [] are lows shown = absurd are

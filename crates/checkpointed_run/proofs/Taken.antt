@@ -1,5 +1,5 @@
 -- What entries list of a run, and that they know generations by numbers.
-use Rattle.std.proofs.Common.{◌≡◌, ℕ, List, [], ◌∷◌, map, Some, refl, sym, ◌∙◌, ap, arith}
+use Rattle.std.proofs.Common.{◌≡◌, ℕ, List, [], ◌∷◌, map, Some, refl, sym, ◌∙◌, ap, arith, true}
 use Rattle.std.specs.Prelude.{max}
 use Rattle.std.specs.List.{AllZip}
 use Rattle.disk_model.specs.Disk.{Files}
@@ -19,7 +19,7 @@ use Rattle.run_entry.proofs.Ends.{last_end_is_last}
 use Rattle.run_entry.specs.Entries.{kept_span}
 
 -- what is kept of a span that was taken is what an entry has to list
-pub are_taken : (format : Format) (folder : Folder) (spans : List Span) → AllZip (IsTaken folder) spans (map (λ (span : Span). kept_span (took_of format folder span)) spans)
+pub are_taken : (format : Format) (folder : Folder) (spans : List Span) → AllZip (IsTaken folder) spans (map (λ (span : Span). kept_span (took_of format true folder span)) spans)
 are_taken format folder [] = tt
 are_taken format folder (s ∷ spans) = (
   record { identity_is = refl; end = last_end (cut_of folder s); is_end = last_end_is_last (cut_of folder s); to_is = turned s.from (last_end (cut_of folder s)) },

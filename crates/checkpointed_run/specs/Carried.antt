@@ -22,5 +22,5 @@ use Rattle.run_entry.specs.Entries.{Request}
 -- Its rows stand in the stage, which was empty when it started.
 pub record IsCarriedOut {D : Type 0} (state : D → DiskState) (ended : Commit D → List ℕ → ℕ → Mark → Type 0) (request : Request) (template : Sections) (told : Option Folder) (spans : List Span) (started now : Commit D) (took : List Took) (outputs : List Output) (counts : Counts) : Type 0 where
   pub executed : IsExecuted (log_format request.spec request.q) true told (λ asked rows. Holds (kind_of (stage_state state) ended) asked started rows outputs now) (asked_in request.spec template request.moment request.q spans) request.spec request.moment request.q spans counts
-  pub took_is : Told told (λ folder. AreKept (lines_in (log_format request.spec request.q)) true spans folder → took ≡ map (took_of (lines_in (log_format request.spec request.q)) folder) spans)
+  pub took_is : Told told (λ folder. AreKept (lines_in (log_format request.spec request.q)) true spans folder → took ≡ map (took_of (lines_in (log_format request.spec request.q)) true folder) spans)
   pub within : IsWithin request.spec.errors counts.bad

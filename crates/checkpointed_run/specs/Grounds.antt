@@ -1,5 +1,5 @@
 -- What a run with a checkpoint rests on: how its words and its query are read, and how its spans go on.
-use Rattle.std.specs.Prelude.{◌≡◌, ℕ, false, List, map, Some, IsSome}
+use Rattle.std.specs.Prelude.{◌≡◌, ℕ, true, false, List, map, Some, IsSome}
 use Rattle.std.specs.List.{AllByRecursion}
 use Rattle.grammar.specs.Trees.{Placed}
 use Rattle.lp_model.specs.Outside.{Folder}
@@ -40,6 +40,6 @@ pub record IsRead (words : List (List ℕ)) (request : Request) (template : Sect
 -- the spans of a run: each is sound, and what was taken of it goes on from the entries before
 pub record GoOn (request : Request) (written : Written) (folder : Folder) (entries : List Entry) (spans : List Span) : Type 0 where
   pub sound : AllByRecursion (IsSound (lines_in (log_format request.spec request.q)) written folder) spans
-  pub go_on : AllByRecursion (GoesOn (lines_in (log_format request.spec request.q)) written entries) (map (λ (span : Span). kept_span (took_of (lines_in (log_format request.spec request.q)) folder span)) spans)
-  pub apart : AreApart (map (λ (span : Span). kept_span (took_of (lines_in (log_format request.spec request.q)) folder span)) spans)
+  pub go_on : AllByRecursion (GoesOn (lines_in (log_format request.spec request.q)) written entries) (map (λ (span : Span). kept_span (took_of (lines_in (log_format request.spec request.q)) true folder span)) spans)
+  pub apart : AreApart (map (λ (span : Span). kept_span (took_of (lines_in (log_format request.spec request.q)) true folder span)) spans)
   pub same_input : AllByRecursion (λ (other : Entry). other.input ≡ input_text (input_for request.spec request.q)) entries

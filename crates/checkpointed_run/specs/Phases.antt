@@ -15,6 +15,10 @@ use Rattle.commit.specs.Phases.{disk_of, ledger_of, stage_of, Same, Unsettled, S
 use Rattle.commit.specs.Redo.{frames_in}
 use Rattle.commit.specs.States.{ShowsFiles}
 
+-- a commit with its disk as it was at an earlier moment
+abbrev pub as_of : {D : Type 0} → D → Commit D → Commit D
+as_of earlier c = record { disk = record { ref_ptr = c.disk.ref_ptr; ghost_name = c.disk.ghost_name; now = earlier }; files = c.files; place = c.place; staged = c.staged; next = c.next; low = c.low; within = c.within; behind = c.behind }
+
 -- the disk was settled
 pub record IsSettledFrom {D : Type 0} (state : D → DiskState) (old new : Commit D) : Type 0 where
   pub same : Same old new

@@ -3,7 +3,7 @@ use Rattle.std.specs.Prelude.{ℕ, true, List, Option}
 use Rattle.std.specs.Bool.{⊤}
 use Rattle.commit.specs.Faults.{BreaksAt, FitsWhole, IsApart}
 use Rattle.disk_model.specs.Disk.{DiskState}
-use Rattle.run_entry.specs.Executed.{IsParseError, IsUnplaced, IsUnplanned}
+use Rattle.run_entry.specs.Executed.{IsParseError, IsTypedInTurn, IsUnplaced, IsUnplanned}
 use Rattle.run_entry.specs.Formats.{log_format}
 use Rattle.run_entry.specs.Outputs.{asked_in}
 use Rattle.run_entry.specs.RunFault.{RunFault}
@@ -20,13 +20,13 @@ use Rattle.checkpointed_run.specs.Filled.{IsBehind}
 use Rattle.checkpointed_run.specs.declared.running.RunStop.{RunStop}
 use Rattle.checkpointed_run.specs.declared.running.RunStop.TheVariants as R
 
--- the query has no plan, an output has no place, or a bad line of the spans is one too many
+-- the query has no plan, an output has no place, or a bad line of the spans is one too many, each in its turn
 abbrev pub RefusedFor : Request → Sections → Option Folder → List Span → RunFault → Type 0
-RefusedFor request template told spans (X.Plan fault) = IsUnplanned (log_format request.spec request.q) true told request.spec request.moment request.q spans fault
+RefusedFor request template told spans (X.Plan fault) = IsUnplanned (log_format request.spec request.q) true told request.spec request.moment request.q spans fault × IsTypedInTurn (log_format request.spec request.q) true told request.spec request.q spans
 RefusedFor request template told spans (X.Refused why) = IsUnplaced (log_format request.spec request.q) true told (asked_in request.spec template request.moment request.q spans) request.spec request.moment request.q spans why
 RefusedFor request template told spans X.LogsFault = ⊤
 RefusedFor request template told spans X.StageFault = ⊤
-RefusedFor request template told spans (X.ParseErrors log row) = IsParseError (log_format request.spec request.q) true told (asked_in request.spec template request.moment request.q spans) request.spec request.moment request.q spans (bad_line log row)
+RefusedFor request template told spans (X.ParseErrors log row) = IsParseError (log_format request.spec request.q) true told ⊤ (asked_in request.spec template request.moment request.q spans) request.spec request.moment request.q spans (bad_line log row)
 RefusedFor request template told spans X.Memory = ⊤
 
 -- so it is with what the subqueries gave before, where the fault tells anything

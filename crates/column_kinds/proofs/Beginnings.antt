@@ -15,14 +15,14 @@ use Rattle.column_kinds.specs.Kept.{found_in, met_in}
 use Rattle.column_kinds.specs.Laws.{IsTaker, rows_of-append, told_stays}
 use Rattle.column_kinds.specs.Makers.{OnRefused, stop_unmade}
 use Rattle.column_kinds.specs.Past.{Past, Later, IsTold}
-use Rattle.column_kinds.specs.Sampling.{SampleKind, Rules, Asks, Begun, Gathers, IsFront, IsStop, StopsAs, PhaseHolds, TakesOn, rows_of, told_by}
+use Rattle.column_kinds.specs.Sampling.{SampleKind, Rules, Asks, Begun, IsFront, IsStop, KeepsRecords, StopsAs, PhaseKeeps, TakesOn, rows_of, told_by}
 
 pub rows_kept : (rows : List KeptRow) → map met_in rows ≡ rows_of (map found_in rows)
 rows_kept [] = refl
 rows_kept (row ∷ rows) = ap (λ t. met_in row ∷ t) (rows_kept rows)
 
 told_same : {M O : Type 0} (limit : ℕ) (pattern : List Piece) (rules : Rules M) (start now : O) (past : Past) (gathering : Gathering M)
-    → Asks limit pattern rules → Gathers rules start past gathering now → judged limit pattern gathering.first (map found_in gathering.rows) ≡ told_by rules past
+    → Asks limit pattern rules → KeepsRecords rules start past gathering now → judged limit pattern gathering.first (map found_in gathering.rows) ≡ told_by rules past
 told_same limit pattern rules start now past gathering asks gathers =
     ap (λ n. judged n pattern gathering.first (map found_in gathering.rows)) asks.limit_is
     ∙ (ap (λ p. judged rules.limit p gathering.first (map found_in gathering.rows)) asks.pattern_is
@@ -30,14 +30,14 @@ told_same limit pattern rules start now past gathering asks gathers =
 
 -- the taker was made for the columns that the records tell
 made_is : {M T O : Type 0} (kind : SampleKind M T O) (limit : ℕ) (pattern : List Piece) (rules : Rules M) (start now : O) (past : Past) (gathering : Gathering M) (made : T)
-    → kind.makes gathering.maker (judged limit pattern gathering.first (map found_in gathering.rows)) made → Asks limit pattern rules → Gathers rules start past gathering now → kind.makes rules.maker (told_by rules past) made
+    → kind.makes gathering.maker (judged limit pattern gathering.first (map found_in gathering.rows)) made → Asks limit pattern rules → KeepsRecords rules start past gathering now → kind.makes rules.maker (told_by rules past) made
 made_is {M = M} kind limit pattern rules start now past gathering made makes asks gathers =
     let Of : M → Judged → Type 0 = λ maker told. kind.makes maker told made in
     subst (λ (maker : M). Of maker (told_by rules past)) gathers.maker (subst (Of gathering.maker) (told_same limit pattern rules start now past gathering asks gathers) makes)
 
 pub begun_is : {M T O : Type 0} (kind : SampleKind M T O) (limit : ℕ) (pattern : List Piece) (gathering : Gathering M) (made taker : T) (u v : O)
     → kind.makes gathering.maker (judged limit pattern gathering.first (map found_in gathering.rows)) made → kind.takes made u (map met_in gathering.rows) taker v
-    → (rules : Rules M) (start : O) (past : Past) → Asks limit pattern rules → Gathers rules start past gathering u → Begun kind rules start past taker v
+    → (rules : Rules M) (start : O) (past : Past) → Asks limit pattern rules → KeepsRecords rules start past gathering u → Begun kind rules start past taker v
 begun_is {O = O} kind limit pattern gathering made taker u v makes takes rules start past asks gathers =
     let Of : O → List Met → Type 0 = λ out mets. kind.takes made out mets taker v in
     record {
@@ -49,7 +49,7 @@ begun_is {O = O} kind limit pattern gathering made taker u v makes takes rules s
 -- it stopped within what was kept, whatever comes behind it
 pub begun_within : {M T O : Type 0} (kind : SampleKind M T O) (laws : IsTaker kind) (limit : ℕ) (pattern : List Piece) (gathering : Gathering M) (made last : T) (u v : O)
     → kind.makes gathering.maker (judged limit pattern gathering.first (map found_in gathering.rows)) made → kind.stops made u (map met_in gathering.rows) last v
-    → (rules : Rules M) (start : O) (past later : Past) → Asks limit pattern rules → Gathers rules start past gathering u → Later past later → told_by rules later ≡ told_by rules past → StopsAs kind rules start later last v
+    → (rules : Rules M) (start : O) (past later : Past) → Asks limit pattern rules → KeepsRecords rules start past gathering u → Later past later → told_by rules later ≡ told_by rules past → StopsAs kind rules start later last v
 begun_within {O = O} kind laws limit pattern gathering made last u v makes stops rules start past later asks gathers follows stays =
     let Of : O → List Met → Type 0 = λ out mets. kind.stops made out mets last v in
     let here : Of start (rows_of past.founds) = subst (λ (out : O). Of out (rows_of past.founds)) gathers.nothing (subst (Of u) (rows_kept gathering.rows ∙ ap rows_of gathers.rows) stops) in
@@ -62,7 +62,7 @@ begun_within {O = O} kind laws limit pattern gathering made last u v makes stops
 -- no taker was made
 pub nothing_begun : {M T O : Type 0} (kind : SampleKind M T O) (limit : ℕ) (pattern : List Piece) (gathering : Gathering M) (unmade : Unmade) (u : O)
     → OnRefused unmade (kind.refuses gathering.maker (judged limit pattern gathering.first (map found_in gathering.rows)))
-    → (rules : Rules M) (start : O) (past later : Past) → Asks limit pattern rules → Gathers rules start past gathering u → told_by rules later ≡ told_by rules past → IsStop kind rules start later (stop_unmade unmade) u
+    → (rules : Rules M) (start : O) (past later : Past) → Asks limit pattern rules → KeepsRecords rules start past gathering u → told_by rules later ≡ told_by rules past → IsStop kind rules start later (stop_unmade unmade) u
 nothing_begun {M = M} kind limit pattern gathering (U.Refused fault) u refused rules start past later asks gathers stays =
     let Of : M → Judged → Type 0 = λ maker told. kind.refuses maker told fault in
     record {
@@ -78,15 +78,22 @@ failed_begun kind rules start later last v stops = inr (record { last = last; st
 -- ---- the turn from keeping records to having them taken
 
 pub turned : {M T O : Type 0} (kind : SampleKind M T O) (limit : ℕ) (pattern : List Piece) (phase : Phase M T) (gathering : Gathering M) (taker : T) (u v : O) → phase ≡ P.Gathering gathering
-    → ((rules : Rules M) (start : O) (past : Past) → Asks limit pattern rules → Gathers rules start past gathering u → Begun kind rules start past taker v)
-    → (rules : Rules M) (start : O) (past : Past) → Asks limit pattern rules → PhaseHolds kind rules start past phase u → IsTold rules.limit past → TakesOn kind rules start past taker v
+    → ((rules : Rules M) (start : O) (past : Past) → Asks limit pattern rules → KeepsRecords rules start past gathering u → Begun kind rules start past taker v)
+    → (rules : Rules M) (start : O) (past : Past) → Asks limit pattern rules → PhaseKeeps rules start past phase u → IsTold rules.limit past → TakesOn kind rules start past taker v
 turned {M = M} {T = T} kind limit pattern phase gathering taker u v is begun rules start past asks holds told =
-    let Of : Phase M T → Type 0 = λ p. PhaseHolds kind rules start past p u in
+    let Of : Phase M T → Type 0 = λ p. PhaseKeeps rules start past p u in
     record { told = told; begun = begun rules start past asks (subst Of is holds) }
 
 pub turn_stopped : {M T O : Type 0} (kind : SampleKind M T O) (limit : ℕ) (pattern : List Piece) (phase : Phase M T) (gathering : Gathering M) (stop : Stop T) (u v : O) → phase ≡ P.Gathering gathering
-    → ((rules : Rules M) (start : O) (past later : Past) → Asks limit pattern rules → Gathers rules start past gathering u → Later past later → told_by rules later ≡ told_by rules past → IsStop kind rules start later stop v)
-    → (rules : Rules M) (start : O) (past later : Past) → Asks limit pattern rules → PhaseHolds kind rules start past phase u → IsTold rules.limit past → Later past later → IsStop kind rules start later stop v
+    → ((rules : Rules M) (start : O) (past later : Past) → Asks limit pattern rules → KeepsRecords rules start past gathering u → Later past later → told_by rules later ≡ told_by rules past → IsStop kind rules start later stop v)
+    → (rules : Rules M) (start : O) (past later : Past) → Asks limit pattern rules → PhaseKeeps rules start past phase u → IsTold rules.limit past → Later past later → IsStop kind rules start later stop v
 turn_stopped {M = M} {T = T} kind limit pattern phase gathering stop u v is stopped rules start past later asks holds told follows =
-    let Of : Phase M T → Type 0 = λ p. PhaseHolds kind rules start past p u in
+    let Of : Phase M T → Type 0 = λ p. PhaseKeeps rules start past p u in
     stopped rules start past later asks (subst Of is holds) follows (told_stays rules past later told follows)
+
+-- while records are kept nothing has come out
+pub keeps_front : {M T O : Type 0} (kind : SampleKind M T O) (rules : Rules M) (start now : O) (past later : Past) (phase : Phase M T) → PhaseKeeps rules start past phase now → IsFront kind rules start later now
+keeps_front kind rules start now past later (P.Gathering gathering) keeps = inl keeps.nothing
+keeps_front kind rules start now past later (P.Taking taker) keeps = absurd keeps
+keeps_front kind rules start now past later (P.Refused fault) keeps = absurd keeps
+keeps_front kind rules start now past later P.Lost keeps = absurd keeps

@@ -12,7 +12,7 @@ use Rattle.log_reading.specs.declared.span.Span.{Span}
 use Rattle.log_reading.specs.Spans.{AreKept, IsKept, cut_of, span_found, spans_found}
 use Rattle.log_reading.proofs.Ending.{standing_at_cut}
 use Rattle.column_kinds.specs.declared.kept.FirstLog.{FirstLog}
-use Rattle.column_kinds.specs.Past.{Past, first_seen, log_with, or_first}
+use Rattle.column_kinds.specs.Past.{Past, first_seen, log_with, nothing, or_first}
 use Rattle.column_kinds.specs.Spans.{first_log, past_behind, past_behind_span, past_of, span_first}
 use Rattle.column_kinds.proofs.SetsOnce.{SetsOnce, first_told}
 
@@ -63,5 +63,11 @@ behind_joined format sets waits folder past (span ∷ spans) kept =
 
 -- behind all spans of a run
 pub behind_all : (format : Format) → SetsOnce format → (waits : Bool) (folder : Folder) (spans : List Span) → AreKept format waits spans folder
-    → past_behind format waits folder (record { first = None; founds = [] }) spans ≡ past_of format waits folder spans
-behind_all format sets waits folder spans kept = behind_joined format sets waits folder (record { first = None; founds = [] }) spans kept
+    → past_behind format waits folder nothing spans ≡ past_of format waits folder spans
+behind_all format sets waits folder spans kept = behind_joined format sets waits folder nothing spans kept
+
+-- the records behind spans are those before and those of the spans
+pub behind_founds : (format : Format) (waits : Bool) (folder : Folder) (past : Past) (spans : List Span) → (past_behind format waits folder past spans).founds ≡ past.founds ++ spans_found format waits folder spans
+behind_founds format waits folder past [] = sym (append-nil past.founds)
+behind_founds format waits folder past (span ∷ spans) =
+    behind_founds format waits folder (past_behind_span format waits folder past span) spans ∙ append_assoc past.founds (span_found format waits folder span) (spans_found format waits folder spans)

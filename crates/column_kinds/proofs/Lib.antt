@@ -8,3 +8,5 @@ mod Beginnings
 mod Records
 mod Noted
 pub mod Taken
+pub mod UpTo
+pub mod InTurn

@@ -7,9 +7,10 @@ use Rattle.column_kinds.specs.declared.phase.Phase.{Phase}
 use Rattle.column_kinds.specs.declared.phase.Phase.TheVariants as P
 use Rattle.column_kinds.specs.declared.phase.Sampled.{Sampled}
 use Rattle.column_kinds.specs.Kept.{found_in}
-use Rattle.column_kinds.specs.Laws.{Halts, IsTaker, later_noted, later_trans, phase_stopped}
+use Rattle.column_kinds.specs.Laws.{Halts, IsTaker, judged_so, later_noted, later_trans, phase_judged, phase_stopped, told_later}
 use Rattle.column_kinds.specs.Noting.{Notes, NotesIn}
-use Rattle.column_kinds.specs.Past.{Past, log_with, noted, or_first}
+use Rattle.column_kinds.specs.Past.{Past, IsTold, log_with, noted, or_first}
+use Rattle.column_kinds.specs.Phases.{OnJudged}
 use Rattle.column_kinds.specs.Sampling.{SampleKind, Rules, Holds, PhaseHolds, PhaseStopped, TakesOn}
 
 noted_known : (past : Past) (log : FirstLog) (identity : List ℕ) (columns : Option Columns) → past.first ≡ Some log → noted past identity columns ≡ past
@@ -21,10 +22,13 @@ noted_known past log identity columns known =
 notes_phase : {M T O : Type 0} (kind : SampleKind M T O) (rules : Rules M) (start : O) (past : Past) (identity : List ℕ) (columns : Option Columns) (old new : Phase M T) (now : O)
     → NotesIn identity columns old new → PhaseHolds kind rules start past old now → PhaseHolds kind rules start (noted past identity columns) new now
 notes_phase kind rules start past identity columns (P.Gathering old) (P.Gathering new) now notes holds = record {
-  maker = notes.maker ∙ holds.maker;
-  first = notes.first ∙ ap (λ (f : Option FirstLog). or_first f (log_with identity columns)) holds.first;
-  rows = ap (map found_in) notes.rows ∙ holds.rows;
-  nothing = holds.nothing;
+  kept = record {
+    maker = notes.maker ∙ holds.kept.maker;
+    first = notes.first ∙ ap (λ (f : Option FirstLog). or_first f (log_with identity columns)) holds.kept.first;
+    rows = ap (map found_in) notes.rows ∙ holds.kept.rows;
+    nothing = holds.kept.nothing;
+  };
+  waiting = holds.waiting;
 }
 notes_phase kind rules start past identity columns (P.Gathering old) (P.Taking taker) now notes holds = absurd notes
 notes_phase kind rules start past identity columns (P.Gathering old) (P.Refused fault) now notes holds = absurd notes
@@ -51,4 +55,9 @@ ended_lost {M = M} {T = T} kind laws old new now identity columns same = record 
   within = λ rules start past holds later follows.
       let Of : Phase M T → Type 0 = λ p. PhaseStopped kind rules start later p now in
       subst Of (sym same) (phase_stopped kind laws rules start now past later old.phase (later_trans past (noted past identity columns) later (later_noted past identity columns) follows) holds.phase);
+  judged = λ rules start past holds.
+      let next = noted past identity columns in
+      let Of : Phase M T → Type 0 = λ p. OnJudged p (IsTold rules.limit next) in
+      subst Of (sym same)
+      (judged_so old.phase (IsTold rules.limit past) (IsTold rules.limit next) (λ is. told_later rules.limit past next is (later_noted past identity columns)) (phase_judged kind rules start now past old.phase holds.phase));
 }

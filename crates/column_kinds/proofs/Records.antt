@@ -11,20 +11,27 @@ use Rattle.column_kinds.specs.declared.phase.Phase.TheVariants as P
 use Rattle.column_kinds.specs.declared.phase.Sampled.{Sampled}
 use Rattle.column_kinds.specs.Kept.{found_in}
 use Rattle.column_kinds.specs.Laws.{Halts, IsTaker, later_with, rows_of-append, told_stays}
-use Rattle.column_kinds.specs.Past.{Past, Later, IsTold, first_seen, log_of, past_with}
-use Rattle.column_kinds.specs.Sampling.{SampleKind, Rules, Asks, Gathers, Holds, PhaseHolds, PhaseStopped, TakesOn, StopsAs, rows_of}
+use Rattle.column_kinds.specs.Past.{Past, AreEnough, Later, IsTold, first_seen, log_of, past_with}
+use Rattle.column_kinds.specs.Sampling.{SampleKind, Rules, Asks, Holds, KeepsRecords, PhaseHolds, PhaseStopped, TakesOn, StopsAs, rows_of}
 
 -- ---- a record that is kept
 
-gathers_more : {M O : Type 0} (rules : Rules M) (start now : O) (past : Past) (old new : Gathering M) (found : Found)
+keeps_more : {M O : Type 0} (rules : Rules M) (start now : O) (past : Past) (old new : Gathering M) (found : Found)
     → new.first ≡ first_seen old.first (found ∷ []) → map found_in new.rows ≡ map found_in old.rows ++ found ∷ [] → new.maker ≡ old.maker
-    → Gathers rules start past old now → Gathers rules start (past_with past (found ∷ [])) new now
-gathers_more rules start now past old new found first rows maker gathers = record {
-  maker = maker ∙ gathers.maker;
-  first = first ∙ ap (λ (f : Option FirstLog). first_seen f (found ∷ [])) gathers.first;
-  rows = rows ∙ ap (λ t. t ++ found ∷ []) gathers.rows;
-  nothing = gathers.nothing;
+    → KeepsRecords rules start past old now → KeepsRecords rules start (past_with past (found ∷ [])) new now
+keeps_more rules start now past old new found first rows maker keeps = record {
+  maker = maker ∙ keeps.maker;
+  first = first ∙ ap (λ (f : Option FirstLog). first_seen f (found ∷ [])) keeps.first;
+  rows = rows ∙ ap (λ t. t ++ found ∷ []) keeps.rows;
+  nothing = keeps.nothing;
 }
+
+-- where fewer records are kept than kinds are judged from, the sample isn't there
+still_few : {M O : Type 0} (rules : Rules M) (start now : O) (past : Past) (limit : ℕ) (last : Gathering M) → limit ≡ rules.limit → (limit ≤ length last.rows → ⊥) → KeepsRecords rules start past last now → AreEnough rules.limit past.founds → ⊥
+still_few rules start now past limit last same few keeps are =
+    let size : length last.rows ≡ length past.founds = sym (length-map last.rows found_in) ∙ ap length keeps.rows in
+    let enough = are.1 in
+    few (omega arith)
 
 log_known : (first : Option FirstLog) (found : Found) → (log : FirstLog) × (first_seen first (found ∷ []) ≡ Some log)
 log_known (Some log) found = (log, refl)
@@ -32,10 +39,10 @@ log_known None found = (log_of found, refl)
 
 -- with the last record the columns are told
 told_now : {M O : Type 0} (rules : Rules M) (start now : O) (past : Past) (new : Gathering M) (found : Found)
-    → rules.limit ≤ length new.rows → Gathers rules start (past_with past (found ∷ [])) new now → IsTold rules.limit (past_with past (found ∷ []))
-told_now rules start now past new found enough gathers =
+    → rules.limit ≤ length new.rows → KeepsRecords rules start (past_with past (found ∷ [])) new now → IsTold rules.limit (past_with past (found ∷ []))
+told_now rules start now past new found enough keeps =
     let known = log_known past.first found in
-    let kept : length new.rows ≡ length (past.founds ++ found ∷ []) = sym (length-map new.rows found_in) ∙ ap length gathers.rows in
+    let kept : length new.rows ≡ length (past.founds ++ found ∷ []) = sym (length-map new.rows found_in) ∙ ap length keeps.rows in
     let size = length-append past.founds (found ∷ []) in
     record { log = known.0; known = known.1; some = omega arith; enough = omega arith }
 
@@ -135,38 +142,67 @@ halts_handed kind laws old first last u v is stops rules start past holds later 
     }
 
 pub samples_gathering : {M T O : Type 0} (kind : SampleKind M T O) (old : Sampled M T) (first last : Gathering M) (u : O) (found : Found)
-    → old.phase ≡ P.Gathering first → last.first ≡ first_seen first.first (found ∷ []) → map found_in last.rows ≡ map found_in first.rows ++ found ∷ [] → last.maker ≡ first.maker
+    → old.phase ≡ P.Gathering first → last.first ≡ first_seen first.first (found ∷ []) → map found_in last.rows ≡ map found_in first.rows ++ found ∷ [] → last.maker ≡ first.maker → (old.limit ≤ length last.rows → ⊥)
     → SamplesTo kind old u found (P.Gathering last) u
-samples_gathering kind old first last u found is log rows maker = λ rules start past holds.
-    gathers_more rules start u past first last found log rows maker (phase_is kind rules start u past old (P.Gathering first) is holds)
+samples_gathering kind old first last u found is log rows maker few = λ rules start past holds.
+    let keeps = keeps_more rules start u past first last found log rows maker (phase_is kind rules start u past old (P.Gathering first) is holds).kept in
+    record { kept = keeps; waiting = still_few rules start u (past_with past (found ∷ [])) old.limit last holds.asks.limit_is few keeps }
 
 -- a record that couldn't be kept
 pub halts_gathering : {M T O : Type 0} (kind : SampleKind M T O) (old : Sampled M T) (first last : Gathering M) (u : O) (found : Found) → old.phase ≡ P.Gathering first → HaltsAt kind old u found (P.Gathering last) u
 halts_gathering kind old first last u found is = λ rules start past holds later follows.
-    inl (phase_is kind rules start u past old (P.Gathering first) is holds).nothing
+    inl (phase_is kind rules start u past old (P.Gathering first) is holds).kept.nothing
 
 -- the record with which the columns are told
 pub samples_turning : {M T O : Type 0} (kind : SampleKind M T O) (old : Sampled M T) (new : Phase M T) (first last : Gathering M) (u v : O) (found : Found)
     → old.phase ≡ P.Gathering first → last.first ≡ first_seen first.first (found ∷ []) → map found_in last.rows ≡ map found_in first.rows ++ found ∷ [] → last.maker ≡ first.maker → old.limit ≤ length last.rows
-    → ((rules : Rules M) (start : O) (past : Past) → Asks old.limit old.pattern.now rules → Gathers rules start past last u → IsTold rules.limit past → PhaseHolds kind rules start past new v)
+    → ((rules : Rules M) (start : O) (past : Past) → Asks old.limit old.pattern.now rules → KeepsRecords rules start past last u → IsTold rules.limit past → PhaseHolds kind rules start past new v)
     → SamplesTo kind old u found new v
 samples_turning kind old new first last u v found is log rows maker enough turned = λ rules start past holds.
-    let gathers = gathers_more rules start u past first last found log rows maker (phase_is kind rules start u past old (P.Gathering first) is holds) in
+    let keeps = keeps_more rules start u past first last found log rows maker (phase_is kind rules start u past old (P.Gathering first) is holds).kept in
     let limit = holds.asks.limit_is in
-    turned rules start (past_with past (found ∷ [])) holds.asks gathers (told_now rules start u past last found (omega arith) gathers)
+    turned rules start (past_with past (found ∷ [])) holds.asks keeps (told_now rules start u past last found (omega arith) keeps)
 
 pub halts_turning : {M T O : Type 0} (kind : SampleKind M T O) (old : Sampled M T) (new : Phase M T) (first last : Gathering M) (u v : O) (found : Found)
     → old.phase ≡ P.Gathering first → last.first ≡ first_seen first.first (found ∷ []) → map found_in last.rows ≡ map found_in first.rows ++ found ∷ [] → last.maker ≡ first.maker → old.limit ≤ length last.rows
-    → ((rules : Rules M) (start : O) (past later : Past) → Asks old.limit old.pattern.now rules → Gathers rules start past last u → IsTold rules.limit past → Later past later → PhaseStopped kind rules start later new v)
+    → ((rules : Rules M) (start : O) (past later : Past) → Asks old.limit old.pattern.now rules → KeepsRecords rules start past last u → IsTold rules.limit past → Later past later → PhaseStopped kind rules start later new v)
     → HaltsAt kind old u found new v
 halts_turning kind old new first last u v found is log rows maker enough stopped = λ rules start past holds later follows.
-    let gathers = gathers_more rules start u past first last found log rows maker (phase_is kind rules start u past old (P.Gathering first) is holds) in
+    let keeps = keeps_more rules start u past first last found log rows maker (phase_is kind rules start u past old (P.Gathering first) is holds).kept in
     let limit = holds.asks.limit_is in
-    stopped rules start (past_with past (found ∷ [])) later holds.asks gathers (told_now rules start u past last found (omega arith) gathers) follows
+    stopped rules start (past_with past (found ∷ [])) later holds.asks keeps (told_now rules start u past last found (omega arith) keeps) follows
+
+-- ---- where the columns are judged
+
+-- whatever the records before, the sample is there with this one
+abbrev pub JudgedAt : {M T O : Type 0} → SampleKind M T O → Sampled M T → O → Found → Type 0
+JudgedAt {M = M} {O = O} kind old before found = (rules : Rules M) (start : O) (past : Past) → Holds kind rules start past old before → IsTold rules.limit (past_with past (found ∷ []))
+
+pub judged_taking : {M T O : Type 0} (kind : SampleKind M T O) (old : Sampled M T) (first : T) (u : O) (found : Found) → old.phase ≡ P.Taking first → JudgedAt kind old u found
+judged_taking kind old first u found is = λ rules start past holds.
+    told_more rules.limit past (found ∷ []) (phase_is kind rules start u past old (P.Taking first) is holds).told
+
+pub judged_turning : {M T O : Type 0} (kind : SampleKind M T O) (old : Sampled M T) (first last : Gathering M) (u : O) (found : Found)
+    → old.phase ≡ P.Gathering first → last.first ≡ first_seen first.first (found ∷ []) → map found_in last.rows ≡ map found_in first.rows ++ found ∷ [] → last.maker ≡ first.maker → old.limit ≤ length last.rows
+    → JudgedAt kind old u found
+judged_turning kind old first last u found is log rows maker enough = λ rules start past holds.
+    let keeps = keeps_more rules start u past first last found log rows maker (phase_is kind rules start u past old (P.Gathering first) is holds).kept in
+    let limit = holds.asks.limit_is in
+    told_now rules start u past last found (omega arith) keeps
+
+-- nothing was met
+pub judged_handed : {M T O : Type 0} (kind : SampleKind M T O) (old : Sampled M T) (first : T) (u : O) → old.phase ≡ P.Taking first → (rules : Rules M) (start : O) (past : Past) → Holds kind rules start past old u → IsTold rules.limit past
+judged_handed kind old first u is rules start past holds = (phase_is kind rules start u past old (P.Taking first) is holds).told
 
 -- nothing is taken behind a refusal
 pub halts_refused : {M T O : Type 0} (kind : SampleKind M T O) (old new : Sampled M T) (u v : O) (mets : List Met) (fault : TypeFault) → old.phase ≡ P.Refused fault → Halts kind old u mets new v
-halts_refused kind old new u v mets fault is = record { within = λ rules start past holds later follows. absurd (phase_is kind rules start u past old (P.Refused fault) is holds) }
+halts_refused kind old new u v mets fault is = record {
+  within = λ rules start past holds later follows. absurd (phase_is kind rules start u past old (P.Refused fault) is holds);
+  judged = λ rules start past holds. absurd (phase_is kind rules start u past old (P.Refused fault) is holds);
+}
 
 pub halts_lost : {M T O : Type 0} (kind : SampleKind M T O) (old new : Sampled M T) (u v : O) (mets : List Met) → old.phase ≡ P.Lost → Halts kind old u mets new v
-halts_lost kind old new u v mets is = record { within = λ rules start past holds later follows. absurd (phase_is kind rules start u past old P.Lost is holds) }
+halts_lost kind old new u v mets is = record {
+  within = λ rules start past holds later follows. absurd (phase_is kind rules start u past old P.Lost is holds);
+  judged = λ rules start past holds. absurd (phase_is kind rules start u past old P.Lost is holds);
+}

@@ -10,7 +10,7 @@ use Rattle.log_reading.specs.Found.{Found, found_of}
 use Rattle.column_kinds.specs.declared.kept.FirstLog.{FirstLog}
 use Rattle.column_kinds.specs.Past.{columns_or, first_seen, log_with, or_first}
 
-found_of-append : (identity : List ℕ) (xs ys : List Record) → found_of identity (xs ++ ys) ≡ found_of identity xs ++ found_of identity ys
+pub found_of-append : (identity : List ℕ) (xs ys : List Record) → found_of identity (xs ++ ys) ≡ found_of identity xs ++ found_of identity ys
 found_of-append identity xs ys = map-append _ xs ys
 
 pub record SetsOnce (format : Format) : Type 0 where

@@ -1,6 +1,6 @@
 -- How a taker behind a sample takes records, and what follows.
-use Rattle.std.specs.Prelude.{◌≡◌, ℕ, List, [], ◌∷◌, ◌++◌, Option, Some, None}
-use Rattle.std.proofs.Common.{ap, ap₂, sym, ◌∙◌, refl, subst, append_assoc, inl, inr}
+use Rattle.std.specs.Prelude.{◌≡◌, ◌+◌, ℕ, List, [], ◌∷◌, ◌++◌, length, Option, Some, None}
+use Rattle.std.proofs.Common.{ap, ap₂, sym, ◌∙◌, refl, subst, append_assoc, inl, inr, arith, length-append}
 use Rattle.std.proofs.lemmas.List.{append-nil, map-append}
 use Rattle.log_reading.specs.Found.{Found, Met, row_met, log_ended}
 use Rattle.column_kinds.specs.declared.judging.Judged.{Judged}
@@ -10,6 +10,7 @@ use Rattle.column_kinds.specs.declared.phase.Phase.TheVariants as P
 use Rattle.column_kinds.specs.declared.phase.Sampled.{Sampled}
 use Rattle.column_kinds.specs.Judged.{judged}
 use Rattle.column_kinds.specs.Past.{Past, Later, IsTold, first_seen, past_with, or_first, log_with, noted, past_met}
+use Rattle.column_kinds.specs.Phases.{OnJudged}
 use Rattle.column_kinds.specs.Sampling.{SampleKind, Rules, told_by, rows_of, Begun, PhaseHolds, Holds, IsFront, StopsAs, PhaseStopped}
 use Rattle.column_kinds.specs.Staying.{judged_stays}
 
@@ -17,9 +18,10 @@ use Rattle.column_kinds.specs.Staying.{judged_stays}
 pub record Samples {M T O : Type 0} (kind : SampleKind M T O) (old : Sampled M T) (before : O) (mets : List Met) (new : Sampled M T) (now : O) : Type 0 where
   pub along : (rules : Rules M) (start : O) (past : Past) → Holds kind rules start past old before → Holds kind rules start (past_met past mets) new now
 
--- whatever is known before and whatever follows, it has stopped within what is met here
+-- whatever is known before and whatever follows, it has stopped within what is met here; where the columns are judged, that has the whole sample
 pub record Halts {M T O : Type 0} (kind : SampleKind M T O) (old : Sampled M T) (before : O) (mets : List Met) (new : Sampled M T) (now : O) : Type 0 where
   pub within : (rules : Rules M) (start : O) (past : Past) → Holds kind rules start past old before → (later : Past) → Later (past_met past mets) later → PhaseStopped kind rules start later new.phase now
+  pub judged : (rules : Rules M) (start : O) (past : Past) → Holds kind rules start past old before → OnJudged new.phase (IsTold rules.limit (past_met past mets))
 
 -- the laws of the taker that is made
 pub record IsTaker {M T O : Type 0} (kind : SampleKind M T O) : Type 0 where
@@ -86,6 +88,19 @@ told_stays rules past later is follows =
     ∙ (judged_stays rules.limit rules.pattern is.log past.founds follows.more is.some is.enough
     ∙ ap (λ first. judged rules.limit rules.pattern first past.founds) (sym is.known))
 
+-- the sample that is there stays there
+pub told_later : (limit : ℕ) (past later : Past) → IsTold limit past → Later past later → IsTold limit later
+told_later limit past later is follows =
+    let size : length later.founds ≡ length past.founds + length follows.more = ap length follows.founds ∙ length-append past.founds follows.more in
+    let some = is.some in
+    let enough = is.enough in
+    record { log = is.log; known = follows.first is.log is.known; some = Prim.omega arith; enough = Prim.omega arith }
+
+told_met : (limit : ℕ) (past : Past) (xs ys : List Met) → IsTold limit (past_met past xs) → IsTold limit (past_met past (xs ++ ys))
+told_met limit past xs ys is =
+    let Of : Past → Type 0 = λ p. IsTold limit p in
+    subst Of (past_met-append past xs ys) (told_later limit (past_met past xs) (past_met (past_met past xs) ys) is (later_met (past_met past xs) ys))
+
 pub rows_of-append : (xs ys : List Found) → rows_of (xs ++ ys) ≡ rows_of xs ++ rows_of ys
 rows_of-append xs ys = map-append row_met xs ys
 
@@ -103,7 +118,7 @@ within_later {O = O} kind laws rules start now past later taker same follows beg
 
 pub phase_front : {M T O : Type 0} (kind : SampleKind M T O) (laws : IsTaker kind) (rules : Rules M) (start now : O) (past later : Past) (phase : Phase M T)
     → Later past later → PhaseHolds kind rules start past phase now → IsFront kind rules start later now
-phase_front kind laws rules start now past later (P.Gathering gathering) follows holds = inl holds.nothing
+phase_front kind laws rules start now past later (P.Gathering gathering) follows holds = inl holds.kept.nothing
 phase_front kind laws rules start now past later (P.Taking taker) follows holds = inr (record { last = taker; stops = within_later kind laws rules start now past later taker (told_stays rules past later holds.told follows) follows holds.begun })
 phase_front kind laws rules start now past later (P.Refused fault) follows holds = absurd holds
 phase_front kind laws rules start now past later P.Lost follows holds = absurd holds
@@ -114,6 +129,28 @@ phase_stopped kind laws rules start now past later (P.Gathering gathering) follo
 phase_stopped kind laws rules start now past later (P.Taking taker) follows holds = within_later kind laws rules start now past later taker (told_stays rules past later holds.told follows) follows holds.begun
 phase_stopped kind laws rules start now past later (P.Refused fault) follows holds = absurd holds
 phase_stopped kind laws rules start now past later P.Lost follows holds = absurd holds
+
+-- ---- where the columns are judged
+
+pub judged_so : {M T : Type 0} (phase : Phase M T) (A B : Type 0) → (A → B) → OnJudged phase A → OnJudged phase B
+judged_so (P.Gathering gathering) A B so a = tt
+judged_so (P.Taking taker) A B so a = so a
+judged_so (P.Refused fault) A B so a = so a
+judged_so P.Lost A B so a = tt
+
+-- what holds anyway holds there
+pub judged_anyway : {M T : Type 0} (phase : Phase M T) (A : Type 0) → A → OnJudged phase A
+judged_anyway (P.Gathering gathering) A a = tt
+judged_anyway (P.Taking taker) A a = a
+judged_anyway (P.Refused fault) A a = a
+judged_anyway P.Lost A a = tt
+
+-- a taker is made from a whole sample
+pub phase_judged : {M T O : Type 0} (kind : SampleKind M T O) (rules : Rules M) (start now : O) (past : Past) (phase : Phase M T) → PhaseHolds kind rules start past phase now → OnJudged phase (IsTold rules.limit past)
+phase_judged kind rules start now past (P.Gathering gathering) holds = tt
+phase_judged kind rules start now past (P.Taking taker) holds = holds.told
+phase_judged kind rules start now past (P.Refused fault) holds = absurd holds
+phase_judged kind rules start now past P.Lost holds = absurd holds
 
 -- ---- the laws of a taker
 
@@ -136,6 +173,9 @@ pub halts_here : {M T O : Type 0} (kind : SampleKind M T O) (laws : IsTaker kind
 halts_here kind laws a b u v xs ys f = record {
   within = λ rules start past holds later follows.
       phase_stopped kind laws rules start v (past_met past xs) later b.phase (front_later past xs ys later follows) (f.along rules start past holds).phase;
+  judged = λ rules start past holds.
+      judged_so b.phase (IsTold rules.limit (past_met past xs)) (IsTold rules.limit (past_met past (xs ++ ys))) (λ is. told_met rules.limit past xs ys is)
+      (phase_judged kind rules start v (past_met past xs) b.phase (f.along rules start past holds).phase);
 }
 
 pub halts_later : {M T O : Type 0} (kind : SampleKind M T O) (a b c : Sampled M T) (u v w : O) (xs ys : List Met) → Samples kind a u xs b v → Halts kind b v ys c w → Halts kind a u (xs ++ ys) c w
@@ -143,9 +183,14 @@ halts_later kind a b c u v w xs ys f s = record {
   within = λ rules start past holds later follows.
       let Of : Past → Type 0 = λ p. Later p later in
       s.within rules start (past_met past xs) (f.along rules start past holds) later (subst Of (sym (past_met-append past xs ys)) follows);
+  judged = λ rules start past holds.
+      let Of : Past → Type 0 = λ p. OnJudged c.phase (IsTold rules.limit p) in
+      subst Of (past_met-append past xs ys) (s.judged rules start (past_met past xs) (f.along rules start past holds));
 }
 
 pub halts_more : {M T O : Type 0} (kind : SampleKind M T O) (a c : Sampled M T) (u w : O) (xs ys : List Met) → Halts kind a u xs c w → Halts kind a u (xs ++ ys) c w
 halts_more kind a c u w xs ys s = record {
   within = λ rules start past holds later follows. s.within rules start past holds later (front_later past xs ys later follows);
+  judged = λ rules start past holds.
+      judged_so c.phase (IsTold rules.limit (past_met past xs)) (IsTold rules.limit (past_met past (xs ++ ys))) (λ is. told_met rules.limit past xs ys is) (s.judged rules start past holds);
 }

@@ -10,3 +10,4 @@ pub mod Noting
 pub mod Staying
 pub mod Laws
 pub mod SpansTold
+pub mod InTurn

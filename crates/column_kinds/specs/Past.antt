@@ -12,6 +12,10 @@ pub record Past : Type 0 where
   pub first : Option FirstLog
   pub founds : List Found
 
+-- before the first record
+abbrev pub nothing : Past
+nothing = record { first = None; founds = [] }
+
 abbrev pub columns_or : Option Columns → Columns
 columns_or None = []
 columns_or (Some columns) = columns
@@ -57,6 +61,10 @@ pub record Later (before after : Past) : Type 0 where
 -- the columns that the records tell, their kinds judged from so many of them, and times read by a pattern
 abbrev pub told_at : ℕ → List Piece → Past → Judged
 told_at limit pattern past = judged limit pattern past.first past.founds
+
+-- as many records as kinds are judged from, and one at least: the sample is there
+abbrev pub AreEnough : ℕ → List Found → Type 0
+AreEnough limit founds = (0 < length founds) × (limit ≤ length founds)
 
 -- the first log is known, and there are records enough to judge its columns: no later record changes them
 pub record IsTold (limit : ℕ) (past : Past) : Type 0 where

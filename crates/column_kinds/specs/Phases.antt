@@ -1,4 +1,4 @@
--- How many records a phase has taken, and how many it keeps.
+-- How many records a phase has taken, how many it keeps, and whether the columns are judged.
 use Rattle.std.specs.Prelude.{ℕ, length, ⊤}
 use Rattle.column_kinds.specs.declared.phase.Phase.{Phase}
 use Rattle.column_kinds.specs.declared.phase.Phase.TheVariants as P
@@ -21,3 +21,10 @@ IsStoppedIn stopped (P.Gathering gathering) = ⊥
 IsStoppedIn stopped (P.Taking taker) = stopped taker
 IsStoppedIn stopped (P.Refused fault) = ⊤
 IsStoppedIn stopped P.Lost = ⊥
+
+-- Q where the columns are judged: a taker is made for them, or none is
+abbrev pub OnJudged : {M T : Type 0} → Phase M T → Type 0 → Type 0
+OnJudged (P.Gathering gathering) Q = ⊤
+OnJudged (P.Taking taker) Q = Q
+OnJudged (P.Refused fault) Q = Q
+OnJudged P.Lost Q = ⊤

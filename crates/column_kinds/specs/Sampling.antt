@@ -12,7 +12,7 @@ use Rattle.column_kinds.specs.declared.phase.Sampled.{Sampled}
 use Rattle.column_kinds.specs.declared.maker.Stop.{Stop}
 use Rattle.column_kinds.specs.declared.maker.Stop.TheVariants as S
 use Rattle.column_kinds.specs.Kept.{found_in}
-use Rattle.column_kinds.specs.Past.{Past, IsTold, told_at}
+use Rattle.column_kinds.specs.Past.{Past, AreEnough, IsTold, told_at}
 
 -- what a maker makes for the columns that are told, or by which fault it makes nothing; and how what it makes takes rows
 pub record SampleKind (M T O : Type 0) : Type 1 where
@@ -42,11 +42,16 @@ abbrev pub rows_of : List Found → List Met
 rows_of founds = map row_met founds
 
 -- all records are kept, and nothing has come out
-pub record Gathers {M O : Type 0} (rules : Rules M) (start : O) (past : Past) (gathering : Gathering M) (now : O) : Type 0 where
+pub record KeepsRecords {M O : Type 0} (rules : Rules M) (start : O) (past : Past) (gathering : Gathering M) (now : O) : Type 0 where
   pub maker : gathering.maker ≡ rules.maker
   pub first : gathering.first ≡ past.first
   pub rows : map found_in gathering.rows ≡ past.founds
   pub nothing : now ≡ start
+
+-- the same, and the sample isn't there yet
+pub record Gathers {M O : Type 0} (rules : Rules M) (start : O) (past : Past) (gathering : Gathering M) (now : O) : Type 0 where
+  pub kept : KeepsRecords rules start past gathering now
+  pub waiting : AreEnough rules.limit past.founds → ⊥
 
 -- the taker for the columns that the records tell has taken them all
 pub record Begun {M T O : Type 0} (kind : SampleKind M T O) (rules : Rules M) (start : O) (past : Past) (taker : T) (now : O) : Type 0 where
@@ -64,6 +69,13 @@ PhaseHolds kind rules start past (P.Gathering gathering) now = Gathers rules sta
 PhaseHolds kind rules start past (P.Taking taker) now = TakesOn kind rules start past taker now
 PhaseHolds kind rules start past (P.Refused fault) now = ⊥
 PhaseHolds kind rules start past P.Lost now = ⊥
+
+-- all records are kept, be they enough or not, and nothing has come out
+abbrev pub PhaseKeeps : {M T O : Type 0} → Rules M → O → Past → Phase M T → O → Type 0
+PhaseKeeps rules start past (P.Gathering gathering) now = KeepsRecords rules start past gathering now
+PhaseKeeps rules start past (P.Taking taker) now = ⊥
+PhaseKeeps rules start past (P.Refused fault) now = ⊥
+PhaseKeeps rules start past P.Lost now = ⊥
 
 -- it goes by these rules
 pub record Asks {M : Type 0} (limit : ℕ) (pattern : List Piece) (rules : Rules M) : Type 0 where

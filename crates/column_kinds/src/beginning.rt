@@ -5,7 +5,7 @@ ghost use Rattle.column_kinds.specs.Judged.{judged};
 ghost use Rattle.column_kinds.specs.Kept.{found_in};
 ghost use Rattle.column_kinds.specs.Makers.{stop_unmade, OnHalted, OnRefused};
 ghost use Rattle.column_kinds.specs.Past.{Past, Later};
-ghost use Rattle.column_kinds.specs.Sampling.{kind_of, Rules, Asks, Begun, Gathers, IsStop, told_by};
+ghost use Rattle.column_kinds.specs.Sampling.{kind_of, Rules, Asks, Begun, IsStop, KeepsRecords, told_by};
 
 use crate::giving::give_kept;
 use crate::{FirstLog, Gathering, KeptRows, Maker, Stop, Unmade, judge};
@@ -64,10 +64,10 @@ pub(crate) fn begin<M: Maker<T, O> + Drop, T: Taker<O> + Drop, O>(
     gathering: Gathering<M>,
     out: &mut O,
 ) -> Result<T, Stop<T>>
-    ensures begun { IfOk result (λ taker. (rules : Rules M) (start : O) (past : Past) → Asks limit pattern.now rules → Gathers rules start past gathering out.old
+    ensures begun { IfOk result (λ taker. (rules : Rules M) (start : O) (past : Past) → Asks limit pattern.now rules → KeepsRecords rules start past gathering out.old
         → Begun (kind_of M.makes M.refuses T.takes T.stops) rules start past taker out.new) }
     ensures count { IfOk result (λ taker. T.count taker ≡ length gathering.rows) }
-    ensures stopped { IfErr result (λ stop. (rules : Rules M) (start : O) (past later : Past) → Asks limit pattern.now rules → Gathers rules start past gathering out.old
+    ensures stopped { IfErr result (λ stop. (rules : Rules M) (start : O) (past later : Past) → Asks limit pattern.now rules → KeepsRecords rules start past gathering out.old
         → Later past later → told_by rules later ≡ told_by rules past → IsStop (kind_of M.makes M.refuses T.takes T.stops) rules start later stop out.new) }
     ensures goes { T.goes out.old out.new }
     ensures later { T.faults out.old ≤ T.faults out.new }

@@ -3,7 +3,7 @@ ghost use Rattle.std.specs.Prelude.{◌≡◌, ◌≤◌, OnOk, OnErr, IfSome, I
 ghost use Rattle.lp_model.specs.Outside.{Rose};
 ghost use Rattle.column_kinds.specs.Past.{Past, Later, IsTold};
 ghost use Rattle.column_kinds.specs.Phases.{IsStoppedIn, kept_in, taken_in};
-ghost use Rattle.column_kinds.specs.Sampling.{kind_of, Rules, Asks, PhaseHolds, PhaseStopped};
+ghost use Rattle.column_kinds.specs.Sampling.{kind_of, Rules, Asks, PhaseHolds, PhaseKeeps, PhaseStopped};
 
 use crate::beginning::begin;
 use crate::{Gathering, Maker, Phase, Stop};
@@ -38,9 +38,9 @@ pub(crate) fn turn<M: Maker<T, O> + Drop, T: Taker<O> + Drop, O>(
     phase: &mut Phase<M, T>,
     out: &mut O,
 ) -> Result<(), TakeFault>
-    ensures turned { OnOk result ((rules : Rules M) (start : O) (past : Past) → Asks limit pattern.now rules → PhaseHolds (kind_of M.makes M.refuses T.takes T.stops) rules start past phase.old out.old → IsTold rules.limit past
+    ensures turned { OnOk result ((rules : Rules M) (start : O) (past : Past) → Asks limit pattern.now rules → PhaseKeeps rules start past phase.old out.old → IsTold rules.limit past
         → PhaseHolds (kind_of M.makes M.refuses T.takes T.stops) rules start past phase.new out.new) }
-    ensures stopped { OnErr result ((rules : Rules M) (start : O) (past later : Past) → Asks limit pattern.now rules → PhaseHolds (kind_of M.makes M.refuses T.takes T.stops) rules start past phase.old out.old → IsTold rules.limit past → Later past later
+    ensures stopped { OnErr result ((rules : Rules M) (start : O) (past later : Past) → Asks limit pattern.now rules → PhaseKeeps rules start past phase.old out.old → IsTold rules.limit past → Later past later
         → PhaseStopped (kind_of M.makes M.refuses T.takes T.stops) rules start later phase.new out.new) }
     ensures count { OnOk result (taken_in T.count phase.new ≡ taken_in T.count phase.old) }
     ensures few { kept_in phase.new ≡ 0 }

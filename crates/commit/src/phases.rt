@@ -1,5 +1,5 @@
 // The phases of a commit, one after the other, over the only reference to a disk.
-ghost use Rattle.std.specs.Prelude.{◌≡◌, ◌<◌, ◌≤◌, ◌+◌, ◌^◌, ◌++◌, [], ◌∷◌, ℕ, List, length, OnOk, OnErr, IsErrOf};
+ghost use Rattle.std.specs.Prelude.{◌≡◌, ◌<◌, ◌≤◌, ◌+◌, ◌^◌, ◌++◌, [], ◌∷◌, ℕ, List, length, Option, Some, IfOk, IfSome, OnOk, OnErr, IsErrOf};
 ghost use Rattle.lp_model.specs.Outside.{HasCause};
 ghost use Rattle.disk_model.specs.Disk.{Files};
 ghost use Rattle.ledger_model.specs.Entries.{Entry};
@@ -10,13 +10,16 @@ ghost use Rattle.ledger.specs.declared.refused.LedgerRefused.TheVariants.{Ledger
 ghost use Rattle.ledger.specs.declared.refused.Part2.{Part2};
 ghost use Rattle.ledger.specs.declared.refused.Part2.TheVariants.{Stage};
 ghost use Rattle.recovery_model.specs.Recovered.{AreApart, Recovers};
+ghost use Rattle.commit.specs.Known.{IsLow, IsLastDone, IsReadSince};
+ghost use Rattle.commit.specs.Resume.{CanSettle, Settles};
 ghost use Rattle.commit.specs.States.{ShowsFiles, LiesIn};
 ghost use Rattle.commit.specs.Faults.{IsApart, FitsWhole, BreaksAt};
 ghost use Rattle.commit.specs.Keeping.{KeepsEntries};
 ghost use Rattle.commit.specs.Redo.{frames_in};
 ghost use Rattle.commit.specs.Outputs.{AllStaged, BreaksOutputs};
 
-use crate::{CommitFault, finish, open_gate, seal, settle_disk, start};
+use crate::{CommitFault, finish, open_gate, seal, settle_disk, settle_known, start};
+use ledger::End;
 use lp_outside::{Disk, DiskFailed, Name};
 
 /// The two files of a commit.
@@ -24,6 +27,16 @@ use lp_outside::{Disk, DiskFailed, Name};
 pub struct CommitFiles {
     pub ledger: Name,
     pub stage: Name,
+}
+
+/// The end of a ledger, where its last entry was done.
+fn if_done(end: End) -> Option<End>
+    ensures { IfSome result (λ found. (found ≡ end) × IsLastDone end.last) }
+{
+    match end.last {
+        Some(last) => { if last.done { Some(end) } else { None } }
+        None => None,
+    }
 }
 
 /// A commit over a disk, of which it holds the only reference. Its phase is what is known of the disk.
@@ -100,6 +113,40 @@ impl<'d, D: Disk> Commit<'d, D> {
             Ok(place) => {
                 self.place = place;
                 Ok(())
+            }
+            Err(fault) => Err(fault),
+        }
+    }
+
+    /// The same of a disk that was only read since an earlier moment, at which the end of its ledger was known, or nothing of it: what
+    /// is known isn't looked up again. At Ok the end is answered where the last entry was done already: nothing was written then,
+    /// and it is known from that moment on.
+    pub fn settle_known(&mut self, known: Option<End>) -> Result<Option<End>, CommitFault>
+        requires low { IfSome known IsLow }
+        ensures same { Same self.old self.new }
+        ensures any_moment { (earlier : D) → IsReadSince (D.state earlier) (disk_of D.state self.old) (ledger_of self.old) known → CanSettle (D.state earlier) (ledger_of self.old) (stage_of self.old)
+            → Settles (D.state earlier) (disk_of D.state self.new) (ledger_of self.old) (stage_of self.old) }
+        // At Ok the last entry is done, for the state that a read gave, and each file read is that.
+        ensures settled { (earlier : D) → IsReadSince (D.state earlier) (disk_of D.state self.old) (ledger_of self.old) known → OnOk result (CanSettle (D.state earlier) (ledger_of self.old) (stage_of self.old)
+            → (entries : List Entry) (files : Files) → Recovers (ledger_of self.old) (stage_of self.old) entries files ((D.state earlier).seen)
+            → Settled D.state self.new entries files × ShowsFiles (disk_of D.state self.new) (ledger_of self.old) (stage_of self.old) files) }
+        ensures no_fault { (earlier : D) → IsReadSince (D.state earlier) (disk_of D.state self.old) (ledger_of self.old) known → (part : Part2) (p : ℕ) → IsErrOf result (LedgerFault part p) → CanSettle (D.state earlier) (ledger_of self.old) (stage_of self.old) → ⊥ }
+        // What a read gave fits, or breaks at the place that is answered.
+        ensures fits { (earlier : D) → IsReadSince (D.state earlier) (disk_of D.state self.old) (ledger_of self.old) known → OnOk result ((D.state earlier).tells → IsApart (ledger_of self.old) (stage_of self.old) ((D.state earlier).seen) → FitsWhole (ledger_of self.old) (stage_of self.old) ((D.state earlier).seen)) }
+        ensures fault { (earlier : D) → IsReadSince (D.state earlier) (disk_of D.state self.old) (ledger_of self.old) known → (part : Part2) (p : ℕ) → IsErrOf result (LedgerFault part p) → (D.state earlier).tells → IsApart (ledger_of self.old) (stage_of self.old) ((D.state earlier).seen)
+            → BreaksAt (ledger_of self.old) (stage_of self.old) ((D.state earlier).seen) part p }
+        // And of its ledger the entries stay, of which the last is done.
+        ensures keeps { (earlier : D) → IsReadSince (D.state earlier) (disk_of D.state self.old) (ledger_of self.old) known → OnOk result ((D.state earlier).tells → IsApart (ledger_of self.old) (stage_of self.old) ((D.state earlier).seen)
+            → KeepsEntries (ledger_of self.old) ((D.state earlier).seen) ((disk_of D.state self.new).seen)) }
+        ensures tells { (earlier : D) → IsReadSince (D.state earlier) (disk_of D.state self.old) (ledger_of self.old) known → OnOk result ((D.state earlier).tells → (disk_of D.state self.new).tells) }
+        ensures found { (earlier : D) → IsReadSince (D.state earlier) (disk_of D.state self.old) (ledger_of self.old) known → IfOk result (λ found. IfSome found (λ end. IsReadSince (D.state earlier) (disk_of D.state self.new) (ledger_of self.old) (Some end))) }
+        ensures low { IfOk result (λ found. IfSome found IsLow) }
+        ensures reason { HasReason (D.faults self.old.disk.now) (D.faults self.new.disk.now) result }
+    {
+        match settle_known(self.disk, &self.files.ledger, &self.files.stage, known) {
+            Ok(end) => {
+                self.place = end.pair;
+                Ok(if_done(end))
             }
             Err(fault) => Err(fault),
         }

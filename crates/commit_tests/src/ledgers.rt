@@ -1,7 +1,7 @@
 // A ledger byte for byte, and where it is damaged.
 use crate::entries::{ONE_A, first_entry, named};
 use crate::runs::{after_one, begins, close, end_of, files, holds, seals_and_opens};
-use commit::Commit;
+use commit::{Commit, settle_known};
 use ledger::{End, Entry, LastEntry, LedgerRefused, Output, OutputList, Part2, walk};
 use lp_outside::{Disk, Mark, Name, Stage};
 use lp_values::{Bytes, Part, Real, Stamp, Text, Value, ValueList, read_integer};
@@ -408,4 +408,29 @@ fn names_are_read_once(rt: HostRuntime) {
     assert!(rt; many_are_read(rt.alloc(), 300, None) == Some(true));
     assert!(rt; many_are_read(rt.alloc(), 299, Some(53_478)) == Some(true));
     assert!(rt; many_are_read(rt.alloc(), 1, Some(53_478)) == Some(true));
+}
+
+// How many calls a settling takes of a disk whose ledger's end an earlier one found.
+fn calls_when_known(disk: &mut MemoryDisk) -> Option<u64> {
+    let files = files()?;
+    let end = match settle_known(disk, &files.ledger, &files.stage, None) {
+        Ok(end) => end,
+        Err(_) => return None,
+    };
+    let before = disk.calls();
+    match settle_known(disk, &files.ledger, &files.stage, Some(end)) {
+        Ok(again) if again == end => Some(disk.calls().wrapping_sub(before)),
+        _ => None,
+    }
+}
+
+fn calls_behind_one(alloc: Global) -> Option<u64> {
+    let mut disk = after_one(alloc)?;
+    calls_when_known(&mut disk)
+}
+
+// A ledger whose end is known isn't read: the two syncs alone are made.
+#[test]
+fn a_known_ledger_is_not_walked(rt: HostRuntime) {
+    assert!(rt; calls_behind_one(rt.alloc()) == Some(2));
 }

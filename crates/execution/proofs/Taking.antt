@@ -1,5 +1,5 @@
 -- What a run took of its spans.
-use Rattle.std.proofs.Common.{◌≡◌, Bool, true, List, [], ◌++◌, map, Option, subst}
+use Rattle.std.proofs.Common.{◌≡◌, Bool, List, [], ◌++◌, map, Option, subst}
 use Rattle.lp_model.specs.Outside.{Folder, Told}
 use Rattle.lp_model.specs.Reading.{Format}
 use Rattle.log_reading.specs.declared.span.Span.{Span}
@@ -9,8 +9,8 @@ use Rattle.log_reading.specs.Spans.{AreKept, took_of}
 -- a list that was empty has what was taken of each span
 pub taken : (told : Option Folder) (format : Format) (waits : Bool) (slice spans : List Span) (before now : List Took)
     → slice ≡ spans → before ≡ []
-    → (waits ≡ true → Told told (λ folder. AreKept format true slice folder → now ≡ before ++ map (took_of format folder) slice))
-    → waits ≡ true → Told told (λ folder. AreKept format true spans folder → now ≡ map (took_of format folder) spans)
-taken told format waits slice spans before now listed none took = λ wait.
-    let Of : List Span → List Took → Type 0 = λ s b. Told told (λ folder. AreKept format true s folder → now ≡ b ++ map (took_of format folder) s) in
-    subst (λ (b : List Took). Of spans b) none (subst (λ (s : List Span). Of s before) listed (took wait))
+    → Told told (λ folder. AreKept format waits slice folder → now ≡ before ++ map (took_of format waits folder) slice)
+    → Told told (λ folder. AreKept format waits spans folder → now ≡ map (took_of format waits folder) spans)
+taken told format waits slice spans before now listed none took =
+    let Of : List Span → List Took → Type 0 = λ s b. Told told (λ folder. AreKept format waits s folder → now ≡ b ++ map (took_of format waits folder) s) in
+    subst (λ (b : List Took). Of spans b) none (subst (λ (s : List Span). Of s before) listed took)

@@ -1,17 +1,22 @@
 -- What runs over sampled columns say of their plans, in the words of any plan.
-use Rattle.std.proofs.Common.{◌≡◌, ℕ, ℤ, Bool, true, false, List, Option, Some, None, inl, inr, ◌⊎◌}
+use Rattle.std.proofs.Common.{◌≡◌, ℕ, ℤ, Bool, true, false, List, [], Option, Some, None, inl, inr, ◌⊎◌, ◌∙◌, sym, subst}
 use Rattle.std.specs.Prelude.{Result, Ok, Err, IfOk, IfErr}
 use Rattle.grammar.specs.Trees.{Query}
 use Rattle.lp_model.specs.Outside.{Folder, Told}
 use Rattle.lp_model.specs.Reading.{Format}
 use Rattle.lp_time.specs.declared.piece.Piece.{Piece}
+use Rattle.log_reading.specs.Found.{Found}
+use Rattle.log_reading.specs.Spans.{spans_found}
+use Rattle.log_reading.specs.UpTo.{UpTo, found_up_to}
 use Rattle.log_reading.specs.declared.span.Span.{Span}
 use Rattle.text_output.specs.Output.{StageKind}
 use Rattle.query_run.specs.declared.executing.Written.{Written}
 use Rattle.query_types.specs.Built.{is_built}
 use Rattle.query_types.specs.declared.table.TableColumns.{TableColumns}
 use Rattle.row_output.specs.Asked.{Files, RowsText}
+use Rattle.row_output.specs.Rows.{IsRefused as IsRefusedOutput}
 use Rattle.row_output.specs.declared.fault.Refused.{Refused}
+use Rattle.row_output.proofs.Unrefused.{refused_first}
 use Rattle.column_kinds.specs.Judged.{table_of}
 use Rattle.column_kinds.specs.Past.{Past, told_at}
 use Rattle.sampled_run.specs.declared.fault.SampleFault.{SampleFault}
@@ -19,12 +24,13 @@ use Rattle.sampled_run.specs.declared.fault.SampleFault.TheVariants as F
 use Rattle.sampled_run.specs.Finishes.{asked_by}
 use Rattle.sampled_run.specs.Rules.{rules_of}
 use Rattle.sampled_run.specs.Ran as rows
-use Rattle.sampled_run.specs.Ran.{OnRefusedOne}
-use Rattle.sampled_run.proofs.Early.{refused_so}
+use Rattle.sampled_run.specs.InTurn as rows_turn
 use Rattle.sampled_groups.specs.Rules.{group_rules_of}
 use Rattle.sampled_groups.specs.Ran as groups
-use Rattle.execution.specs.Plans.{asked_for, of_groups, of_rows}
-use Rattle.execution.specs.Telling.{IsFront, IsStoppedBy, IsTold, IsUnplacedEarly, IsWithin, Telling, telling}
+use Rattle.sampled_groups.specs.InTurn as groups_turn
+use Rattle.execution.specs.Plans.{asked_for, of_groups, of_rows, told_rows}
+use Rattle.execution.specs.Telling.{IsFront, IsStoppedBy, IsTold, IsUnplacedAt, IsWithin, Telling, TellsInTurn, telling}
+use Rattle.execution.proofs.InTurns.{found_all}
 use Rattle.execution.proofs.QueryPlans.{planned_groups, planned_rows, unplanned_groups, unplanned_rows}
 
 -- a fact of an answer, where the folder is told, that follows from another
@@ -40,19 +46,12 @@ err_told (Ok t) told P Q follows is = tt
 err_told (Err e) None P Q follows is = tt
 err_told (Err e) (Some folder) P Q follows is = follows e folder is
 
--- and so of why an output is refused
-pub err_refused : {T : Type 0} (result : Result T SampleFault) (told : Option Folder) (Kept Within : Folder → Type 0) (P Q : Refused → Folder → Type 0) → ((why : Refused) (folder : Folder) → P why folder → Q why folder)
-    → IfErr result (λ fault. OnRefusedOne fault (λ why. Told told (λ folder. Kept folder → P why folder ⊎ Within folder))) → IfErr result (λ fault. OnRefusedOne fault (λ why. Told told (λ folder. Kept folder → Q why folder ⊎ Within folder)))
-err_refused (Ok t) told Kept Within P Q follows is = tt
-err_refused (Err fault) told Kept Within P Q follows is =
-    refused_so fault (λ why. Told told (λ folder. Kept folder → P why folder ⊎ Within folder)) (λ why. Told told (λ folder. Kept folder → Q why folder ⊎ Within folder)) (λ why. turn told why) is
-  where
-    turn : (told : Option Folder) (why : Refused) → Told told (λ folder. Kept folder → P why folder ⊎ Within folder) → Told told (λ folder. Kept folder → Q why folder ⊎ Within folder)
-    turn None why is = tt
-    turn (Some folder) why is = λ kept. elim (is kept) [
-      | inl early ↦ inl (follows why folder early)
-      | inr within ↦ inr within
-    ]
+-- one that follows from two others
+pub err_told_with : {T E : Type 0} (result : Result T E) (told : Option Folder) (P Q R : E → Folder → Type 0) → ((e : E) (folder : Folder) → P e folder → Q e folder → R e folder)
+    → IfErr result (λ e. Told told (P e)) → IfErr result (λ e. Told told (Q e)) → IfErr result (λ e. Told told (R e))
+err_told_with (Ok t) told P Q R follows is also = tt
+err_told_with (Err e) None P Q R follows is also = tt
+err_told_with (Err e) (Some folder) P Q R follows is also = follows e folder is also
 
 module _ {S : Type 0} (kind : StageKind S) (limit : ℕ) (pattern : List Piece) (moment : ℤ) (q : Query) (files : Option Files) (text : RowsText) (start : S) (past : Past) where
   abbrev rules : Telling
@@ -88,8 +87,25 @@ module _ {S : Type 0} (kind : StageKind S) (limit : ℕ) (pattern : List Piece) 
     rows_stopped F.Output now s = rows_front now s
     rows_stopped F.Memory now s = rows_front now s
 
-    pub rows_early : (why : Refused) → rows.IsUnplacedEarly (rules_of limit pattern moment q (asked_by files text q)) past why → IsUnplacedEarly rules past why
-    rows_early why e = record { plan = of_rows e.plan; planned = planned_rows table moment q e.plan built e.planned; early = e.early }
+    pub rows_in_turn : (most_bad : Option ℕ) (format : Format) (waits : Bool) (folder : Folder) (spans : List Span) (fault : SampleFault) (now : S)
+        → rows_turn.ComesInTurn (rules_of limit pattern moment q (asked_by files text q)) start past most_bad format waits folder spans fault now → TellsInTurn rules start past most_bad format waits folder spans fault now
+    rows_in_turn most_bad format waits folder spans (F.Plan fault) now s = s
+    rows_in_turn most_bad format waits folder spans (F.Refused why) now s = record {
+      up = s.up;
+      sample = s.sample;
+      within = s.within;
+      so = record { plan = of_rows s.so.plan; planned = planned_rows table moment q s.so.plan built s.so.planned; refused = s.so.refused; early = s.so.early };
+    }
+    rows_in_turn most_bad format waits folder spans (F.Bad log row) now s = record {
+      up = s.up;
+      next = s.next;
+      most = s.most;
+      within = s.within;
+      behind = λ enough. let p = s.behind enough in record { plan = of_rows p.plan; planned = planned_rows table moment q p.plan built p.planned; placed = p.placed };
+    }
+    rows_in_turn most_bad format waits folder spans F.Logs now s = tt
+    rows_in_turn most_bad format waits folder spans F.Output now s = tt
+    rows_in_turn most_bad format waits folder spans F.Memory now s = tt
 
   -- over groups
   module _ (built : is_built q ≡ false) where
@@ -118,5 +134,37 @@ module _ {S : Type 0} (kind : StageKind S) (limit : ℕ) (pattern : List Piece) 
     groups_stopped F.Output now s = groups_front now s
     groups_stopped F.Memory now s = groups_front now s
 
-    pub groups_early : (why : Refused) → groups.IsUnplacedFirst (group_rules_of limit pattern moment q (asked_by files text q)) past why → IsUnplacedEarly rules past why
-    groups_early why e = record { plan = of_groups e.plan; planned = planned_groups table moment q e.plan built e.planned; early = e.refused }
+    -- the output of a name without stars is refused before any row, and so of any rows; else it is of the rows of all groups
+    groups_unplaced : (format : Format) (waits : Bool) (folder : Folder) (spans : List Span) (up : UpTo waits folder spans) (why : Refused) (now : S) → past.founds ≡ spans_found format waits folder spans
+        → groups.IsUnplaced kind (group_rules_of limit pattern moment q (asked_by files text q)) start past why now
+        → groups.IsUnplacedFirst (group_rules_of limit pattern moment q (asked_by files text q)) past why ⊎ (up.rest ≡ []) → IsUnplacedAt rules past (found_up_to format waits folder spans up) up.rest why
+    groups_unplaced format waits folder spans up why now all u (inl first) = record {
+      plan = of_groups first.plan;
+      planned = planned_groups table moment q first.plan built first.planned;
+      refused = refused_first (rules.asked (of_groups first.plan)) why first.refused (told_rows pattern (told_at limit pattern past) (of_groups first.plan) (found_up_to format waits folder spans up));
+      early = inl first.refused;
+    }
+    groups_unplaced format waits folder spans up why now all u (inr none) =
+        let Of : List Found → Type 0 = λ founds. IsRefusedOutput (rules.asked (of_groups u.plan)) (told_rows pattern (told_at limit pattern past) (of_groups u.plan) founds) why in
+        record {
+          plan = of_groups u.plan;
+          planned = planned_groups table moment q u.plan built u.planned;
+          refused = subst Of (all ∙ sym (found_all format waits folder spans up none)) u.refused;
+          early = inr none;
+        }
+
+    pub groups_in_turn : (most_bad : Option ℕ) (format : Format) (waits : Bool) (folder : Folder) (spans : List Span) (fault : SampleFault) (now : S) → past.founds ≡ spans_found format waits folder spans
+        → groups.IsStoppedBy kind (group_rules_of limit pattern moment q (asked_by files text q)) start past fault now
+        → groups_turn.ComesInTurn (group_rules_of limit pattern moment q (asked_by files text q)) start past most_bad format waits folder spans fault now → TellsInTurn rules start past most_bad format waits folder spans fault now
+    groups_in_turn most_bad format waits folder spans (F.Plan fault) now all stopped s = s
+    groups_in_turn most_bad format waits folder spans (F.Refused why) now all stopped s = record { up = s.up; sample = s.sample; within = s.within; so = groups_unplaced format waits folder spans s.up why now all stopped s.so }
+    groups_in_turn most_bad format waits folder spans (F.Bad log row) now all stopped s = record {
+      up = s.up;
+      next = s.next;
+      most = s.most;
+      within = s.within;
+      behind = λ enough. let p = s.behind enough in record { plan = of_groups p.plan; planned = planned_groups table moment q p.plan built p.planned; placed = λ why early refused. p.placed why early };
+    }
+    groups_in_turn most_bad format waits folder spans F.Logs now all stopped s = tt
+    groups_in_turn most_bad format waits folder spans F.Output now all stopped s = tt
+    groups_in_turn most_bad format waits folder spans F.Memory now all stopped s = tt

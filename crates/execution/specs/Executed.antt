@@ -6,39 +6,26 @@ use Rattle.lp_model.specs.Outside.{Folder, Told}
 use Rattle.lp_time.specs.declared.piece.Piece.{Piece}
 use Rattle.lp_values.specs.declared.value.Value.{Value}
 use Rattle.command_words.specs.declared.spec.Spec.{Spec}
-use Rattle.delimited_input.specs.declared.options.DelimitedOptions.{DelimitedOptions}
 use Rattle.delimited_input.specs.Lines.{delimited_lines}
 use Rattle.log_reading.specs.declared.span.Span.{Span}
-use Rattle.log_reading.specs.Page.{IsTooMany, IsWithin}
+use Rattle.log_reading.specs.Page.{IsTooMany}
 use Rattle.log_reading.specs.Spans.{AreKept, BadLine, spans_found, spans_bad, spans_bad_lines}
 use Rattle.query_run.specs.declared.executing.Counts.{Counts}
 use Rattle.query_types.specs.declared.fault.TypeFault.{TypeFault}
 use Rattle.query_types.specs.declared.table.TableColumns.{TableColumns}
 use Rattle.input_tables.specs.Tables.{lines_of, table_of}
-use Rattle.column_kinds.specs.Spans.{first_log}
-use Rattle.column_kinds.specs.declared.judging.Judged.{Judged}
-use Rattle.column_kinds.specs.Judged.{judged}
-use Rattle.column_kinds.specs.Judged.{table_of as table_with}
 use Rattle.execution.specs.declared.formats.LogFormat.{LogFormat}
 use Rattle.execution.specs.declared.formats.LogFormat.TheVariants as F
 use Rattle.execution.specs.Formats.{lines_in}
-use Rattle.execution.specs.Plans.{PlannedQuery, of_groups, of_rows, query_plan, table_rows, told_rows}
+pub use Rattle.execution.specs.InTurn.{BadInTurn, BehindSample, IsEarly, UnplacedInTurn, told_in, told_table}
+use Rattle.execution.specs.Plans.{PlannedQuery, query_plan, table_rows, told_rows}
 use Rattle.row_output.specs.Asked.{Asked, left_of}
-use Rattle.row_output.specs.Rows.{IsRefused, IsRefusedEarly}
+use Rattle.row_output.specs.Rows.{IsRefused}
 use Rattle.row_output.specs.declared.fault.Refused.{Refused}
 
 -- from 1970-01-01 00:00:00 to 9999-12-31 23:59:59
 abbrev pub IsMoment : ℤ → Type 0
 IsMoment moment = (pos 0 ≤ℤ moment) × (moment <ℤ pos 253402300800)
-
--- the columns that logs tell: those of the first log that has any, of the kinds that the first records have
-abbrev pub told_in : DelimitedOptions → Bool → ℕ → List Piece → Folder → List Span → Judged
-told_in options waits limit pattern folder spans =
-    let lines = delimited_lines options in
-    judged limit pattern (first_log lines waits folder spans) (spans_found lines waits folder spans)
-
-abbrev pub told_table : DelimitedOptions → Bool → ℕ → List Piece → Folder → List Span → TableColumns
-told_table options waits limit pattern folder spans = table_with (told_in options waits limit pattern folder spans)
 
 -- a fact on the table of a run; one that the logs tell is known where these tell their bytes, and each span begins as its log was kept
 abbrev pub OnTable : LogFormat → Bool → List Piece → Option Folder → List Span → (TableColumns → Type 0) → Type 0
@@ -77,25 +64,21 @@ pub record HoldsFront (format : LogFormat) (waits : Bool) (told : Option Folder)
 abbrev pub IsStopped : LogFormat → Bool → Option Folder → Type 0 → (Asked → List (List Value) → Type 0) → (PlannedQuery → Asked) → Spec → ℤ → model.Query → List Span → Type 0
 IsStopped format waits told Nothing Front asked spec moment q spans = OnTable format waits spec.ts_format told spans (λ table. Nothing ⊎ HoldsFront format waits told Front asked spec moment q spans table)
 
--- by this plan an output may be refused before the last line is read: for a name without stars, or where rows of records go on as they come
-abbrev pub IsEarly : PlannedQuery → Asked → Refused → Type 0
-IsEarly (of_rows plan) asked why = IsRefusedEarly asked why
-IsEarly (of_groups plan) asked why = IsRefused asked [] why
-
--- it may, or no bad line is one too many, since these come first
-abbrev pub ComesInTurn : LogFormat → Bool → (PlannedQuery → Asked) → Spec → model.Query → PlannedQuery → List Span → Refused → Folder → Type 0
-ComesInTurn format waits asked spec q plan spans why folder = IsEarly plan (asked plan) why ⊎ IsWithin spec.errors (given_bad q + length (spans_bad (lines_in format) waits folder spans))
-
 -- where each span begins as its log was kept, an output of the rows of the query's plan over a table is refused by this fault, in its turn
 pub record UnplacesAll (format : LogFormat) (waits : Bool) (told : Option Folder) (asked : PlannedQuery → Asked) (spec : Spec) (moment : ℤ) (q : model.Query) (spans : List Span) (why : Refused) (table : TableColumns) : Type 0 where
   pub plan : PlannedQuery
   pub is_planned : query_plan table moment q ≡ Ok plan
   pub refused : Told told (λ folder. AreKept (lines_in format) waits spans folder → IsRefused (asked plan) (rows_in format waits spec.ts_format plan folder spans) why)
-  pub in_turn : Told told (λ folder. AreKept (lines_in format) waits spans folder → ComesInTurn format waits asked spec q plan spans why folder)
+  pub in_turn : Told told (λ folder. AreKept (lines_in format) waits spans folder → UnplacedInTurn format waits asked spec q plan spans why folder)
 
 -- an output of the rows is refused by this fault
 abbrev pub IsUnplaced : LogFormat → Bool → Option Folder → (PlannedQuery → Asked) → Spec → ℤ → model.Query → List Span → Refused → Type 0
 IsUnplaced format waits told asked spec moment q spans why = OnTable format waits spec.ts_format told spans (UnplacesAll format waits told asked spec moment q spans why)
+
+-- over a table that is known before a log is read, where an output is refused for a name without stars this is so
+abbrev pub IsNamedFirst : LogFormat → (PlannedQuery → Asked) → ℤ → model.Query → Type 0 → Refused → Type 0
+IsNamedFirst (F.Tabled format) asked moment q So why = (plan : PlannedQuery) → query_plan (table_of format) moment q ≡ Ok plan → IsRefused (asked plan) [] why → So
+IsNamedFirst (F.Sampled options limit) asked moment q So why = ⊤
 
 -- over a table that is known before a log is read the query has a plan, and no output is refused for a name without stars
 pub record IsTypedOver (asked : PlannedQuery → Asked) (moment : ℤ) (q : model.Query) (table : TableColumns) : Type 0 where
@@ -107,14 +90,19 @@ abbrev pub IsTyped : LogFormat → (PlannedQuery → Asked) → ℤ → model.Qu
 IsTyped (F.Tabled format) asked moment q = IsTypedOver asked moment q (table_of format)
 IsTyped (F.Sampled options limit) asked moment q = ⊤
 
--- of the bad lines of the spans, in order, this is the first that is one too many, with those of the query's subqueries before
-pub record IsParseError (format : LogFormat) (waits : Bool) (told : Option Folder) (asked : PlannedQuery → Asked) (spec : Spec) (moment : ℤ) (q : model.Query) (spans : List Span) (line : BadLine) : Type 0 where
+-- of the bad lines of the spans, in order, this is the first that is one too many, with those of the query's subqueries before; and it comes in its turn, before which nothing may be written
+pub record IsParseError (format : LogFormat) (waits : Bool) (told : Option Folder) (Nothing : Type 0) (asked : PlannedQuery → Asked) (spec : Spec) (moment : ℤ) (q : model.Query) (spans : List Span) (line : BadLine) : Type 0 where
   pub typed : IsTyped format asked moment q
   pub exceeds : Told told (λ folder. AreKept (lines_in format) waits spans folder → IsTooMany spec.errors (given_bad q) (spans_bad_lines (lines_in format) waits folder spans) line)
+  pub in_turn : Told told (λ folder. AreKept (lines_in format) waits spans folder → BadInTurn format waits Nothing asked spec moment q spans line folder)
 
 -- a query has no plan, by this fault
 abbrev pub IsUnplanned : LogFormat → Bool → Option Folder → Spec → ℤ → model.Query → List Span → TypeFault → Type 0
 IsUnplanned format waits told spec moment q spans fault = OnTable format waits spec.ts_format told spans (λ table. query_plan table moment q ≡ Err fault)
+
+-- it is told behind the sample, if that is asked, and no bad line there is one too many
+abbrev pub IsTypedInTurn : LogFormat → Bool → Option Folder → Spec → model.Query → List Span → Type 0
+IsTypedInTurn format waits told spec q spans = Told told (λ folder. AreKept (lines_in format) waits spans folder → BehindSample format waits spec q spans folder (λ up. ⊤))
 
 -- nothing is written
 abbrev pub IsUntouched : LogFormat → Bool → Option Folder → Type 0 → Spec → List Span → Type 0

@@ -2,6 +2,8 @@ pub mod Formats
 pub mod Built
 pub mod Plans
 pub mod Budgets
+pub mod InTurn
+pub mod Carried
 pub mod Executed
 pub mod Passing
 pub mod Faults

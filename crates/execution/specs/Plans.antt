@@ -5,7 +5,7 @@ use Rattle.lp_time.specs.declared.piece.Piece.{Piece}
 use Rattle.lp_values.specs.declared.value.Value.{Value}
 use Rattle.column_kinds.specs.declared.judging.Judged.{Judged}
 use Rattle.group_planning.specs.Groups.{Grouped, group_plan_of}
-use Rattle.group_run.specs.Rows.{rows_of_groups}
+use Rattle.group_meaning.specs.Rows.{rows_of_groups}
 use Rattle.input_tables.specs.declared.format.TableFormat.{TableFormat}
 use Rattle.input_tables.specs.Tables.{readings_of}
 use Rattle.log_reading.specs.Found.{Found}

@@ -10,7 +10,7 @@ ghost use Rattle.row_output.specs.Rows.{Holds, IsRefused, Stops};
 ghost use Rattle.row_output.specs.declared.fault.Refused.{Refused as Why};
 ghost use Rattle.query_run.specs.Faults.{OnBad, OnRefusedOutput};
 ghost use Rattle.input_tables.specs.Tables.{lines_of};
-ghost use Rattle.execution.specs.Executed.{IsEarly};
+ghost use Rattle.execution.specs.Carried.{BadByPlan, UnplacedByPlan};
 ghost use Rattle.execution.specs.Fitting.{Fits, planned_query};
 ghost use Rattle.execution.specs.Passing.{GoesByPlan};
 ghost use Rattle.execution.specs.Plans.{table_rows};
@@ -59,15 +59,19 @@ pub(crate) fn carry_out<L: LogSource, G: Stage>(
         → IsTooMany most_bad 0 (spans_bad_lines (lines_of format) waits folder spans.now) line))) }
     ensures refused { IfErr result (OnRefusedOutput (λ why. Told (L.folder logs.new) (λ folder. AreKept (lines_of format) waits spans.now folder
         → IsRefused (asked_of output) (table_rows format (planned_query plan) (spans_found (lines_of format) waits folder spans.now)) why))) }
-    // An output that isn't refused early is refused behind all lines, of which no bad one was one too many.
-    ensures early { IfErr result (OnRefusedOutput (λ why. Told (L.folder logs.new) (λ folder. AreKept (lines_of format) waits spans.now folder
-        → IsEarly (planned_query plan) (asked_of output) why ⊎ IsWithin most_bad (length (spans_bad (lines_of format) waits folder spans.now))))) }
+    // Of two faults the one that comes first is told.
+    ensures in_turn { IfErr result (OnRefusedOutput (λ why. Told (L.folder logs.new) (λ folder. AreKept (lines_of format) waits spans.now folder
+        → UnplacedByPlan format waits (asked_of output) (planned_query plan) most_bad spans.now why folder))) }
+    ensures placed { IfErr result (OnBad (λ line. Told (L.folder logs.new) (λ folder. AreKept (lines_of format) waits spans.now folder
+        → BadByPlan format waits (asked_of output) (planned_query plan) most_bad spans.now line folder))) }
+    // What is refused for its name alone is refused before a log is read.
+    ensures unread { IfErr result (OnRefusedOutput (λ why. IsRefused (asked_of output) [] why → L.given logs.new ≡ L.given logs.old)) }
     // An output of a name without stars is refused before any bad line is told.
     ensures named { IfErr result (OnBad (λ line. (why : Why) → IsRefused (asked_of output) [] why → ⊥)) }
     ensures stops { OnErr result (Told (L.folder logs.new) (λ folder. AreKept (lines_of format) waits spans.now folder
         → Stops (kind_of G.state G.ended) (asked_of output) stage.old (table_rows format (planned_query plan) (spans_found (lines_of format) waits folder spans.now)) stage.new)) }
-    ensures took { OnOk result (waits ≡ true → Told (L.folder logs.new) (λ folder. AreKept (lines_of format) true spans.now folder
-        → took.new ≡ took.old ++ map (took_of (lines_of format) folder) spans.now)) }
+    ensures took { OnOk result (Told (L.folder logs.new) (λ folder. AreKept (lines_of format) waits spans.now folder
+        → took.new ≡ took.old ++ map (took_of (lines_of format) waits folder) spans.now)) }
     ensures given { L.given logs.new ≤ L.given logs.old + spans_size spans.now }
     ensures ahead { GoesByPlan (kind_of G.state G.ended) G.goes format waits (L.folder logs.new) spans.now (L.given logs.old) (L.given logs.new) stage.old stage.new (asked_of output) (planned_query plan) }
     ensures later_logs { L.faults logs.old ≤ L.faults logs.new }

@@ -8,7 +8,7 @@ ghost use Rattle.log_reading.specs.Spans.{AllSpans, AreReadable, AreKept, IsSpan
 ghost use Rattle.text_output.specs.Output.{kind_of};
 ghost use Rattle.row_output.specs.Rows.{Holds, Stops};
 ghost use Rattle.query_tree.specs.Views.{query_of};
-ghost use Rattle.execution.specs.Executed.{IsMoment, IsExecuted, IsParseError, IsStopped, IsUnplaced, IsUnplanned, IsUntouched};
+ghost use Rattle.execution.specs.Executed.{IsMoment, IsExecuted, IsNamedFirst, IsParseError, IsStopped, IsTypedInTurn, IsUnplaced, IsUnplanned, IsUntouched};
 ghost use Rattle.execution.specs.Faults.{IfParse, IfPlan, IfRefused};
 ghost use Rattle.execution.specs.Formats.{lines_in, log_format};
 ghost use Rattle.execution.specs.OnePass.{GoesInPass, SpansPassed};
@@ -64,10 +64,14 @@ pub fn execute<L: LogSource, G: Stage>(
     ensures stopped { OnErr result (IsStopped (log_format spec.now (query_of query.now)) waits (L.folder logs.new) (stage.new ≡ stage.old) (λ asked rows. Stops (kind_of G.state G.ended) asked stage.old rows stage.new) (asked_in spec.now (sections_in (λ t. t.value) template) moment (query_of query.now) spans.now) spec.now moment (query_of query.now) spans.now) }
     ensures refused { IfRefused result (IsUnplaced (log_format spec.now (query_of query.now)) waits (L.folder logs.new) (asked_in spec.now (sections_in (λ t. t.value) template) moment (query_of query.now) spans.now) spec.now moment (query_of query.now) spans.now) }
     ensures plan { IfPlan result (IsUnplanned (log_format spec.now (query_of query.now)) waits (L.folder logs.new) spec.now moment (query_of query.now) spans.now) }
+    // Of two faults the one that comes first is told: so say `refused` and `parse` too.
+    ensures plan_in_turn { IfPlan result (λ fault. IsTypedInTurn (log_format spec.now (query_of query.now)) waits (L.folder logs.new) spec.now (query_of query.now) spans.now) }
     ensures before { IfPlan result (λ fault. IsUntouched (log_format spec.now (query_of query.now)) waits (L.folder logs.new) (stage.new ≡ stage.old) spec.now spans.now) }
-    ensures parse { IfParse result (IsParseError (log_format spec.now (query_of query.now)) waits (L.folder logs.new) (asked_in spec.now (sections_in (λ t. t.value) template) moment (query_of query.now) spans.now) spec.now moment (query_of query.now) spans.now) }
-    ensures took { IfOk result (λ ran. waits ≡ true → Told (L.folder logs.new) (λ folder. AreKept (lines_in (log_format spec.now (query_of query.now))) true spans.now folder
-        → ran.took ≡ map (took_of (lines_in (log_format spec.now (query_of query.now))) folder) spans.now)) }
+    ensures parse { IfParse result (IsParseError (log_format spec.now (query_of query.now)) waits (L.folder logs.new) (stage.new ≡ stage.old) (asked_in spec.now (sections_in (λ t. t.value) template) moment (query_of query.now) spans.now) spec.now moment (query_of query.now) spans.now) }
+    ensures took { IfOk result (λ ran. Told (L.folder logs.new) (λ folder. AreKept (lines_in (log_format spec.now (query_of query.now))) waits spans.now folder
+        → ran.took ≡ map (took_of (lines_in (log_format spec.now (query_of query.now))) waits folder) spans.now)) }
+    // Over a known table an output of a name without stars is refused before a log is read.
+    ensures unread { IfRefused result (IsNamedFirst (log_format spec.now (query_of query.now)) (asked_in spec.now (sections_in (λ t. t.value) template) moment (query_of query.now) spans.now) moment (query_of query.now) (L.given logs.new ≡ L.given logs.old)) }
     ensures given { L.given logs.new ≤ L.given logs.old + spans_size spans.now }
     // A query over rows that go to standard output as they come reads its logs in one pass.
     ensures one_pass { (format : TableFormat) → GoesInPass spec.now (query_of query.now) format

@@ -15,8 +15,9 @@ use any_format::Wanted;
 use group_planning::{GroupPlan, plan_groups};
 use input_tables::{TableFormat, table_of};
 use query_tree::Query;
-use query_types::{Plan, TableColumns, TypeFault, is_built, plan};
+use query_types::{Plan, TableColumns, TypeFault};
 use row_output::{Into, RowOutput};
+use row_planning::{is_built, plan};
 use sampled_run::{Moment, output_of_rows};
 use std::alloc::{AllocError, Global};
 

@@ -12,7 +12,7 @@ ghost use Rattle.row_output.specs.Sinks.{IsUnplaced, files_for};
 ghost use Rattle.grammar.specs.Filled.{given_bad};
 ghost use Rattle.query_tree.specs.Views.{query_of};
 ghost use Rattle.execution.specs.Budgets.{IsBudget};
-ghost use Rattle.execution.specs.Executed.{IsExecuted, IsMoment, IsParseError, IsStopped, IsUnplanned, IsUntouched};
+ghost use Rattle.execution.specs.Executed.{IsExecuted, IsMoment, IsParseError, IsStopped, IsTypedInTurn, IsUnplanned, IsUntouched};
 ghost use Rattle.execution.specs.Executed.{IsUnplaced as IsUnplacedRun};
 ghost use Rattle.execution.specs.Faults.{IfParse, IfPlan, IfRefused};
 ghost use Rattle.execution.specs.Plans.{asked_for};
@@ -62,10 +62,11 @@ pub(crate) fn execute_sampled<L: LogSource, G: Stage>(
     ensures stopped { OnErr result (IsStopped (F.Sampled options limit) waits (L.folder logs.new) (stage.new ≡ stage.old) (λ asked rows. Stops (kind_of G.state G.ended) asked stage.old rows stage.new) (asked_for (files_for into) (wanted_text wanted moment.seconds) (query_of query.now)) spec.now moment.seconds (query_of query.now) spans.now) }
     ensures refused { IfRefused result (IsUnplacedRun (F.Sampled options limit) waits (L.folder logs.new) (asked_for (files_for into) (wanted_text wanted moment.seconds) (query_of query.now)) spec.now moment.seconds (query_of query.now) spans.now) }
     ensures plan { IfPlan result (IsUnplanned (F.Sampled options limit) waits (L.folder logs.new) spec.now moment.seconds (query_of query.now) spans.now) }
+    ensures plan_in_turn { IfPlan result (λ fault. IsTypedInTurn (F.Sampled options limit) waits (L.folder logs.new) spec.now (query_of query.now) spans.now) }
     ensures before { IfPlan result (λ fault. IsUntouched (F.Sampled options limit) waits (L.folder logs.new) (stage.new ≡ stage.old) spec.now spans.now) }
-    ensures parse { IfParse result (IsParseError (F.Sampled options limit) waits (L.folder logs.new) (asked_for (files_for into) (wanted_text wanted moment.seconds) (query_of query.now)) spec.now moment.seconds (query_of query.now) spans.now) }
-    ensures took { IfOk result (λ ran. waits ≡ true → Told (L.folder logs.new) (λ folder. AreKept (delimited_lines options) true spans.now folder
-        → ran.took ≡ map (took_of (delimited_lines options) folder) spans.now)) }
+    ensures parse { IfParse result (IsParseError (F.Sampled options limit) waits (L.folder logs.new) (stage.new ≡ stage.old) (asked_for (files_for into) (wanted_text wanted moment.seconds) (query_of query.now)) spec.now moment.seconds (query_of query.now) spans.now) }
+    ensures took { IfOk result (λ ran. Told (L.folder logs.new) (λ folder. AreKept (delimited_lines options) waits spans.now folder
+        → ran.took ≡ map (took_of (delimited_lines options) waits folder) spans.now)) }
     ensures given { L.given logs.new ≤ L.given logs.old + spans_size spans.now }
     ensures later_logs { L.faults logs.old ≤ L.faults logs.new }
     ensures logs { IsErrOf result RunFault.LogsFault → Rose (L.faults logs.old) (L.faults logs.new) }

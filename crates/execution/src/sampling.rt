@@ -1,8 +1,8 @@
 // A query, with groups or without, over logs whose columns they tell.
-ghost use Rattle.std.specs.Prelude.{◌≡◌, ◌⊎◌, ◌≤◌, ◌+◌, ◌++◌, true, length, map, OnOk, IfOk, IfErr, IsErrOf};
+ghost use Rattle.std.specs.Prelude.{◌≡◌, ◌≤◌, ◌+◌, ◌++◌, true, length, map, OnOk, IfOk, IfErr, IsErrOf};
 ghost use Rattle.lp_model.specs.Outside.{Rose, OnlyGrow, Told};
 ghost use Rattle.log_reading.specs.Page.{IsTooMany, IsWithin};
-ghost use Rattle.log_reading.specs.Spans.{AllSpans, AreReadable, AreKept, IsSpan, spans_bad, spans_bad_lines, spans_size, took_of};
+ghost use Rattle.log_reading.specs.Spans.{AllSpans, AreReadable, AreKept, IsSpan, spans_bad_lines, spans_size, took_of};
 ghost use Rattle.delimited_input.specs.Lines.{delimited_lines};
 ghost use Rattle.delimited_input.specs.Separators.{IsRefused};
 ghost use Rattle.any_format.specs.Wanted.{IsMoment, wanted_text};
@@ -10,9 +10,9 @@ ghost use Rattle.text_output.specs.Output.{kind_of};
 ghost use Rattle.row_output.specs.Sinks.{IsUnplaced, files_for};
 ghost use Rattle.query_tree.specs.Views.{query_of};
 ghost use Rattle.column_kinds.specs.Spans.{past_of};
-ghost use Rattle.sampled_run.specs.Ran.{OnBadOne, OnRefusedOne};
+ghost use Rattle.sampled_run.specs.Ran.{OnBadOne};
 ghost use Rattle.execution.specs.Plans.{asked_for};
-ghost use Rattle.execution.specs.Telling.{IsStoppedBy, IsTold, IsUnplacedEarly, telling};
+ghost use Rattle.execution.specs.Telling.{IsStoppedBy, IsTold, TellsInTurn, telling};
 
 use any_format::Wanted;
 use delimited_input::DelimitedOptions;
@@ -21,8 +21,8 @@ use lp_outside::Stage;
 use lp_time::Pattern;
 use query_run::Written;
 use query_tree::Query;
-use query_types::is_built;
 use row_output::Into;
+use row_planning::is_built;
 use sampled_groups::run_sampled_groups;
 use sampled_run::{Moment, SampleFault, run_sampled};
 use std::alloc::Global;
@@ -59,11 +59,11 @@ pub(crate) fn sample_query<'a, L: LogSource, G: Stage>(
     ensures within { IfOk result (λ run. IsWithin most_bad run.counts.bad) }
     ensures too_many { IfErr result (λ fault. OnBadOne fault (λ line. Told (L.folder logs.new) (λ folder. AreKept (delimited_lines options) waits spans.now folder
         → IsTooMany most_bad 0 (spans_bad_lines (delimited_lines options) waits folder spans.now) line))) }
-    // An output that isn't refused early is refused behind all lines, of which no bad one was one too many.
-    ensures early { IfErr result (λ fault. OnRefusedOne fault (λ why. Told (L.folder logs.new) (λ folder. AreKept (delimited_lines options) waits spans.now folder
-        → IsUnplacedEarly (telling limit pattern.now moment.seconds (query_of query.now) (asked_for (files_for into) (wanted_text wanted moment.seconds) (query_of query.now))) (past_of (delimited_lines options) waits folder spans.now) why ⊎ IsWithin most_bad (length (spans_bad (delimited_lines options) waits folder spans.now))))) }
-    ensures took { OnOk result (waits ≡ true → Told (L.folder logs.new) (λ folder. AreKept (delimited_lines options) true spans.now folder
-        → took.new ≡ took.old ++ map (took_of (delimited_lines options) folder) spans.now)) }
+    // Of two faults the one that comes first is told.
+    ensures in_turn { IfErr result (λ fault. Told (L.folder logs.new) (λ folder. AreKept (delimited_lines options) waits spans.now folder
+        → TellsInTurn (telling limit pattern.now moment.seconds (query_of query.now) (asked_for (files_for into) (wanted_text wanted moment.seconds) (query_of query.now))) stage.old (past_of (delimited_lines options) waits folder spans.now) most_bad (delimited_lines options) waits folder spans.now fault stage.new)) }
+    ensures took { OnOk result (Told (L.folder logs.new) (λ folder. AreKept (delimited_lines options) waits spans.now folder
+        → took.new ≡ took.old ++ map (took_of (delimited_lines options) waits folder) spans.now)) }
     ensures given { L.given logs.new ≤ L.given logs.old + spans_size spans.now }
     ensures later_logs { L.faults logs.old ≤ L.faults logs.new }
     ensures logs { IsErrOf result SampleFault.Logs → Rose (L.faults logs.old) (L.faults logs.new) }

@@ -11,7 +11,7 @@ ghost use Rattle.grammar.specs.Filled.{given_bad};
 ghost use Rattle.query_tree.specs.Views.{query_of};
 ghost use Rattle.execution.specs.Budgets.{IsBudget};
 ghost use Rattle.input_tables.specs.Tables.{lines_of};
-ghost use Rattle.execution.specs.Executed.{IsExecuted, IsMoment, IsParseError, IsStopped, IsUnplanned, IsUntouched};
+ghost use Rattle.execution.specs.Executed.{IsExecuted, IsMoment, IsNamedFirst, IsParseError, IsStopped, IsTypedInTurn, IsUnplanned, IsUntouched};
 ghost use Rattle.execution.specs.Executed.{IsUnplaced as IsUnplacedRun};
 ghost use Rattle.execution.specs.Faults.{IfParse, IfPlan, IfRefused, unplanned};
 ghost use Rattle.execution.specs.Passing.{ReadsInPass};
@@ -73,11 +73,13 @@ pub(crate) fn execute_tabled<L: LogSource, G: Stage>(
     ensures stopped { OnErr result (IsStopped (F.Tabled format) waits (L.folder logs.new) (stage.new ≡ stage.old) (λ asked rows. Stops (kind_of G.state G.ended) asked stage.old rows stage.new) (asked_for (files_for into) (wanted_text wanted moment.seconds) (query_of query.now)) spec.now moment.seconds (query_of query.now) spans.now) }
     ensures refused { IfRefused result (IsUnplacedRun (F.Tabled format) waits (L.folder logs.new) (asked_for (files_for into) (wanted_text wanted moment.seconds) (query_of query.now)) spec.now moment.seconds (query_of query.now) spans.now) }
     ensures plan { IfPlan result (IsUnplanned (F.Tabled format) waits (L.folder logs.new) spec.now moment.seconds (query_of query.now) spans.now) }
+    ensures plan_in_turn { IfPlan result (λ fault. IsTypedInTurn (F.Tabled format) waits (L.folder logs.new) spec.now (query_of query.now) spans.now) }
     ensures before { IfPlan result (λ fault. IsUntouched (F.Tabled format) waits (L.folder logs.new) (stage.new ≡ stage.old) spec.now spans.now) }
-    ensures parse { IfParse result (IsParseError (F.Tabled format) waits (L.folder logs.new) (asked_for (files_for into) (wanted_text wanted moment.seconds) (query_of query.now)) spec.now moment.seconds (query_of query.now) spans.now) }
-    ensures took { IfOk result (λ ran. waits ≡ true → Told (L.folder logs.new) (λ folder. AreKept (lines_of format) true spans.now folder
-        → ran.took ≡ map (took_of (lines_of format) folder) spans.now)) }
+    ensures parse { IfParse result (IsParseError (F.Tabled format) waits (L.folder logs.new) (stage.new ≡ stage.old) (asked_for (files_for into) (wanted_text wanted moment.seconds) (query_of query.now)) spec.now moment.seconds (query_of query.now) spans.now) }
+    ensures took { IfOk result (λ ran. Told (L.folder logs.new) (λ folder. AreKept (lines_of format) waits spans.now folder
+        → ran.took ≡ map (took_of (lines_of format) waits folder) spans.now)) }
     ensures given { L.given logs.new ≤ L.given logs.old + spans_size spans.now }
+    ensures unread { IfRefused result (IsNamedFirst (F.Tabled format) (asked_for (files_for into) (wanted_text wanted moment.seconds) (query_of query.now)) moment.seconds (query_of query.now) (L.given logs.new ≡ L.given logs.old)) }
     ensures passes { ReadsInPass (kind_of G.state G.ended) G.goes (F.Tabled format) waits (L.folder logs.new) (asked_for (files_for into) (wanted_text wanted moment.seconds) (query_of query.now)) moment.seconds (query_of query.now) spans.now (L.given logs.old) (L.given logs.new) stage.old stage.new }
     ensures later_logs { L.faults logs.old ≤ L.faults logs.new }
     ensures logs { IsErrOf result RunFault.LogsFault → Rose (L.faults logs.old) (L.faults logs.new) }

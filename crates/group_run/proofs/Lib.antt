@@ -1,1 +1,2 @@
 pub mod GroupRuns
+mod Reached

@@ -13,6 +13,7 @@ ghost use Rattle.query_types.specs.Conditions.{filter_of};
 ghost use Rattle.query_types.specs.Planned.{Covers};
 ghost use Rattle.group_planning.specs.Groups.{grouped_in};
 ghost use Rattle.input_tables.specs.Tables.{lines_of, columns_of, readings_of};
+ghost use Rattle.group_run.specs.InTurn.{IsReached};
 ghost use Rattle.group_run.specs.Rows.{group_rows};
 
 use crate::running::group_reader;
@@ -62,6 +63,9 @@ pub fn run_groups<L: LogSource, G: Stage>(
     ensures within { IfOk result (λ written. IsWithin most_bad written.counts.bad) }
     ensures too_many { IfErr result (OnBad (λ line. Told (L.folder logs.new) (λ folder. AreKept (lines_of format) waits spans.now folder
         → IsTooMany most_bad 0 (spans_bad_lines (lines_of format) waits folder spans.now) line))) }
+    // Before a bad line that is one too many all lines were taken.
+    ensures reached { IfErr result (OnBad (λ line. Told (L.folder logs.new) (λ folder. AreKept (lines_of format) waits spans.now folder
+        → IsReached most_bad (lines_of format) waits folder spans.now line))) }
     // An output of a name without stars is refused before any bad line is told.
     ensures named { IfErr result (OnBad (λ line. (why : Why) → IsRefused (asked_of output) [] why → ⊥)) }
     ensures refused { IfErr result (OnRefusedOutput (λ why. Told (L.folder logs.new) (λ folder. AreKept (lines_of format) waits spans.now folder
@@ -69,10 +73,12 @@ pub fn run_groups<L: LogSource, G: Stage>(
     // The rows of groups come behind all records: so does the refusal of an output, but for that of a name without stars.
     ensures early { IfErr result (OnRefusedOutput (λ why. Told (L.folder logs.new) (λ folder. AreKept (lines_of format) waits spans.now folder
         → IsRefused (asked_of output) [] why ⊎ IsWithin most_bad (length (spans_bad (lines_of format) waits folder spans.now))))) }
+    // Where the output of a name without stars is refused, no log is read.
+    ensures unread { IfErr result (OnRefusedOutput (λ why. IsRefused (asked_of output) [] why → L.given logs.new ≡ L.given logs.old)) }
     ensures stops { OnErr result (Told (L.folder logs.new) (λ folder. AreKept (lines_of format) waits spans.now folder
         → Stops (kind_of G.state G.ended) (asked_of output) stage.old (group_rows (readings_of format) (grouped_in plan) (lines_of format) waits folder spans.now) stage.new)) }
-    ensures took { OnOk result (waits ≡ true → Told (L.folder logs.new) (λ folder. AreKept (lines_of format) true spans.now folder
-        → took.new ≡ took.old ++ map (took_of (lines_of format) folder) spans.now)) }
+    ensures took { OnOk result (Told (L.folder logs.new) (λ folder. AreKept (lines_of format) waits spans.now folder
+        → took.new ≡ took.old ++ map (took_of (lines_of format) waits folder) spans.now)) }
     ensures given { L.given logs.new ≤ L.given logs.old + spans_size spans.now }
     ensures later_logs { L.faults logs.old ≤ L.faults logs.new }
     ensures logs { IsErrOf result WriteFault.Logs → Rose (L.faults logs.old) (L.faults logs.new) }

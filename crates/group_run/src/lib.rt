@@ -6,5 +6,6 @@
 
 mod formats;
 mod running;
+mod spans;
 
 pub use formats::run_groups;

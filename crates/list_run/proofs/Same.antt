@@ -1,5 +1,5 @@
 -- The derived equality of values is that of the definitions.
-use Rattle.std.proofs.Common.{◌≡◌, Bool, true, List, ap, sym, ◌∙◌, refl}
+use Rattle.std.proofs.Common.{◌≡◌, Bool, true, false, true≢false, List, ap, sym, ◌∙◌, refl}
 use Rattle.std.specs.List.{list_any}
 use Rattle.std.specs.Ordering.{is_eq}
 use Rattle.indexmap.specs.IndexSet.{insert_key}
@@ -8,7 +8,11 @@ use Rattle.lp_values.specs.contracts.value.ValuePartialEq.TheImpl.{eq-value}
 use Rattle.lp_values.specs.declared.value.Value.{Value}
 use Rattle.lp_values.proofs.OrderLemmas.{derived}
 use Rattle.lp_values.proofs.SameLemmas.{values_same}
+use Rattle.list_run.specs.Gathering.{keep_in}
 use Rattle.list_run.specs.Keeping.{same_value}
+use Rattle.list_run.specs.declared.gathered.Store.{Store}
+use Rattle.list_run.specs.declared.gathered.Store.TheVariants as S
+use Rattle.list_run.specs.declared.keep.Keep.TheVariants as K
 
 tells : (x y : Value) → eq-value.it x y ≡ same_value x y
 tells x y = matches_eq-law x y ∙ ap is_eq (derived x y)
@@ -30,3 +34,13 @@ put_known seen value there =
 
 pub put_same : (seen : List Value) (value copy : Value) → copy ≡ value → insert_key eq-value.it seen copy ≡ insert_key same_value seen value
 put_same seen value copy same = ap (λ (E : Value → Value → Bool). insert_key E seen copy) same_is ∙ ap (insert_key same_value seen) same
+
+-- a value that isn't found stands nowhere
+pub put_unknown : (seen : List Value) (value : Value) → list_any (eq-value.it value) seen ≡ false → list_any (same_value value) seen ≡ true → ⊥
+put_unknown seen value off there = true≢false (sym there ∙ (sym (ap (λ (E : Value → Value → Bool). list_any (E value) seen) same_is) ∙ off))
+
+-- a store of all values doesn't keep each once
+pub all_apart : (store : Store) (values : List Value) → store ≡ S.All values → keep_in store ≡ K.Distinct → ⊥
+all_apart store values is keeps =
+    let apart : K.All ≡ K.Distinct = sym (ap keep_in is) ∙ keeps in
+    cc

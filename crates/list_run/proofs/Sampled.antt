@@ -14,6 +14,7 @@ use Rattle.query_types.specs.Planned.{planned_in}
 use Rattle.query_types.specs.declared.fault.TypeFault.{TypeFault}
 use Rattle.column_kinds.proofs.Behind.{behind_all}
 use Rattle.column_kinds.proofs.SetsOnce.{SetsOnce}
+use Rattle.column_kinds.proofs.UpTo.{none_enough}
 use Rattle.column_kinds.specs.Kept.{found_in}
 use Rattle.column_kinds.specs.Laws.{later_same}
 use Rattle.column_kinds.specs.Past.{Past}
@@ -71,7 +72,7 @@ fresh_in keep limit pattern moment q sampled (P.Gathering gathering) limit_is pa
       same = ap₂ (rules_of limit pattern) none.moment_is none.query_is;
       holds = record {
         asks = record { limit_is = limit_is; pattern_is = pattern_is };
-        phase = subst Of (sym phase_is) (record { maker = refl; first = none.first; rows = ap (map found_in) none.rows; nothing = refl });
+        phase = subst Of (sym phase_is) (record { kept = record { maker = refl; first = none.first; rows = ap (map found_in) none.rows; nothing = refl }; waiting = none_enough limit });
       };
     }
 fresh_in keep limit pattern moment q sampled (P.Taking taker) limit_is pattern_is phase_is none = absurd none

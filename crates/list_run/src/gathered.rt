@@ -1,8 +1,10 @@
 // What is remembered of values that come one by one.
-ghost use Rattle.std.specs.Prelude.{◌≡◌, [], IfOk, OnOk};
+ghost use Rattle.std.specs.Prelude.{◌≡◌, [], true, IfOk, IsOk, OnOk};
+ghost use Rattle.std.specs.List.{list_any};
 ghost use Rattle.indexmap.specs.IndexSet.{insert_key};
 ghost use Rattle.list_run.specs.Keeping.{same_value};
 ghost use Rattle.list_run.specs.Gathering.{keep_in, kept_more, list_in, remembered_of, remembering};
+ghost use Rattle.list_run.specs.declared.keep.Keep.TheVariants as K;
 
 use crate::Keep;
 use in_set::InSet;
@@ -22,7 +24,9 @@ enum Store {
 
 // Puts a value among others, unless it stands there.
 fn put_first(seen: &mut ValueSet, alloc: Global, value: &Value) -> Result<(), AllocError>
-    ensures { OnOk result (seen.new.keys ≡ insert_key same_value seen.old.keys value.now) }
+    ensures put { OnOk result (seen.new.keys ≡ insert_key same_value seen.old.keys value.now) }
+    // A value that stands there fails for no want of memory: it is looked up before it is copied.
+    ensures known { list_any (same_value value.now) seen.old.keys ≡ true → IsOk result × (seen.new.keys ≡ seen.old.keys) }
 {
     if seen.contains(value) {
         return Ok(());
@@ -46,6 +50,7 @@ impl Store {
     fn put(&mut self, alloc: Global, value: &Value) -> Result<(), AllocError>
         ensures keep { keep_in self.new ≡ keep_in self.old }
         ensures list { OnOk result (list_in self.new ≡ kept_more (keep_in self.old) (list_in self.old) value.now) }
+        ensures known { keep_in self.old ≡ K.Distinct → list_any (same_value value.now) (list_in self.old) ≡ true → IsOk result × (list_in self.new ≡ list_in self.old) }
     {
         match self {
             Store::Nothing => Ok(()),

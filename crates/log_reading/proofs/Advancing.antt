@@ -1,5 +1,6 @@
 -- The reading of a log, line by line and piece by piece.
-use Rattle.std.proofs.Common.{◌≡◌, ℕ, ◌+◌, ◌≤◌, ◌<◌, Bool, true, false, not, List, [], ◌∷◌, ◌++◌, length, map, filter, Option, Some, ap, sym, ◌∙◌, refl, subst, append_assoc, arith, length-append, nat_lt, lt-ltb, if◌then◌else◌}
+use Rattle.std.proofs.Common.{◌≡◌, ℕ, ◌+◌, ◌≤◌, ◌<◌, Bool, true, false, not, List, [], ◌∷◌, ◌++◌, length, map, filter, Option, Some, ap, sym, ◌∙◌, refl, subst, append_assoc, arith, inl, inr, length-append, nat_lt, lt-ltb, if◌then◌else◌}
+use Rattle.std.proofs.lemmas.Bool.{cases_Bool}
 use Rattle.std.proofs.lemmas.List.{append-nil, map-append, length-map}
 use Rattle.std.proofs.lemmas.List.Elements.{filter-append}
 use Rattle.std.specs.List.{before_first, after_first, position_or_len}
@@ -14,8 +15,9 @@ use Rattle.line_input.specs.Handed.{TakesFirst}
 use Rattle.line_input.specs.Splitter.{Split}
 use Rattle.log_reading.specs.Found.{Met, met_of}
 use Rattle.log_reading.specs.declared.page.Page.{Page}
-use Rattle.log_reading.specs.Page.{Takes, Stops, to_come, Follows, Advances, StopsIn, StopsWithin, Spends, IsTooMany, ExceedsIn, ExceedsWithin}
+use Rattle.log_reading.specs.Page.{Takes, Stops, to_come, Follows, Advances, StopsOnLine, StopsIn, StopsWithin, Spends, IsWithin, ExceedsAfter, ExceedsIn, ExceedsWithin}
 use Rattle.log_reading.proofs.Founds.{met_of-append}
+use Rattle.log_reading.proofs.Fronts.{bad_gives_none}
 
 -- the laws of a taker
 abbrev pub TakesMore : {T O : Type 0} → Takes T O → Type 0
@@ -103,11 +105,25 @@ follows_line takes format identity line old new u w text reading number same sho
       };
 }
 
+-- so many bad lines, and none of them more
+pub within_at : (most_bad : Option ℕ) (m n : ℕ) → m ≡ n → IsWithin most_bad m → IsWithin most_bad n
+within_at most_bad m n same within = subst (λ (k : ℕ). IsWithin most_bad k) same within
+
+pub within_of : (a b : Option ℕ) (n : ℕ) → b ≡ a → IsWithin b n → IsWithin a n
+within_of a b n same within = subst (λ (most : Option ℕ). IsWithin most n) same within
+
+-- it stopped with no line taken
+pub stops_first : {T O : Type 0} (stops : Stops T O) (format : Format) (identity : List ℕ) (lines : List Line) (old z : Page T) (u w : O)
+    → IsWithin old.most_bad old.bad → stops old.taker u [] z.taker w → StopsIn stops format identity lines old z u w
+stops_first stops format identity lines old z u w within nothing = record {
+  behind = λ history at. record { front = []; rest = lines; stands = refl; stopped = nothing; within = within_at old.most_bad old.bad (old.bad + 0) (omega arith) within };
+}
+
 pub stops_line : {T O : Type 0} (stops : Stops T O) (format : Format) (identity : List ℕ) (line : Line) (old z : Page T) (u w : O) (text : List ℕ) (reading : Reading) (columns_now : Option Columns)
     → line.number ≡ old.standing.lines + 1 → line.text ≡ text → is_overlong line.text ≡ false → reading ≡ format.reading text old.standing.columns
     → ((before : List (List ℕ)) → old.standing.columns ≡ format.columns_after before → columns_now ≡ format.columns_after (before ++ text ∷ []))
     → stops old.taker u (met_of identity (records_read (old.standing.lines + 1) columns_now reading)) z.taker w
-    → StopsIn stops format identity (line ∷ []) old z u w
+    → StopsOnLine stops format identity line old z u w
 stops_line stops format identity line old z u w text reading columns_now number same short read columns stopped = record {
   behind = λ history at.
       let columns_then : old.standing.columns ≡ columns_behind format history = ap (λ s. s.columns) at in
@@ -116,6 +132,31 @@ stops_line stops format identity line old z u w text reading columns_now number 
       let records = records_line format history line reading (old.standing.lines + 1) columns_now number now reading' in
       let Stopped : List Record → Type 0 = λ t. stops old.taker u (met_of identity t) z.taker w in
       subst Stopped (sym records) stopped;
+}
+
+-- a line that gives rows isn't bad, and before a bad one none was taken
+pub stops_one : {T O : Type 0} (stops : Stops T O) (format : Format) (identity : List ℕ) (line : Line) (old z : Page T) (u w : O) → IsWithin old.most_bad old.bad
+    → ((history : List Line) → old.standing ≡ standing_behind format history → stops old.taker u (met_of identity (records_following format history (line ∷ []))) z.taker w)
+    → StopsIn stops format identity (line ∷ []) old z u w
+stops_one stops format identity line old z u w within stopped = record {
+  behind = λ history at. elim (cases_Bool (is_bad (reading_behind format history line))) [
+    | inl is ↦
+        let columns = columns_behind format (history ++ line ∷ []) in
+        let none : records_following format history (line ∷ []) ≡ [] =
+        append-nil (records_behind format history line)
+        ∙ ap (λ slots. map (λ s. let r : Record = record { number = line.number; slots = s; columns = columns } in r) slots) (bad_gives_none (reading_behind format history line) is) in
+        let Stopped : List Record → Type 0 = λ t. stops old.taker u (met_of identity t) z.taker w in
+        record { front = []; rest = line ∷ []; stands = refl; stopped = subst Stopped none (stopped history at); within = within_at old.most_bad old.bad (old.bad + 0) (omega arith) within }
+    | inr good ↦
+        let none : length (bad_following format history (line ∷ [])) ≡ 0 = bad_line format history line (reading_behind format history line) refl ∙ ap (λ (b : Bool). if b then 1 else 0) good in
+        record {
+          front = line ∷ [];
+          rest = [];
+          stands = refl;
+          stopped = stopped history at;
+          within = within_at old.most_bad old.bad (old.bad + length (bad_following format history (line ∷ []))) (omega arith) within;
+        }
+  ];
 }
 
 -- a line that is too long gives no row
@@ -180,25 +221,52 @@ follows_trans takes more format identity first second a b c u v w f s = record {
       };
 }
 
+met_both : (format : Format) (identity : List ℕ) (history first second : List Line)
+    → met_of identity (records_following format history first) ++ met_of identity (records_following format (history ++ first) second) ≡ met_of identity (records_following format history (first ++ second))
+met_both format identity history first second =
+    sym (met_of-append identity (records_following format history first) (records_following format (history ++ first) second)) ∙ ap (met_of identity) (sym (records_following-append format history first second))
+
+bad_both : (format : Format) (history first second : List Line)
+    → length (bad_following format history (first ++ second)) ≡ length (bad_following format history first) + length (bad_following format (history ++ first) second)
+bad_both format history first second =
+    ap length (bad_following-append format history first second) ∙ length-append (bad_following format history first) (bad_following format (history ++ first) second)
+
 pub stops_trans : {T O : Type 0} (takes : Takes T O) (stops : Stops T O) (later : StopsLater takes stops) (format : Format) (identity : List ℕ) (first second : List Line) (a b z : Page T) (u v w : O)
-    → Follows takes format identity first a b u v → StopsIn stops format identity second b z v w → StopsIn stops format identity (first ++ second) a z u w
-stops_trans takes stops later format identity first second a b z u v w f s = record {
+    → b.most_bad ≡ a.most_bad → Follows takes format identity first a b u v → StopsIn stops format identity second b z v w → StopsIn stops format identity (first ++ second) a z u w
+stops_trans takes stops later format identity first second a b z u v w most f s = record {
   behind = λ history at.
       let f' = f.behind history at in
-      let records = records_following-append format history first second in
+      let s' = s.behind (history ++ first) f'.standing in
+      let size = bad_both format history first s'.front in
+      let bad_now = f'.bad in
+      let count : b.bad + length (bad_following format (history ++ first) s'.front) ≡ a.bad + length (bad_following format history (first ++ s'.front)) = omega arith in
       let Stopped : List Met → Type 0 = λ t. stops a.taker u t z.taker w in
-      subst Stopped (sym (met_of-append identity (records_following format history first) (records_following format (history ++ first) second)) ∙ ap (met_of identity) (sym records))
-      (later _ _ _ _ _ _ _ _ f'.done (s.behind (history ++ first) f'.standing));
+      record {
+        front = first ++ s'.front;
+        rest = s'.rest;
+        stands = ap (λ l. first ++ l) s'.stands ∙ sym (append_assoc first s'.front s'.rest);
+        stopped = subst Stopped (met_both format identity history first s'.front) (later _ _ _ _ _ _ _ _ f'.done s'.stopped);
+        within = within_of a.most_bad b.most_bad (a.bad + length (bad_following format history (first ++ s'.front))) most
+            (within_at b.most_bad (b.bad + length (bad_following format (history ++ first) s'.front)) (a.bad + length (bad_following format history (first ++ s'.front))) count s'.within);
+      };
 }
 
-pub stops_more : {T O : Type 0} (stops : Stops T O) (more : StopsMore stops) (format : Format) (identity : List ℕ) (first second : List Line) (a z : Page T) (u w : O)
+-- others stand behind
+pub stops_more : {T O : Type 0} (stops : Stops T O) (format : Format) (identity : List ℕ) (first second : List Line) (a z : Page T) (u w : O)
     → StopsIn stops format identity first a z u w → StopsIn stops format identity (first ++ second) a z u w
-stops_more stops more format identity first second a z u w s = record {
+stops_more stops format identity first second a z u w s = record {
   behind = λ history at.
-      let records = records_following-append format history first second in
-      let Stopped : List Met → Type 0 = λ t. stops a.taker u t z.taker w in
-      subst Stopped (sym (met_of-append identity (records_following format history first) (records_following format (history ++ first) second)) ∙ ap (met_of identity) (sym records))
-      (more _ _ _ _ _ _ (s.behind history at));
+      let s' = s.behind history at in
+      record { front = s'.front; rest = s'.rest ++ second; stands = ap (λ l. l ++ second) s'.stands ∙ append_assoc s'.front s'.rest second; stopped = s'.stopped; within = s'.within };
+}
+
+-- a piece was fed
+stops_refed : {T O : Type 0} (stops : Stops T O) (format : Format) (identity : List ℕ) (lines : List Line) (old : Page T) (split : Split) (z : Page T) (u w : O)
+    → StopsIn stops format identity lines (record old { splitter = split }) z u w → StopsIn stops format identity lines old z u w
+stops_refed stops format identity lines old split z u w s = record {
+  behind = λ history at.
+      let s' = s.behind history at in
+      record { front = s'.front; rest = s'.rest; stands = s'.stands; stopped = s'.stopped; within = s'.within };
 }
 
 -- the first line is that before the first LF, whatever follows
@@ -225,17 +293,17 @@ advances_line takes format identity waits old new split u w first same lines fol
 }
 
 -- it stopped within one line
-pub stops_in_line : {T O : Type 0} (stops : Stops T O) (more : StopsMore stops) (format : Format) (identity : List ℕ) (waits : Bool) (old z : Page T) (split : Split) (u w : O)
+pub stops_in_line : {T O : Type 0} (stops : Stops T O) (format : Format) (identity : List ℕ) (waits : Bool) (old z : Page T) (split : Split) (u w : O)
     → TakesFirst old.splitter split
     → StopsIn stops format identity (ended_line (old.standing.lines + 1) old.splitter.place (before_first is_lf old.splitter.left) ∷ []) old z u w
     → StopsWithin stops format identity waits [] old z u w
-stops_in_line {T = T} stops more format identity waits old z split u w first stopped = record {
+stops_in_line {T = T} stops format identity waits old z split u w first stopped = record {
   within = λ rest.
       let line = ended_line (old.standing.lines + 1) old.splitter.place (before_first is_lf old.splitter.left) in
       let others = lines_to_come waits (old.standing.lines + 1 + 1) (old.splitter.place + length (before_first is_lf old.splitter.left) + 1) (after_first is_lf old.splitter.left ++ rest) in
       let Of : List Line → Type 0 = λ lines. StopsIn stops format identity lines old z u w in
       subst Of (sym (lines_to_come-first waits (old.standing.lines + 1) old.splitter.place old.splitter.left rest first.has_end))
-      (stops_more stops more format identity (line ∷ []) others old z u w stopped);
+      (stops_more stops format identity (line ∷ []) others old z u w stopped);
 }
 
 pub advances_none : {T O : Type 0} (takes : Takes T O) (format : Format) (identity : List ℕ) (waits : Bool) (page : Page T) (w : O) → takes page.taker w [] page.taker w → Advances takes format identity waits [] page page w w
@@ -265,12 +333,12 @@ advances_trans takes more format identity waits first second a b c u v w f s = r
 }
 
 pub stops_within : {T O : Type 0} (takes : Takes T O) (stops : Stops T O) (later : StopsLater takes stops) (format : Format) (identity : List ℕ) (waits : Bool) (first second : List ℕ) (a b z : Page T) (u v w : O)
-    → Advances takes format identity waits first a b u v → StopsWithin stops format identity waits second b z v w → StopsWithin stops format identity waits (first ++ second) a z u w
-stops_within takes stops later format identity waits first second a b z u v w f s = record {
+    → b.most_bad ≡ a.most_bad → Advances takes format identity waits first a b u v → StopsWithin stops format identity waits second b z v w → StopsWithin stops format identity waits (first ++ second) a z u w
+stops_within takes stops later format identity waits first second a b z u v w most f s = record {
   within = λ rest.
       let Of : List Line → Type 0 = λ lines. StopsIn stops format identity lines a z u w in
       subst Of (sym (ap (to_come waits a) (append_assoc first second rest) ∙ f.taken (second ++ rest)))
-      (stops_trans takes stops later format identity f.lines (to_come waits b (second ++ rest)) a b z u v w f.follows (s.within rest));
+      (stops_trans takes stops later format identity f.lines (to_come waits b (second ++ rest)) a b z u v w most f.follows (s.within rest));
 }
 
 -- what stands behind the last LF is a line where it has a text
@@ -320,109 +388,128 @@ pub stops_fed : {T O : Type 0} (stops : Stops T O) (format : Format) (identity :
 stops_fed {T = T} stops format identity waits piece old split z u w place left s = record {
   within = λ rest.
       let Of : List Line → Type 0 = λ lines. StopsIn stops format identity lines old z u w in
-      subst Of (sym (to_come-fed waits piece rest old split place left)) (record { behind = λ history at. (s.within rest).behind history at });
+      subst Of (sym (to_come-fed waits piece rest old split place left)) (stops_refed stops format identity (to_come waits (record old { splitter = split }) ([] ++ rest)) old split z u w (s.within rest));
 }
-
--- a bad line that is one too many, with others behind it
-pub too_many_more : {B : Type 0} (most_bad : Option ℕ) (bad : ℕ) (first second : List B) (line : B) → IsTooMany most_bad bad first line → IsTooMany most_bad bad (first ++ second) line
-too_many_more most_bad bad first second line t = record {
-  front = t.front;
-  rest = t.rest ++ second;
-  stands = ap (λ l. l ++ second) t.stands ∙ append_assoc t.front (line ∷ t.rest) second;
-  most = t.most;
-}
-
--- with others before it
-pub too_many_later : {B : Type 0} (a b : Option ℕ) (m n : ℕ) (first second : List B) (line : B) → b ≡ a → n ≡ m + length first → IsTooMany b n second line → IsTooMany a m (first ++ second) line
-too_many_later a b m n first second line same count t =
-    let size : length (first ++ t.front) ≡ length first + length t.front = length-append first t.front in
-    let all : n + length t.front ≡ m + length (first ++ t.front) = omega arith in
-    record {
-      front = first ++ t.front;
-      rest = t.rest;
-      stands = ap (λ l. first ++ l) t.stands ∙ sym (append_assoc first t.front (line ∷ t.rest));
-      most = sym same ∙ (t.most ∙ ap Some all);
-    }
 
 -- a bad line where there are as many as may be
-too_many_one : (format : Format) (history : List Line) (line : Line) (most_bad : Option ℕ) (bad row : ℕ) → line.number ≡ row → is_bad (reading_behind format history line) ≡ true → most_bad ≡ Some bad
-    → IsTooMany most_bad bad (bad_following format history (line ∷ [])) row
-too_many_one format history line most_bad bad row number is most =
-    let one : bad_behind format history line ≡ line.number ∷ [] = rw is refl in
-    let none : bad ≡ bad + 0 = omega arith in
-    record { front = []; rest = []; stands = append-nil (bad_behind format history line) ∙ (one ∙ ap (λ k. k ∷ []) number); most = most ∙ ap Some none }
+exceeds_first : {T O : Type 0} (takes : Takes T O) (format : Format) (identity : List ℕ) (history : List Line) (line : Line) (old new : Page T) (w : O) (row : ℕ)
+    → line.number ≡ row → is_bad (reading_behind format history line) ≡ true → takes old.taker w [] old.taker w → new.taker ≡ old.taker → old.most_bad ≡ Some old.bad
+    → ExceedsAfter takes format identity history (line ∷ []) old new w w row
+exceeds_first {T = T} takes format identity history line old new w row number is nothing taker most =
+    let At : T → Type 0 = λ t. takes old.taker w [] t w in
+    let none : old.bad ≡ old.bad + 0 = omega arith in
+    record {
+      front = [];
+      line = line;
+      rest = [];
+      stands = refl;
+      number = number;
+      bad = ap (λ h. is_bad (reading_behind format h line)) (append-nil history) ∙ is;
+      taken = subst At (sym taker) nothing;
+      most = most ∙ ap Some none;
+    }
 
-pub exceeds_line : {T : Type 0} (format : Format) (line : Line) (old : Page T) (text : List ℕ) (reading : Reading) (row : ℕ)
-    → line.number ≡ row → line.text ≡ text → is_overlong line.text ≡ false → reading ≡ format.reading text old.standing.columns → is_bad reading ≡ true → old.most_bad ≡ Some old.bad → ExceedsIn format (line ∷ []) old row
-exceeds_line format line old text reading row number same short read is most = record {
+pub exceeds_line : {T O : Type 0} (takes : Takes T O) (format : Format) (identity : List ℕ) (line : Line) (old new : Page T) (w : O) (text : List ℕ) (reading : Reading) (row : ℕ)
+    → line.number ≡ row → line.text ≡ text → is_overlong line.text ≡ false → reading ≡ format.reading text old.standing.columns → is_bad reading ≡ true
+    → takes old.taker w [] old.taker w → new.taker ≡ old.taker → old.most_bad ≡ Some old.bad → ExceedsIn takes format identity (line ∷ []) old new w w row
+exceeds_line takes format identity line old new w text reading row number same short read is nothing taker most = record {
   behind = λ history at.
       let reading' : reading_behind format history line ≡ reading = reading_line format history line text old.standing at same short ∙ sym read in
-      too_many_one format history line old.most_bad old.bad row number (ap is_bad reading' ∙ is) most;
+      exceeds_first takes format identity history line old new w row number (ap is_bad reading' ∙ is) nothing taker most;
 }
 
-pub exceeds_overlong : {T : Type 0} (format : Format) (line : Line) (old : Page T) (row : ℕ) → line.number ≡ row → is_overlong line.text ≡ true → old.most_bad ≡ Some old.bad → ExceedsIn format (line ∷ []) old row
-exceeds_overlong format line old row number long most = record {
+pub exceeds_overlong : {T O : Type 0} (takes : Takes T O) (format : Format) (identity : List ℕ) (line : Line) (old new : Page T) (w : O) (row : ℕ) → line.number ≡ row → is_overlong line.text ≡ true
+    → takes old.taker w [] old.taker w → new.taker ≡ old.taker → old.most_bad ≡ Some old.bad → ExceedsIn takes format identity (line ∷ []) old new w w row
+exceeds_overlong takes format identity line old new w row number long nothing taker most = record {
   behind = λ history at.
       let is : is_bad (reading_behind format history line) ≡ true = rw long refl in
-      too_many_one format history line old.most_bad old.bad row number is most;
+      exceeds_first takes format identity history line old new w row number is nothing taker most;
 }
 
-pub exceeds_trans : {T O : Type 0} (takes : Takes T O) (format : Format) (identity : List ℕ) (first second : List Line) (a b : Page T) (u v : O) (row : ℕ)
-    → b.most_bad ≡ a.most_bad → Follows takes format identity first a b u v → ExceedsIn format second b row → ExceedsIn format (first ++ second) a row
-exceeds_trans takes format identity first second a b u v row most f s = record {
+pub exceeds_trans : {T O : Type 0} (takes : Takes T O) (more : TakesMore takes) (format : Format) (identity : List ℕ) (first second : List Line) (a b z : Page T) (u v w : O) (row : ℕ)
+    → b.most_bad ≡ a.most_bad → Follows takes format identity first a b u v → ExceedsIn takes format identity second b z v w row → ExceedsIn takes format identity (first ++ second) a z u w row
+exceeds_trans takes more format identity first second a b z u v w row most f s = record {
   behind = λ history at.
       let f' = f.behind history at in
-      let Of : List ℕ → Type 0 = λ l. IsTooMany a.most_bad a.bad l row in
-      subst Of (sym (bad_following-append format history first second))
-      (too_many_later a.most_bad b.most_bad a.bad b.bad (bad_following format history first) (bad_following format (history ++ first) second) row most f'.bad (s.behind (history ++ first) f'.standing));
+      let s' = s.behind (history ++ first) f'.standing in
+      let size = bad_both format history first s'.front in
+      let bad_now = f'.bad in
+      let count : b.bad + length (bad_following format (history ++ first) s'.front) ≡ a.bad + length (bad_following format history (first ++ s'.front)) = omega arith in
+      let Taken : List Met → Type 0 = λ t. takes a.taker u t z.taker w in
+      record {
+        front = first ++ s'.front;
+        line = s'.line;
+        rest = s'.rest;
+        stands = ap (λ l. first ++ l) s'.stands ∙ sym (append_assoc first s'.front (s'.line ∷ s'.rest));
+        number = s'.number;
+        bad = ap (λ h. is_bad (reading_behind format h s'.line)) (sym (append_assoc history first s'.front)) ∙ s'.bad;
+        taken = subst Taken (met_both format identity history first s'.front) (more _ _ _ _ _ _ _ _ f'.done s'.taken);
+        most = sym most ∙ (s'.most ∙ ap Some count);
+      };
 }
 
-pub exceeds_more : {T : Type 0} (format : Format) (first second : List Line) (a : Page T) (row : ℕ) → ExceedsIn format first a row → ExceedsIn format (first ++ second) a row
-exceeds_more format first second a row s = record {
+pub exceeds_more : {T O : Type 0} (takes : Takes T O) (format : Format) (identity : List ℕ) (first second : List Line) (a z : Page T) (u w : O) (row : ℕ)
+    → ExceedsIn takes format identity first a z u w row → ExceedsIn takes format identity (first ++ second) a z u w row
+exceeds_more takes format identity first second a z u w row s = record {
   behind = λ history at.
-      let Of : List ℕ → Type 0 = λ l. IsTooMany a.most_bad a.bad l row in
-      subst Of (sym (bad_following-append format history first second))
-      (too_many_more a.most_bad a.bad (bad_following format history first) (bad_following format (history ++ first) second) row (s.behind history at));
+      let s' = s.behind history at in
+      record {
+        front = s'.front;
+        line = s'.line;
+        rest = s'.rest ++ second;
+        stands = ap (λ l. l ++ second) s'.stands ∙ append_assoc s'.front (s'.line ∷ s'.rest) second;
+        number = s'.number;
+        bad = s'.bad;
+        taken = s'.taken;
+        most = s'.most;
+      };
 }
 
-pub exceeds_in_line : {T : Type 0} (format : Format) (waits : Bool) (old : Page T) (split : Split) (row : ℕ) → TakesFirst old.splitter split
-    → ExceedsIn format (ended_line (old.standing.lines + 1) old.splitter.place (before_first is_lf old.splitter.left) ∷ []) old row → ExceedsWithin format waits [] old row
-exceeds_in_line format waits old split row first s = record {
+-- a piece was fed
+exceeds_refed : {T O : Type 0} (takes : Takes T O) (format : Format) (identity : List ℕ) (lines : List Line) (old : Page T) (split : Split) (z : Page T) (u w : O) (row : ℕ)
+    → ExceedsIn takes format identity lines (record old { splitter = split }) z u w row → ExceedsIn takes format identity lines old z u w row
+exceeds_refed takes format identity lines old split z u w row s = record {
+  behind = λ history at.
+      let s' = s.behind history at in
+      record { front = s'.front; line = s'.line; rest = s'.rest; stands = s'.stands; number = s'.number; bad = s'.bad; taken = s'.taken; most = s'.most };
+}
+
+pub exceeds_in_line : {T O : Type 0} (takes : Takes T O) (format : Format) (identity : List ℕ) (waits : Bool) (old z : Page T) (split : Split) (u w : O) (row : ℕ) → TakesFirst old.splitter split
+    → ExceedsIn takes format identity (ended_line (old.standing.lines + 1) old.splitter.place (before_first is_lf old.splitter.left) ∷ []) old z u w row → ExceedsWithin takes format identity waits [] old z u w row
+exceeds_in_line takes format identity waits old z split u w row first s = record {
   within = λ rest.
       let line = ended_line (old.standing.lines + 1) old.splitter.place (before_first is_lf old.splitter.left) in
       let others = lines_to_come waits (old.standing.lines + 1 + 1) (old.splitter.place + length (before_first is_lf old.splitter.left) + 1) (after_first is_lf old.splitter.left ++ rest) in
-      let Of : List Line → Type 0 = λ lines. ExceedsIn format lines old row in
-      subst Of (sym (lines_to_come-first waits (old.standing.lines + 1) old.splitter.place old.splitter.left rest first.has_end)) (exceeds_more format (line ∷ []) others old row s);
+      let Of : List Line → Type 0 = λ lines. ExceedsIn takes format identity lines old z u w row in
+      subst Of (sym (lines_to_come-first waits (old.standing.lines + 1) old.splitter.place old.splitter.left rest first.has_end)) (exceeds_more takes format identity (line ∷ []) others old z u w row s);
 }
 
-pub exceeds_within : {T O : Type 0} (takes : Takes T O) (format : Format) (identity : List ℕ) (waits : Bool) (first second : List ℕ) (a b : Page T) (u v : O) (row : ℕ)
-    → b.most_bad ≡ a.most_bad → Advances takes format identity waits first a b u v → ExceedsWithin format waits second b row → ExceedsWithin format waits (first ++ second) a row
-exceeds_within takes format identity waits first second a b u v row most f s = record {
+pub exceeds_within : {T O : Type 0} (takes : Takes T O) (more : TakesMore takes) (format : Format) (identity : List ℕ) (waits : Bool) (first second : List ℕ) (a b z : Page T) (u v w : O) (row : ℕ)
+    → b.most_bad ≡ a.most_bad → Advances takes format identity waits first a b u v → ExceedsWithin takes format identity waits second b z v w row → ExceedsWithin takes format identity waits (first ++ second) a z u w row
+exceeds_within takes more format identity waits first second a b z u v w row most f s = record {
   within = λ rest.
-      let Of : List Line → Type 0 = λ lines. ExceedsIn format lines a row in
+      let Of : List Line → Type 0 = λ lines. ExceedsIn takes format identity lines a z u w row in
       subst Of (sym (ap (to_come waits a) (append_assoc first second rest) ∙ f.taken (second ++ rest)))
-      (exceeds_trans takes format identity f.lines (to_come waits b (second ++ rest)) a b u v row most f.follows (s.within rest));
+      (exceeds_trans takes more format identity f.lines (to_come waits b (second ++ rest)) a b z u v w row most f.follows (s.within rest));
 }
 
-pub exceeds_fed : {T : Type 0} (format : Format) (waits : Bool) (piece : List ℕ) (old : Page T) (split : Split) (row : ℕ)
-    → split.place ≡ old.splitter.place → split.left ≡ old.splitter.left ++ piece → ExceedsWithin format waits [] (record old { splitter = split }) row → ExceedsWithin format waits piece old row
-exceeds_fed format waits piece old split row place left s = record {
+pub exceeds_fed : {T O : Type 0} (takes : Takes T O) (format : Format) (identity : List ℕ) (waits : Bool) (piece : List ℕ) (old : Page T) (split : Split) (z : Page T) (u w : O) (row : ℕ)
+    → split.place ≡ old.splitter.place → split.left ≡ old.splitter.left ++ piece → ExceedsWithin takes format identity waits [] (record old { splitter = split }) z u w row → ExceedsWithin takes format identity waits piece old z u w row
+exceeds_fed takes format identity waits piece old split z u w row place left s = record {
   within = λ rest.
-      let Of : List Line → Type 0 = λ lines. ExceedsIn format lines old row in
-      subst Of (sym (to_come-fed waits piece rest old split place left)) (record { behind = λ history at. (s.within rest).behind history at });
+      let Of : List Line → Type 0 = λ lines. ExceedsIn takes format identity lines old z u w row in
+      subst Of (sym (to_come-fed waits piece rest old split place left)) (exceeds_refed takes format identity (to_come waits (record old { splitter = split }) ([] ++ rest)) old split z u w row (s.within rest));
 }
 
 -- it stopped with nothing taken
 pub stops_unmoved : {T O : Type 0} (takes : Takes T O) (stops : Stops T O) (here : StopsHere takes stops) (format : Format) (identity : List ℕ) (lines : List Line) (old new : Page T) (w : O)
-    → new.taker ≡ old.taker → takes old.taker w [] old.taker w → StopsIn stops format identity lines old new w w
-stops_unmoved {T = T} takes stops here format identity lines old new w taker nothing = record {
-  behind = λ history at.
-      let At : T → Type 0 = λ t. takes old.taker w [] t w in
-      here old.taker new.taker w w [] _ (subst At (sym taker) nothing);
-}
+    → new.taker ≡ old.taker → takes old.taker w [] old.taker w → IsWithin old.most_bad old.bad → StopsIn stops format identity lines old new w w
+stops_unmoved {T = T} takes stops here format identity lines old new w taker nothing within =
+    let At : T → Type 0 = λ t. takes old.taker w [] t w in
+    stops_first stops format identity lines old new w w within (here old.taker new.taker w w [] [] (subst At (sym taker) nothing))
 
 pub stops_within_unmoved : {T O : Type 0} (takes : Takes T O) (stops : Stops T O) (here : StopsHere takes stops) (format : Format) (identity : List ℕ) (waits : Bool) (piece : List ℕ) (old new : Page T) (w : O)
-    → new.taker ≡ old.taker → takes old.taker w [] old.taker w → StopsWithin stops format identity waits piece old new w w
-stops_within_unmoved takes stops here format identity waits piece old new w taker nothing = record {
-  within = λ rest. stops_unmoved takes stops here format identity (to_come waits old (piece ++ rest)) old new w taker nothing;
+    → new.taker ≡ old.taker → takes old.taker w [] old.taker w → IsWithin old.most_bad old.bad → StopsWithin stops format identity waits piece old new w w
+stops_within_unmoved takes stops here format identity waits piece old new w taker nothing within = record {
+  within = λ rest. stops_unmoved takes stops here format identity (to_come waits old (piece ++ rest)) old new w taker nothing within;
 }

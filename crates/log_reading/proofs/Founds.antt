@@ -5,13 +5,18 @@ use Rattle.std.proofs.lemmas.List.{map-append, take_more, take-append-drop}
 use Rattle.lp_model.specs.Reading.{Columns, Slots, Record, records_read, rows}
 use Rattle.line_input.specs.declared.slot.Slot.{Slot}
 use Rattle.line_input.specs.Taken.{slot_bytes, slots_of}
-use Rattle.log_reading.specs.Found.{Met, held, met_of, slot_at}
+use Rattle.log_reading.specs.Found.{Met, found_of, held, met_of, row_met, slot_at}
 
 abbrev pub founds : List ℕ → ℕ → Option Columns → List Slots → List Met
 founds identity number columns slots = met_of identity (records_read number columns (rows slots))
 
 pub met_of-append : (identity : List ℕ) (xs ys : List Record) → met_of identity (xs ++ ys) ≡ met_of identity xs ++ met_of identity ys
 met_of-append identity xs ys = map-append _ xs ys
+
+-- the rows of a log are met
+pub met_found : (identity : List ℕ) (records : List Record) → map row_met (found_of identity records) ≡ met_of identity records
+met_found identity [] = refl
+met_found identity (row ∷ records) = ap (λ t. row_met (record { identity = identity; row = row }) ∷ t) (met_found identity records)
 
 pub founds-append : (identity : List ℕ) (number : ℕ) (columns : Option Columns) (xs ys : List Slots)
     → founds identity number columns (xs ++ ys) ≡ founds identity number columns xs ++ founds identity number columns ys

@@ -153,7 +153,7 @@ last_end_from bytes place is_end =
     ]
 
 -- where the lines of a span end that wait for their LF
-pub span_ends : (x : Folder) (span : Span) → IsLineEnd (cut_of x span) span.from → end_of span.from (lines_between (cut_of x span) true span.from (length (cut_of x span))) ≡ span_end x span
+pub span_ends : (x : Folder) (span : Span) → IsLineEnd (cut_of x span) span.from → end_of span.from (lines_between (cut_of x span) true span.from (length (cut_of x span))) ≡ span_end true x span
 span_ends x span is_end =
     let bytes = cut_of x span in
     let rest = drop span.from bytes in

@@ -12,3 +12,5 @@ pub mod RowsMet
 pub mod Sizes
 pub mod Waiting
 pub mod Ahead
+pub mod Ups
+pub mod Fronts

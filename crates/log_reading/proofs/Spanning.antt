@@ -1,26 +1,30 @@
 -- The reading of a log up to a cut, while it grows.
-use Rattle.std.proofs.Common.{◌≡◌, ℕ, ◌+◌, ◌≤◌, Bool, true, List, [], ◌∷◌, ◌++◌, length, map, Option, Some, None, ap, sym, ◌∙◌, refl, subst, arith, length-append, drop}
-use Rattle.std.proofs.lemmas.List.{length-map, append-nil, map-append}
+use Rattle.std.proofs.Common.{◌≡◌, ℕ, ◌+◌, ◌≤◌, Bool, true, false, List, [], ◌∷◌, ◌++◌, ◌-◌, length, map, max, filter, flat_map, Option, Some, None, ap, sym, ◌∙◌, refl, subst, arith, append_assoc, length-append, length-drop, drop}
+use Rattle.std.proofs.Math.Nat.{max-eq_right}
+use Rattle.std.proofs.lemmas.List.{length-map, append-nil}
 use Rattle.std.specs.List.{position_or_len}
-use Rattle.lp_model.specs.Lines.{Line, is_lf, lines_to_come}
+use Rattle.lp_model.specs.Lines.{Line, is_lf, lines_of, lines_to_come}
 use Rattle.lp_model.specs.Outside.{Folder, OnlyGrow, Told}
 use Rattle.lp_model.specs.Pieces.{rest_of}
 use Rattle.log_reading.specs.Parts.{IsPart, IsReadUp}
-use Rattle.lp_model.specs.Reading.{Format, Standing, Record, records_of, bad_lines_of, lines_before, lines_between, standing_behind, standing_at}
+use Rattle.lp_model.specs.Reading.{Format, Standing, Record, is_bad, records_in, records_of, bad_lines_of, lines_before, lines_between, standing_behind, standing_at}
 use Rattle.lp_model.specs.Following.{records_following, bad_following, end_of}
 use Rattle.lp_model.proofs.Carrying.{standing_carried}
 use Rattle.lp_model.proofs.Following.{records_of-following, bad_lines_of-following}
 use Rattle.lp_model.proofs.Growing.{OnlyGrow-refl}
-use Rattle.lp_model.proofs.Ordered.{come_same, lines_between_end}
+use Rattle.lp_model.proofs.Ordered.{come_same, end_fits, lines_behind_end, lines_between_end}
 use Rattle.log_reading.proofs.Parts.{IsPart-grown, IsPart-more, IsPart-none, part_begins}
-use Rattle.log_reading.specs.Found.{Met, met_of, log_ended}
+use Rattle.log_reading.specs.Found.{Met, met_of, log_ended, row_met}
 use Rattle.log_reading.specs.declared.span.Span.{Span}
 use Rattle.log_reading.specs.declared.span.Took.{Took}
 use Rattle.log_reading.specs.declared.page.Page.{Page}
-use Rattle.log_reading.specs.Page.{Takes, Stops, Advances, to_come, Follows, StopsIn, StopsWithin, IsTooMany, ExceedsIn, ExceedsWithin}
-use Rattle.log_reading.specs.Spans.{HasRead, StopsReading, ExceedsReading, BadLine, bad_line, span_bad_lines, log_to_come, IsKept, TakesRows, TakesSpan, cut_of, span_found, span_rows, span_met, span_bad, EndsSpan, took_at, took_of, span_end}
+use Rattle.log_reading.specs.Page.{Takes, Stops, Advances, to_come, Follows, StopsIn, StopsWithin, IsWithin, ExceedsIn, ExceedsWithin}
+use Rattle.log_reading.specs.Spans.{HasRead, StopsReading, ExceedsReading, BadLine, bad_line, log_to_come, IsKept, TakesRows, TakesSpan, cut_of, span_found, span_met, span_bad, EndsSpan, page_end, took_at, took_of, span_end}
+use Rattle.log_reading.specs.UpTo.{UpTo, StopsInSpan, StopsUpTo, TakesUpTo, span_lines, found_on, is_bad_in, met_up_to, bad_up_to}
 use Rattle.line_input.specs.Splitter.{Split}
-use Rattle.log_reading.proofs.Advancing.{TakesMore, StopsHere, StopsLater, StopsMore, advances_trans, advances_none, advances_on, stops_trans, follows_trans, to_come-waiting, exceeds_trans}
+use Rattle.log_reading.proofs.Advancing.{TakesMore, StopsHere, StopsLater, advances_trans, advances_none, advances_on, stops_trans, stops_first, stops_unmoved, within_at, within_of, follows_trans, to_come-waiting, exceeds_trans}
+use Rattle.log_reading.proofs.Founds.{met_found}
+use Rattle.log_reading.proofs.Fronts.{records_front, bad_front, reading_is}
 use Rattle.log_reading.proofs.Ending.{standing_at_cut}
 use Rattle.log_reading.proofs.LastEnd.{span_ends}
 
@@ -58,10 +62,10 @@ has_read_on takes more format identity waits told name cut a b c u v w splitter 
 }
 
 -- it stopped there
-pub stops_on : {T O : Type 0} (stops : Stops T O) (more : StopsMore stops) (format : Format) (identity : List ℕ) (waits : Bool) (told : Option Folder) (name : List ℕ) (cut : ℕ) (b z : Page T) (v w : O)
-    → stops b.taker v [] z.taker w → StopsReading stops format identity waits told name cut b z v w
-stops_on stops more format identity waits None name cut b z v w nothing = record { within = tt }
-stops_on stops more format identity waits (Some x) name cut b z v w nothing = record { within = record { behind = λ history at. more b.taker z.taker v w [] _ nothing } }
+pub stops_on : {T O : Type 0} (stops : Stops T O) (format : Format) (identity : List ℕ) (waits : Bool) (told : Option Folder) (name : List ℕ) (cut : ℕ) (b z : Page T) (v w : O)
+    → IsWithin b.most_bad b.bad → stops b.taker v [] z.taker w → StopsReading stops format identity waits told name cut b z v w
+stops_on stops format identity waits None name cut b z v w within nothing = record { within = tt }
+stops_on stops format identity waits (Some x) name cut b z v w within nothing = record { within = stops_first stops format identity (log_to_come waits b x name cut) b z v w within nothing }
 
 -- it stopped within a piece that was read
 pub stops_in_piece : {T O : Type 0} (stops : Stops T O) (format : Format) (identity : List ℕ) (waits : Bool) (told : Option Folder) (name : List ℕ) (cut : ℕ) (old z : Page T) (bytes : List ℕ) (u w : O)
@@ -75,20 +79,21 @@ stops_in_piece {T = T} stops format identity waits (Some x) name cut old z bytes
 
 -- it stopped with nothing taken
 pub stops_at_once : {T O : Type 0} (takes : Takes T O) (stops : Stops T O) (here : StopsHere takes stops) (format : Format) (identity : List ℕ) (waits : Bool)
-    (told : Option Folder) (name : List ℕ) (cut : ℕ) (old : Page T) (w : O) → takes old.taker w [] old.taker w → StopsReading stops format identity waits told name cut old old w w
-stops_at_once takes stops here format identity waits None name cut old w nothing = record { within = tt }
-stops_at_once takes stops here format identity waits (Some x) name cut old w nothing = record { within = record { behind = λ history at. here old.taker old.taker w w [] _ nothing } }
+    (told : Option Folder) (name : List ℕ) (cut : ℕ) (old : Page T) (w : O) → takes old.taker w [] old.taker w → IsWithin old.most_bad old.bad → StopsReading stops format identity waits told name cut old old w w
+stops_at_once takes stops here format identity waits None name cut old w nothing within = record { within = tt }
+stops_at_once takes stops here format identity waits (Some x) name cut old w nothing within =
+    record { within = stops_unmoved takes stops here format identity (log_to_come waits old x name cut) old old w refl nothing within }
 
 -- it stopped behind a part that was read
 pub stops_behind : {T O : Type 0} (takes : Takes T O) (stops : Stops T O) (later : StopsLater takes stops) (format : Format) (identity : List ℕ) (waits : Bool) (first second : Option Folder) (name : List ℕ) (cut : ℕ) (a b z : Page T) (u v w : O)
-    → OnlyGrow first second → HasRead takes format identity waits first name cut a b u v → StopsReading stops format identity waits second name cut b z v w → StopsReading stops format identity waits second name cut a z u w
-stops_behind takes stops later format identity waits first None name cut a b z u v w grows f s = record { within = tt }
-stops_behind {T = T} takes stops later format identity waits first (Some x) name cut a b z u v w grows f s =
+    → OnlyGrow first second → b.most_bad ≡ a.most_bad → HasRead takes format identity waits first name cut a b u v → StopsReading stops format identity waits second name cut b z v w → StopsReading stops format identity waits second name cut a z u w
+stops_behind takes stops later format identity waits first None name cut a b z u v w grows most f s = record { within = tt }
+stops_behind {T = T} takes stops later format identity waits first (Some x) name cut a b z u v w grows most f s =
     let piece = IsPart-grown first (Some x) name (end_at a) cut f.bytes grows f.piece in
     let rest = rest_of x name (end_at b) cut in
     let Of : List Line → Type 0 = λ lines. StopsIn stops format identity lines a z u w in
     let lines : log_to_come waits a x name cut ≡ f.advances.lines ++ to_come waits b rest = ap (to_come waits a) (part_begins x name (end_at a) (end_at b) cut f.bytes f.end piece) ∙ f.advances.taken rest in
-    record { within = subst Of (sym lines) (stops_trans takes stops later format identity f.advances.lines (to_come waits b rest) a b z u v w f.advances.follows s.within) }
+    record { within = subst Of (sym lines) (stops_trans takes stops later format identity f.advances.lines (to_come waits b rest) a b z u v w most f.advances.follows s.within) }
 
 -- a log was read up to its cut, and what stood behind the last LF was taken
 pub follows_whole : {T O : Type 0} (takes : Takes T O) (more : TakesMore takes) (format : Format) (identity : List ℕ) (waits : Bool) (told : Option Folder) (x : Folder) (name : List ℕ) (cut : ℕ) (a b c : Page T) (u v w : O) → told ≡ Some x
@@ -103,12 +108,12 @@ follows_whole {T = T} takes more format identity waits told x name cut a b c u v
     subst Of (sym lines) (follows_trans takes more format identity f.advances.lines (to_come waits b []) a b c u v w f.advances.follows s)
 
 pub stops_at_end : {T O : Type 0} (takes : Takes T O) (stops : Stops T O) (later : StopsLater takes stops) (format : Format) (identity : List ℕ) (waits : Bool) (told : Option Folder) (name : List ℕ) (cut : ℕ) (a b z : Page T) (u v w : O)
-    → HasRead takes format identity waits told name cut a b u v → IsReadUp told name (end_at b) cut → StopsIn stops format identity (to_come waits b []) b z v w → StopsReading stops format identity waits told name cut a z u w
-stops_at_end takes stops later format identity waits None name cut a b z u v w f whole s = record { within = tt }
-stops_at_end {T = T} takes stops later format identity waits (Some x) name cut a b z u v w f whole s =
+    → b.most_bad ≡ a.most_bad → HasRead takes format identity waits told name cut a b u v → IsReadUp told name (end_at b) cut → StopsIn stops format identity (to_come waits b []) b z v w → StopsReading stops format identity waits told name cut a z u w
+stops_at_end takes stops later format identity waits None name cut a b z u v w most f whole s = record { within = tt }
+stops_at_end {T = T} takes stops later format identity waits (Some x) name cut a b z u v w most f whole s =
     let none : rest_of x name (end_at b) cut ≡ [] = whole in
     let Of : List ℕ → Type 0 = λ rest. StopsIn stops format identity (to_come waits b rest) b z v w in
-    stops_behind takes stops later format identity waits (Some x) (Some x) name cut a b z u v w (OnlyGrow-refl (Some x)) f (record { within = subst Of (sym none) s })
+    stops_behind takes stops later format identity waits (Some x) (Some x) name cut a b z u v w (OnlyGrow-refl (Some x)) most f (record { within = subst Of (sym none) s })
 
 -- the page before a span's first line
 pub record IsStart {T : Type 0} (span : Span) (first : Page T) : Type 0 where
@@ -117,9 +122,9 @@ pub record IsStart {T : Type 0} (span : Span) (first : Page T) : Type 0 where
   pub standing : first.standing ≡ span.standing
 
 -- the lines of a span, by the definitions
-span_lines : {T : Type 0} (waits : Bool) (x : Folder) (span : Span) (first : Page T) (format : Format) → IsStart span first → IsKept format waits (cut_of x span) span
+span_come : {T : Type 0} (waits : Bool) (x : Folder) (span : Span) (first : Page T) (format : Format) → IsStart span first → IsKept format waits (cut_of x span) span
     → log_to_come waits first x span.name span.listed ≡ lines_to_come waits (length (lines_before (cut_of x span) waits span.from) + 1) span.from (drop span.from (cut_of x span))
-span_lines waits x span first format start kept =
+span_come waits x span first format start kept =
     let bytes = cut_of x span in
     let lines : first.standing.lines + 1 ≡ length (lines_before bytes waits span.from) + 1 = ap (λ s. s.lines + 1) (start.standing ∙ kept.standing) in
     let empty : length first.splitter.left ≡ 0 = ap length start.left in
@@ -134,7 +139,7 @@ span_taken {T = T} takes format waits x span old first new u w start taker rows 
     let bytes = cut_of x span in
     let history = lines_before bytes waits span.from in
     let behind = follows.behind history (start.standing ∙ kept.standing) in
-    let lines = span_lines waits x span first format start kept in
+    let lines = span_come waits x span first format start kept in
     let records : records_following format history (log_to_come waits first x span.name span.listed) ≡ records_of format bytes waits span.from (length bytes) =
     ap (records_following format history) lines ∙ sym (records_of-following format bytes waits span.from kept.at_end) in
     let bad_lines : bad_following format history (log_to_come waits first x span.name span.listed) ≡ bad_lines_of format bytes waits span.from (length bytes) =
@@ -151,18 +156,42 @@ span_taken {T = T} takes format waits x span old first new u w start taker rows 
       bad = omega arith;
     }
 
-pub span_stopped : {T O : Type 0} (stops : Stops T O) (format : Format) (waits : Bool) (x : Folder) (span : Span) (old first z : Page T) (u w : O) → IsStart span first → first.taker ≡ old.taker
-    → StopsIn stops format span.identity (log_to_come waits first x span.name span.listed) first z u w → IsKept format waits (cut_of x span) span → stops old.taker u (span_rows format waits x span) z.taker w
-span_stopped {T = T} stops format waits x span old first z u w start taker stopped kept =
+-- what is to come of a span are its lines
+span_all : {T : Type 0} (waits : Bool) (x : Folder) (span : Span) (first : Page T) (format : Format) → IsStart span first → IsKept format waits (cut_of x span) span
+    → log_to_come waits first x span.name span.listed ≡ span_lines waits x span
+span_all waits x span first format start kept = span_come waits x span first format start kept ∙ sym (lines_between_end (cut_of x span) waits span.from kept.at_end)
+
+-- they stand behind those before the span
+span_behind : {T : Type 0} (waits : Bool) (x : Folder) (span : Span) (first : Page T) (format : Format) (lines : List Line) → IsStart span first → IsKept format waits (cut_of x span) span
+    → log_to_come waits first x span.name span.listed ≡ lines → lines_of (cut_of x span) waits ≡ lines_before (cut_of x span) waits span.from ++ lines
+span_behind waits x span first format lines start kept stands =
+    lines_behind_end (cut_of x span) waits span.from kept.at_end ∙ ap (λ t. lines_before (cut_of x span) waits span.from ++ t) (sym (span_come waits x span first format start kept) ∙ stands)
+
+-- the rows of first lines of a span
+met_front : (format : Format) (waits : Bool) (x : Folder) (span : Span) (history front : List Line) → flat_map (records_in format (cut_of x span) waits) front ≡ records_following format history front
+    → met_of span.identity (records_following format history front) ≡ map row_met (found_on format waits x span front)
+met_front format waits x span history front records = sym (ap (met_of span.identity) records) ∙ sym (met_found span.identity (flat_map (records_in format (cut_of x span) waits) front))
+
+pub span_stopped : {T O : Type 0} (stops : Stops T O) (format : Format) (waits : Bool) (x : Folder) (span : Span) (old first z : Page T) (u w : O) → IsStart span first → first.taker ≡ old.taker → first.bad ≡ old.bad → first.most_bad ≡ old.most_bad
+    → StopsIn stops format span.identity (log_to_come waits first x span.name span.listed) first z u w → IsKept format waits (cut_of x span) span → StopsInSpan stops format waits x span old z u w
+span_stopped {T = T} stops format waits x span old first z u w start taker bad most stopped kept =
     let bytes = cut_of x span in
     let history = lines_before bytes waits span.from in
-    let behind = stopped.behind history (start.standing ∙ kept.standing) in
-    let lines = span_lines waits x span first format start kept in
-    let records : records_following format history (log_to_come waits first x span.name span.listed) ≡ records_of format bytes waits span.from (length bytes) =
-    ap (records_following format history) lines ∙ sym (records_of-following format bytes waits span.from kept.at_end) in
-    let Done : List Record → Type 0 = λ t. stops old.taker u (met_of span.identity t) z.taker w in
-    let At : T → Type 0 = λ t. stops t u (met_of span.identity (records_following format history (log_to_come waits first x span.name span.listed))) z.taker w in
-    subst Done records (subst At taker behind)
+    let s = stopped.behind history (start.standing ∙ kept.standing) in
+    let whole = span_behind waits x span first format (s.front ++ s.rest) start kept s.stands in
+    let records = records_front format bytes waits history s.front s.rest whole in
+    let size : length (filter (is_bad_in format waits x span) s.front) ≡ length (bad_following format history s.front) = bad_front format bytes waits history s.front s.rest whole in
+    let count : first.bad + length (bad_following format history s.front) ≡ old.bad + length (filter (is_bad_in format waits x span) s.front) = omega arith in
+    let Stopped : List Met → Type 0 = λ t. stops old.taker u t z.taker w in
+    let At : T → Type 0 = λ t. stops t u (met_of span.identity (records_following format history s.front)) z.taker w in
+    record {
+      lines = s.front;
+      behind = s.rest;
+      stands = sym (span_all waits x span first format start kept) ∙ s.stands;
+      stopped = subst Stopped (met_front format waits x span history s.front records) (subst At taker s.stopped);
+      within = within_of old.most_bad first.most_bad (old.bad + length (filter (is_bad_in format waits x span) s.front)) most
+          (within_at first.most_bad (first.bad + length (bad_following format history s.front)) (old.bad + length (filter (is_bad_in format waits x span) s.front)) count s.within);
+    }
 
 -- the same, as the object tells
 pub told_taken : {T O : Type 0} (takes : Takes T O) (more : TakesMore takes) (format : Format) (waits : Bool) (told : Option Folder) (span : Span) (old first read new : Page T) (u v w : O) → IsStart span first → first.taker ≡ old.taker → first.rows ≡ old.rows → first.bad ≡ old.bad
@@ -172,30 +201,36 @@ told_taken takes more format waits None span old first read new u v w start take
 told_taken takes more format waits (Some x) span old first read new u v w start taker rows bad f whole s =
     span_taken takes format waits x span old first new u w start taker rows bad (follows_whole takes more format span.identity waits (Some x) x span.name span.listed first read new u v w refl f whole s)
 
-pub told_stopped : {T O : Type 0} (stops : Stops T O) (format : Format) (waits : Bool) (told : Option Folder) (span : Span) (old first z : Page T) (u w : O) → IsStart span first → first.taker ≡ old.taker
+pub told_stopped : {T O : Type 0} (stops : Stops T O) (format : Format) (waits : Bool) (told : Option Folder) (span : Span) (old first z : Page T) (u w : O) → IsStart span first → first.taker ≡ old.taker → first.bad ≡ old.bad → first.most_bad ≡ old.most_bad
     → StopsReading stops format span.identity waits told span.name span.listed first z u w
-    → Told told (λ folder. IsKept format waits (cut_of folder span) span → stops old.taker u (span_rows format waits folder span) z.taker w)
-told_stopped stops format waits None span old first z u w start taker s = tt
-told_stopped stops format waits (Some x) span old first z u w start taker s = span_stopped stops format waits x span old first z u w start taker s.within
+    → Told told (λ folder. IsKept format waits (cut_of folder span) span → StopsInSpan stops format waits folder span old z u w)
+told_stopped stops format waits None span old first z u w start taker bad most s = tt
+told_stopped stops format waits (Some x) span old first z u w start taker bad most s = span_stopped stops format waits x span old first z u w start taker bad most s.within
 
 -- nothing was taken of a span
 pub told_at_once : {T O : Type 0} (takes : Takes T O) (stops : Stops T O) (here : StopsHere takes stops) (format : Format) (waits : Bool) (told : Option Folder) (span : Span) (old new : Page T) (w : O) → new.taker ≡ old.taker
-    → takes old.taker w [] old.taker w → Told told (λ folder. IsKept format waits (cut_of folder span) span → stops old.taker w (span_rows format waits folder span) new.taker w)
-told_at_once takes stops here format waits None span old new w same nothing = tt
-told_at_once {T = T} takes stops here format waits (Some x) span old new w same nothing = λ kept.
+    → takes old.taker w [] old.taker w → IsWithin old.most_bad old.bad → Told told (λ folder. IsKept format waits (cut_of folder span) span → StopsInSpan stops format waits folder span old new w w)
+told_at_once takes stops here format waits None span old new w same nothing within = tt
+told_at_once {T = T} takes stops here format waits (Some x) span old new w same nothing within = λ kept.
     let At : T → Type 0 = λ t. takes old.taker w [] t w in
-    here old.taker new.taker w w [] (span_rows format waits x span) (subst At (sym same) nothing)
+    record {
+      lines = [];
+      behind = span_lines waits x span;
+      stands = refl;
+      stopped = here old.taker new.taker w w [] [] (subst At (sym same) nothing);
+      within = within_at old.most_bad old.bad (old.bad + 0) (omega arith) within;
+    }
 
 -- how the page stands at a span's end, where lines wait
 ends_span : {T O : Type 0} (takes : Takes T O) (format : Format) (x : Folder) (span : Span) (first read new : Page T) (u v w : O) → IsStart span first
     → HasRead takes format span.identity true (Some x) span.name span.listed first read u v → IsReadUp (Some x) span.name (end_at read) span.listed → length read.splitter.left ≤ position_or_len is_lf read.splitter.left
-    → new.splitter ≡ read.splitter → Follows takes format span.identity (log_to_come true first x span.name span.listed) first new u w → IsKept format true (cut_of x span) span → EndsSpan format x span new
+    → new.splitter ≡ read.splitter → Follows takes format span.identity (log_to_come true first x span.name span.listed) first new u w → IsKept format true (cut_of x span) span → EndsSpan format true x span new
 ends_span takes format x span first read new u v w start f whole last same follows kept =
     let bytes = cut_of x span in
     let history = lines_before bytes true span.from in
     let behind = follows.behind history (start.standing ∙ kept.standing) in
-    let all : log_to_come true first x span.name span.listed ≡ lines_between bytes true span.from (length bytes) = span_lines true x span first format start kept ∙ sym (lines_between_end bytes true span.from kept.at_end) in
-    let end : end_of span.from (lines_between bytes true span.from (length bytes)) ≡ span_end x span = span_ends x span kept.at_end in
+    let all : log_to_come true first x span.name span.listed ≡ lines_between bytes true span.from (length bytes) = span_come true x span first format start kept ∙ sym (lines_between_end bytes true span.from kept.at_end) in
+    let end : end_of span.from (lines_between bytes true span.from (length bytes)) ≡ span_end true x span = span_ends x span kept.at_end in
     let none : rest_of x span.name (end_at read) span.listed ≡ [] = whole in
     let lines : log_to_come true first x span.name span.listed ≡ f.advances.lines =
     ap (to_come true first) (part_begins x span.name (end_at first) (end_at read) span.listed f.bytes f.end f.piece)
@@ -208,19 +243,46 @@ ends_span takes format x span first read new u v w start f whole last same follo
 pub told_ends : {T O : Type 0} (takes : Takes T O) (more : TakesMore takes) (format : Format) (told : Option Folder) (span : Span) (first read new : Page T) (u v w : O) → IsStart span first
     → HasRead takes format span.identity true told span.name span.listed first read u v → IsReadUp told span.name (end_at read) span.listed → length read.splitter.left ≤ position_or_len is_lf read.splitter.left
     → new.splitter ≡ read.splitter → Follows takes format span.identity (to_come true read []) read new v w
-    → Told told (λ folder. IsKept format true (cut_of folder span) span → EndsSpan format folder span new)
+    → Told told (λ folder. IsKept format true (cut_of folder span) span → EndsSpan format true folder span new)
 told_ends takes more format None span first read new u v w start f whole last same s = tt
 told_ends takes more format (Some x) span first read new u v w start f whole last same s =
     ends_span takes format x span first read new u v w start f whole last same (follows_whole takes more format span.identity true (Some x) x span.name span.listed first read new u v w refl f whole s)
 
+-- the whole of a span
+abbrev pub up_span : (waits : Bool) (folder : Folder) (span : Span) → UpTo waits folder (span ∷ [])
+up_span waits folder span = record { front = span ∷ []; rest = []; stands = refl; lines = []; begins = refl }
+
+met_up_span : (format : Format) (waits : Bool) (folder : Folder) (span : Span) → span_met format waits folder span ≡ met_up_to format waits folder (span ∷ []) (up_span waits folder span)
+met_up_span format waits folder span = sym (append-nil (span_met format waits folder span ++ []) ∙ append-nil (span_met format waits folder span))
+
+bad_up_span : (format : Format) (waits : Bool) (folder : Folder) (span : Span) → length (span_bad format waits folder span) ≡ bad_up_to format waits folder (span ∷ []) (up_span waits folder span)
+bad_up_span format waits folder span =
+    let count : ℕ = length (span_bad format waits folder span ++ []) in
+    let same : count ≡ count + 0 = omega arith in
+    ap length (sym (append-nil (span_bad format waits folder span))) ∙ same
+
+-- it stopped with the whole of a span
+span_whole : {T O : Type 0} (stops : Stops T O) (format : Format) (waits : Bool) (x : Folder) (span : Span) (old new : Page T) (u w : O)
+    → stops old.taker u (span_met format waits x span) new.taker w → IsWithin old.most_bad (old.bad + length (span_bad format waits x span)) → StopsUpTo stops format waits x (span ∷ []) old new u w
+span_whole stops format waits x span old new u w stopped within =
+    let Stopped : List Met → Type 0 = λ t. stops old.taker u t new.taker w in
+    record {
+      up = up_span waits x span;
+      stopped = subst Stopped (met_up_span format waits x span) stopped;
+      within = within_at old.most_bad (old.bad + length (span_bad format waits x span)) (old.bad + bad_up_to format waits x (span ∷ []) (up_span waits x span)) (ap (λ k. old.bad + k) (bad_up_span format waits x span)) within;
+    }
+
 -- a span was taken, and nothing more came of it
 pub told_here : {T O : Type 0} (takes : Takes T O) (stops : Stops T O) (here : StopsHere takes stops) (format : Format) (waits : Bool) (told : Option Folder) (span : Span) (old new : Page T) (u w : O)
-    → Told told (λ folder. IsKept format waits (cut_of folder span) span → TakesSpan takes format waits folder span old new u w)
-    → Told told (λ folder. IsKept format waits (cut_of folder span) span → stops old.taker u (span_met format waits folder span) new.taker w)
-told_here takes stops here format waits None span old new u w t = tt
-told_here {T = T} takes stops here format waits (Some x) span old new u w t = λ kept.
+    → Told told (λ folder. IsKept format waits (cut_of folder span) span → TakesSpan takes format waits folder span old new u w) → new.most_bad ≡ old.most_bad → IsWithin new.most_bad new.bad
+    → Told told (λ folder. IsKept format waits (cut_of folder span) span → StopsUpTo stops format waits folder (span ∷ []) old new u w)
+told_here takes stops here format waits None span old new u w t most within = tt
+told_here {T = T} takes stops here format waits (Some x) span old new u w t most within = λ kept.
+    let taken = t kept in
     let Stopped : List Met → Type 0 = λ l. stops old.taker u l new.taker w in
-    subst Stopped (append-nil (span_met format waits x span)) (here old.taker new.taker u w (span_met format waits x span) [] (t kept).done)
+    span_whole stops format waits x span old new u w
+    (subst Stopped (append-nil (span_met format waits x span)) (here old.taker new.taker u w (span_met format waits x span) [] taken.done))
+    (within_of old.most_bad new.most_bad (old.bad + length (span_bad format waits x span)) most (within_at new.most_bad new.bad (old.bad + length (span_bad format waits x span)) taken.bad within))
 
 -- behind its rows the end of a span's log was taken
 pub told_ended : {T O : Type 0} (takes : Takes T O) (more : TakesMore takes) (format : Format) (waits : Bool) (told : Option Folder) (span : Span) (old mid new : Page T) (u v w : O)
@@ -238,90 +300,97 @@ told_ended takes more format waits (Some x) span old mid new u v w rows stands e
 pub told_unended : {T O : Type 0} (takes : Takes T O) (stops : Stops T O) (later : StopsLater takes stops) (format : Format) (waits : Bool) (told : Option Folder) (span : Span) (old mid new : Page T) (u v w : O)
     → Told told (λ folder. IsKept format waits (cut_of folder span) span → TakesRows takes format waits folder span old mid u v)
     → Told told (λ folder. IsKept format waits (cut_of folder span) span → mid.standing ≡ standing_at format (cut_of folder span) waits (length (cut_of folder span)))
-    → stops mid.taker v (log_ended span.identity mid.standing.columns ∷ []) new.taker w
-    → Told told (λ folder. IsKept format waits (cut_of folder span) span → stops old.taker u (span_met format waits folder span) new.taker w)
-told_unended takes stops later format waits None span old mid new u v w rows stands ended = tt
-told_unended takes stops later format waits (Some x) span old mid new u v w rows stands ended = λ kept.
+    → mid.most_bad ≡ old.most_bad → IsWithin mid.most_bad mid.bad → stops mid.taker v (log_ended span.identity mid.standing.columns ∷ []) new.taker w
+    → Told told (λ folder. IsKept format waits (cut_of folder span) span → StopsUpTo stops format waits folder (span ∷ []) old new u w)
+told_unended takes stops later format waits None span old mid new u v w rows stands most within ended = tt
+told_unended takes stops later format waits (Some x) span old mid new u v w rows stands most within ended = λ kept.
+    let so_far = rows kept in
     let Ended : Standing → Type 0 = λ s. stops mid.taker v (log_ended span.identity s.columns ∷ []) new.taker w in
-    later _ _ _ _ _ _ _ _ (rows kept).done (subst Ended (stands kept) ended)
+    span_whole stops format waits x span old new u w
+    (later _ _ _ _ _ _ _ _ so_far.done (subst Ended (stands kept) ended))
+    (within_of old.most_bad mid.most_bad (old.bad + length (span_bad format waits x span)) most (within_at mid.most_bad mid.bad (old.bad + length (span_bad format waits x span)) so_far.bad within))
 
 -- it stopped within the rows
-pub told_in_rows : {T O : Type 0} (stops : Stops T O) (more : StopsMore stops) (format : Format) (waits : Bool) (told : Option Folder) (span : Span) (old z : Page T) (u w : O)
-    → Told told (λ folder. IsKept format waits (cut_of folder span) span → stops old.taker u (span_rows format waits folder span) z.taker w)
-    → Told told (λ folder. IsKept format waits (cut_of folder span) span → stops old.taker u (span_met format waits folder span) z.taker w)
-told_in_rows stops more format waits None span old z u w s = tt
-told_in_rows stops more format waits (Some x) span old z u w s = λ kept. more _ _ _ _ _ _ (s kept)
+pub told_in_rows : {T O : Type 0} (stops : Stops T O) (format : Format) (waits : Bool) (told : Option Folder) (span : Span) (old z : Page T) (u w : O)
+    → Told told (λ folder. IsKept format waits (cut_of folder span) span → StopsInSpan stops format waits folder span old z u w)
+    → Told told (λ folder. IsKept format waits (cut_of folder span) span → StopsUpTo stops format waits folder (span ∷ []) old z u w)
+told_in_rows stops format waits None span old z u w s = tt
+told_in_rows stops format waits (Some x) span old z u w s = λ kept.
+    let s' = s kept in
+    let count : length (filter (is_bad_in format waits x span) s'.lines) ≡ 0 + length (filter (is_bad_in format waits x span) s'.lines) = omega arith in
+    record {
+      up = record { front = []; rest = span ∷ []; stands = refl; lines = s'.lines; begins = (s'.behind, s'.stands) };
+      stopped = s'.stopped;
+      within = within_at old.most_bad (old.bad + length (filter (is_bad_in format waits x span) s'.lines)) (old.bad + (0 + length (filter (is_bad_in format waits x span) s'.lines))) (ap (λ k. old.bad + k) count) s'.within;
+    }
 
-pub told_took : {T : Type 0} (format : Format) (told : Option Folder) (span : Span) (page : Page T) (a b : List Took) → b ≡ a ++ took_at span.identity span.from page.splitter.place page.standing ∷ []
-    → Told told (λ folder. IsKept format true (cut_of folder span) span → EndsSpan format folder span page) → Told told (λ folder. IsKept format true (cut_of folder span) span → b ≡ a ++ took_of format folder span ∷ [])
-told_took format None span page a b noted ends = tt
-told_took format (Some x) span page a b noted ends = λ kept.
+pub told_took : {T : Type 0} (format : Format) (waits : Bool) (told : Option Folder) (span : Span) (page : Page T) (a b : List Took) → b ≡ a ++ took_at span.identity span.from (page_end waits page) page.standing ∷ []
+    → Told told (λ folder. IsKept format waits (cut_of folder span) span → EndsSpan format waits folder span page) → Told told (λ folder. IsKept format waits (cut_of folder span) span → b ≡ a ++ took_of format waits folder span ∷ [])
+told_took format waits None span page a b noted ends = tt
+told_took format waits (Some x) span page a b noted ends = λ kept.
     let e = ends kept in
-    noted ∙ (ap (λ p. a ++ took_at span.identity span.from p page.standing ∷ []) e.place ∙ ap (λ s. a ++ took_at span.identity span.from (span_end x span) s ∷ []) e.standing)
+    noted ∙ (ap (λ p. a ++ took_at span.identity span.from p page.standing ∷ []) e.place ∙ ap (λ s. a ++ took_at span.identity span.from (span_end waits x span) s ∷ []) e.standing)
 
 -- a bad line was one too many within a piece that was read
-pub exceeds_in_piece : {T : Type 0} (format : Format) (waits : Bool) (told : Option Folder) (name : List ℕ) (cut : ℕ) (old : Page T) (bytes : List ℕ) (row : ℕ)
-    → IsPart told name (old.splitter.place + length old.splitter.left) cut bytes → ExceedsWithin format waits bytes old row → ExceedsReading format waits told name cut old row
-exceeds_in_piece format waits None name cut old bytes row piece s = record { within = tt }
-exceeds_in_piece {T = T} format waits (Some x) name cut old bytes row piece s = record {
+pub exceeds_in_piece : {T O : Type 0} (takes : Takes T O) (format : Format) (identity : List ℕ) (waits : Bool) (told : Option Folder) (name : List ℕ) (cut : ℕ) (old z : Page T) (bytes : List ℕ) (u w : O) (row : ℕ)
+    → IsPart told name (old.splitter.place + length old.splitter.left) cut bytes → ExceedsWithin takes format identity waits bytes old z u w row → ExceedsReading takes format identity waits told name cut old z u w row
+exceeds_in_piece takes format identity waits None name cut old z bytes u w row piece s = record { within = tt }
+exceeds_in_piece {T = T} takes format identity waits (Some x) name cut old z bytes u w row piece s = record {
   within =
-      let Of : List ℕ → Type 0 = λ rest. ExceedsIn format (to_come waits old rest) old row in
+      let Of : List ℕ → Type 0 = λ rest. ExceedsIn takes format identity (to_come waits old rest) old z u w row in
       subst Of (sym (part_begins x name (end_at old) (end_at old + length bytes) cut bytes refl piece)) (s.within (rest_of x name (end_at old + length bytes) cut));
 }
 
 -- behind a part that was read
-pub exceeds_behind : {T O : Type 0} (takes : Takes T O) (format : Format) (identity : List ℕ) (waits : Bool) (first second : Option Folder) (name : List ℕ) (cut : ℕ) (a b : Page T) (u v : O) (row : ℕ)
-    → OnlyGrow first second → b.most_bad ≡ a.most_bad → HasRead takes format identity waits first name cut a b u v → ExceedsReading format waits second name cut b row → ExceedsReading format waits second name cut a row
-exceeds_behind takes format identity waits first None name cut a b u v row grows most f s = record { within = tt }
-exceeds_behind {T = T} takes format identity waits first (Some x) name cut a b u v row grows most f s =
+pub exceeds_behind : {T O : Type 0} (takes : Takes T O) (more : TakesMore takes) (format : Format) (identity : List ℕ) (waits : Bool) (first second : Option Folder) (name : List ℕ) (cut : ℕ) (a b z : Page T) (u v w : O) (row : ℕ)
+    → OnlyGrow first second → b.most_bad ≡ a.most_bad → HasRead takes format identity waits first name cut a b u v → ExceedsReading takes format identity waits second name cut b z v w row → ExceedsReading takes format identity waits second name cut a z u w row
+exceeds_behind takes more format identity waits first None name cut a b z u v w row grows most f s = record { within = tt }
+exceeds_behind {T = T} takes more format identity waits first (Some x) name cut a b z u v w row grows most f s =
     let piece = IsPart-grown first (Some x) name (end_at a) cut f.bytes grows f.piece in
     let rest = rest_of x name (end_at b) cut in
-    let Of : List Line → Type 0 = λ lines. ExceedsIn format lines a row in
+    let Of : List Line → Type 0 = λ lines. ExceedsIn takes format identity lines a z u w row in
     let lines : log_to_come waits a x name cut ≡ f.advances.lines ++ to_come waits b rest = ap (to_come waits a) (part_begins x name (end_at a) (end_at b) cut f.bytes f.end piece) ∙ f.advances.taken rest in
-    record { within = subst Of (sym lines) (exceeds_trans takes format identity f.advances.lines (to_come waits b rest) a b u v row most f.advances.follows s.within) }
+    record { within = subst Of (sym lines) (exceeds_trans takes more format identity f.advances.lines (to_come waits b rest) a b z u v w row most f.advances.follows s.within) }
 
 -- in what stood behind the last LF
-pub exceeds_at_end : {T O : Type 0} (takes : Takes T O) (format : Format) (identity : List ℕ) (waits : Bool) (told : Option Folder) (name : List ℕ) (cut : ℕ) (a b : Page T) (u v : O) (row : ℕ)
-    → b.most_bad ≡ a.most_bad → HasRead takes format identity waits told name cut a b u v → IsReadUp told name (end_at b) cut → ExceedsIn format (to_come waits b []) b row → ExceedsReading format waits told name cut a row
-exceeds_at_end takes format identity waits None name cut a b u v row most f whole s = record { within = tt }
-exceeds_at_end {T = T} takes format identity waits (Some x) name cut a b u v row most f whole s =
+pub exceeds_at_end : {T O : Type 0} (takes : Takes T O) (more : TakesMore takes) (format : Format) (identity : List ℕ) (waits : Bool) (told : Option Folder) (name : List ℕ) (cut : ℕ) (a b z : Page T) (u v w : O) (row : ℕ)
+    → b.most_bad ≡ a.most_bad → HasRead takes format identity waits told name cut a b u v → IsReadUp told name (end_at b) cut → ExceedsIn takes format identity (to_come waits b []) b z v w row → ExceedsReading takes format identity waits told name cut a z u w row
+exceeds_at_end takes more format identity waits None name cut a b z u v w row most f whole s = record { within = tt }
+exceeds_at_end {T = T} takes more format identity waits (Some x) name cut a b z u v w row most f whole s =
     let none : rest_of x name (end_at b) cut ≡ [] = whole in
-    let Of : List ℕ → Type 0 = λ rest. ExceedsIn format (to_come waits b rest) b row in
-    exceeds_behind takes format identity waits (Some x) (Some x) name cut a b u v row (OnlyGrow-refl (Some x)) most f (record { within = subst Of (sym none) s })
+    let Of : List ℕ → Type 0 = λ rest. ExceedsIn takes format identity (to_come waits b rest) b z v w row in
+    exceeds_behind takes more format identity waits (Some x) (Some x) name cut a b z u v w row (OnlyGrow-refl (Some x)) most f (record { within = subst Of (sym none) s })
 
--- the bad lines of a log that is named
-too_many_named : (most_bad : Option ℕ) (bad : ℕ) (identity : List ℕ) (rows : List ℕ) (row : ℕ) → IsTooMany most_bad bad rows row → IsTooMany most_bad bad (map (bad_line identity) rows) (bad_line identity row)
-too_many_named most_bad bad identity rows row t =
-    let size : length (map (bad_line identity) t.front) ≡ length t.front = length-map t.front (bad_line identity) in
-    record {
-      front = map (bad_line identity) t.front;
-      rest = map (bad_line identity) t.rest;
-      stands = ap (map (bad_line identity)) t.stands ∙ map-append (bad_line identity) t.front (row ∷ t.rest);
-      most = t.most ∙ ap (λ k. Some (bad + k)) (sym size);
-    }
-
-pub span_exceeded : {T : Type 0} (format : Format) (waits : Bool) (x : Folder) (span : Span) (old first : Page T) (row : ℕ) → IsStart span first → first.bad ≡ old.bad → first.most_bad ≡ old.most_bad
-    → ExceedsIn format (log_to_come waits first x span.name span.listed) first row → IsKept format waits (cut_of x span) span
-    → IsTooMany old.most_bad old.bad (span_bad_lines format waits x span) (bad_line span.identity row)
-span_exceeded format waits x span old first row start bad most s kept =
+pub span_exceeded : {T O : Type 0} (takes : Takes T O) (format : Format) (waits : Bool) (x : Folder) (span : Span) (old first z : Page T) (u w : O) (row : ℕ) → IsStart span first → first.taker ≡ old.taker → first.bad ≡ old.bad → first.most_bad ≡ old.most_bad
+    → ExceedsIn takes format span.identity (log_to_come waits first x span.name span.listed) first z u w row → IsKept format waits (cut_of x span) span
+    → TakesUpTo takes format waits x (span ∷ []) (bad_line span.identity row) old z u w
+span_exceeded {T = T} takes format waits x span old first z u w row start taker bad most exceeds kept =
     let bytes = cut_of x span in
     let history = lines_before bytes waits span.from in
-    let behind = s.behind history (start.standing ∙ kept.standing) in
-    let lines = span_lines waits x span first format start kept in
-    let rows : bad_following format history (log_to_come waits first x span.name span.listed) ≡ span_bad format waits x span =
-    ap (bad_following format history) lines ∙ sym (bad_lines_of-following format bytes waits span.from kept.at_end) in
-    let Of : List ℕ → Type 0 = λ l. IsTooMany first.most_bad first.bad l row in
-    let Most : Option ℕ → Type 0 = λ m. IsTooMany m first.bad (span_bad format waits x span) row in
-    let So : ℕ → Type 0 = λ k. IsTooMany old.most_bad k (span_bad format waits x span) row in
-    too_many_named old.most_bad old.bad span.identity (span_bad format waits x span) row (subst So bad (subst Most most (subst Of rows behind)))
+    let s = exceeds.behind history (start.standing ∙ kept.standing) in
+    let whole = span_behind waits x span first format (s.front ++ s.line ∷ s.rest) start kept s.stands in
+    let lines : span_lines waits x span ≡ s.front ++ s.line ∷ s.rest = sym (span_all waits x span first format start kept) ∙ s.stands in
+    let records = records_front format bytes waits history s.front (s.line ∷ s.rest) whole in
+    let size : length (filter (is_bad_in format waits x span) s.front) ≡ length (bad_following format history s.front) = bad_front format bytes waits history s.front (s.line ∷ s.rest) whole in
+    let reading = reading_is format bytes waits (history ++ s.front) s.rest s.line (whole ∙ sym (append_assoc history s.front (s.line ∷ s.rest))) in
+    let is_bad' : is_bad_in format waits x span s.line ≡ true = ap is_bad reading ∙ s.bad in
+    let count : first.bad + length (bad_following format history s.front) ≡ old.bad + (0 + length (filter (is_bad_in format waits x span) s.front)) = omega arith in
+    let Taken : List Met → Type 0 = λ t. takes old.taker u t z.taker w in
+    let At : T → Type 0 = λ t. takes t u (met_of span.identity (records_following format history s.front)) z.taker w in
+    record {
+      up = record { front = []; rest = span ∷ []; stands = refl; lines = s.front; begins = (s.line ∷ s.rest, lines) };
+      taken = subst Taken (met_front format waits x span history s.front records) (subst At taker s.taken);
+      next = (s.line, s.rest, lines, is_bad', ap (bad_line span.identity) (sym s.number));
+      most = sym most ∙ (s.most ∙ ap Some count);
+    }
 
-pub told_exceeded : {T : Type 0} (format : Format) (waits : Bool) (told : Option Folder) (span : Span) (old first : Page T) (line : BadLine) → IsStart span first → first.bad ≡ old.bad → first.most_bad ≡ old.most_bad
-    → line.log ≡ span.identity → ExceedsReading format waits told span.name span.listed first line.row
-    → Told told (λ folder. IsKept format waits (cut_of folder span) span → IsTooMany old.most_bad old.bad (span_bad_lines format waits folder span) line)
-told_exceeded format waits None span old first line start bad most named s = tt
-told_exceeded format waits (Some x) span old first line start bad most named s = λ kept.
-    let Of : List ℕ → Type 0 = λ log. IsTooMany old.most_bad old.bad (span_bad_lines format waits x span) (bad_line log line.row) in
-    subst Of (sym named) (span_exceeded format waits x span old first line.row start bad most s.within kept)
+pub told_exceeded : {T O : Type 0} (takes : Takes T O) (format : Format) (waits : Bool) (told : Option Folder) (span : Span) (old first z : Page T) (u w : O) (line : BadLine) → IsStart span first → first.taker ≡ old.taker → first.bad ≡ old.bad → first.most_bad ≡ old.most_bad
+    → line.log ≡ span.identity → ExceedsReading takes format span.identity waits told span.name span.listed first z u w line.row
+    → Told told (λ folder. IsKept format waits (cut_of folder span) span → TakesUpTo takes format waits folder (span ∷ []) line old z u w)
+told_exceeded takes format waits None span old first z u w line start taker bad most named s = tt
+told_exceeded takes format waits (Some x) span old first z u w line start taker bad most named s = λ kept.
+    let Of : List ℕ → Type 0 = λ log. TakesUpTo takes format waits x (span ∷ []) (bad_line log line.row) old z u w in
+    subst Of (sym named) (span_exceeded takes format waits x span old first z u w line.row start taker bad most s.within kept)
 
 -- how a log stands where the span ends
 pub told_standing : {T O : Type 0} (takes : Takes T O) (more : TakesMore takes) (format : Format) (waits : Bool) (told : Option Folder) (span : Span) (first read new : Page T) (u v w : O) → IsStart span first
@@ -333,5 +402,34 @@ told_standing takes more format waits (Some x) span first read new u v w start f
     let history = lines_before bytes waits span.from in
     let follows = follows_whole takes more format span.identity waits (Some x) x span.name span.listed first read new u v w refl f whole s in
     let behind = follows.behind history (start.standing ∙ kept.standing) in
-    let all : log_to_come waits first x span.name span.listed ≡ lines_between bytes waits span.from (length bytes) = span_lines waits x span first format start kept ∙ sym (lines_between_end bytes waits span.from kept.at_end) in
+    let all : log_to_come waits first x span.name span.listed ≡ lines_between bytes waits span.from (length bytes) = span_come waits x span first format start kept ∙ sym (lines_between_end bytes waits span.from kept.at_end) in
     behind.standing ∙ (ap (λ t. standing_behind format (history ++ t)) all ∙ standing_at_cut format bytes waits span.from kept.at_end)
+
+-- where lines don't wait, all of the log up to the cut was read
+ends_at_cut : {T O : Type 0} (takes : Takes T O) (format : Format) (x : Folder) (span : Span) (first read new : Page T) (u v : O) → IsStart span first
+    → HasRead takes format span.identity false (Some x) span.name span.listed first read u v → IsReadUp (Some x) span.name (end_at read) span.listed → end_at new ≡ end_at read
+    → new.standing ≡ standing_at format (cut_of x span) false (length (cut_of x span)) → IsKept format false (cut_of x span) span → EndsSpan format false x span new
+ends_at_cut takes format x span first read new u v start f whole same standing kept =
+    let bytes = cut_of x span in
+    let fits : span.from ≤ length bytes = end_fits bytes span.from kept.at_end in
+    let none : rest_of x span.name (end_at read) span.listed ≡ [] = whole in
+    let begins : rest_of x span.name (end_at first) span.listed ≡ f.bytes =
+    part_begins x span.name (end_at first) (end_at read) span.listed f.bytes f.end f.piece ∙ (ap (λ t. f.bytes ++ t) none ∙ append-nil f.bytes) in
+    let size : length (drop (end_at first) bytes) ≡ length f.bytes = ap length begins in
+    let left : length (drop (end_at first) bytes) ≡ length bytes - end_at first = length-drop (end_at first) bytes in
+    let empty : length first.splitter.left ≡ 0 = ap length start.left in
+    let place = start.place in
+    let end = f.end in
+    let at : end_at new ≡ length bytes = omega (arith, same, fits, size, left, empty, place, end) in
+    let most : max span.from (length bytes) ≡ length bytes = max-eq_right {n = span.from} {m = length bytes} fits in
+    record { place = at ∙ sym most; standing = standing ∙ ap (standing_at format bytes false) (sym most) }
+
+-- how the page stands at a span's end, whether lines wait or not
+pub told_ended_so : {T O : Type 0} (takes : Takes T O) (more : TakesMore takes) (format : Format) (waits : Bool) (told : Option Folder) (span : Span) (first read new : Page T) (u v w : O) → IsStart span first
+    → HasRead takes format span.identity waits told span.name span.listed first read u v → IsReadUp told span.name (end_at read) span.listed → length read.splitter.left ≤ position_or_len is_lf read.splitter.left
+    → (waits ≡ true → new.splitter ≡ read.splitter) → end_at new ≡ end_at read → Follows takes format span.identity (to_come waits read []) read new v w
+    → Told told (λ folder. IsKept format waits (cut_of folder span) span → EndsSpan format waits folder span new)
+told_ended_so takes more format true told span first read new u v w start f whole last same end s = told_ends takes more format told span first read new u v w start f whole last (same refl) s
+told_ended_so takes more format false None span first read new u v w start f whole last same end s = tt
+told_ended_so takes more format false (Some x) span first read new u v w start f whole last same end s = λ kept.
+    ends_at_cut takes format x span first read new u v start f whole end (told_standing takes more format false (Some x) span first read new u v w start f whole s kept) kept

@@ -1,7 +1,7 @@
 -- The reading of logs, one after the other, while they grow.
 use Rattle.std.specs.Prelude.{max}
-use Rattle.std.proofs.Common.{◌≡◌, ℕ, suc, true, ◌+◌, ◌-◌, ◌<◌, ◌≤◌, Bool, List, [], ◌∷◌, ◌++◌, length, take, drop, get_or, map, flat_map, Option, Some, None, ap, sym, ◌∙◌, refl, subst, arith, length-append, append_assoc}
-use Rattle.std.proofs.lemmas.List.{take_more, take-append-drop, get_or-take, append-nil, length-take-le, map-append, length-map}
+use Rattle.std.proofs.Common.{◌≡◌, ℕ, suc, true, ◌+◌, ◌-◌, ◌<◌, ◌≤◌, Bool, List, [], ◌∷◌, ◌++◌, length, take, drop, get_or, map, flat_map, if◌then◌else◌, Option, Some, None, ap, sym, ◌∙◌, refl, subst, arith, length-append, append_assoc}
+use Rattle.std.proofs.lemmas.List.{take_more, take-append-drop, get_or-take, append-nil, length-take-le, map-append}
 use Rattle.std.proofs.lemmas.List.Sums.{sum_by-append}
 use Rattle.std.proofs.lemmas.Grind.{flat_map-append}
 use Rattle.lp_model.specs.Outside.{Folder, OnlyGrow, Told, bytes_in}
@@ -12,8 +12,10 @@ use Rattle.log_reading.specs.declared.page.Page.{Page}
 use Rattle.log_reading.specs.declared.span.Span.{Span}
 use Rattle.log_reading.specs.declared.span.Took.{Took}
 use Rattle.log_reading.specs.Page.{Takes, Stops, IsTooMany}
-use Rattle.log_reading.specs.Spans.{BadLine, bad_line, span_bad_lines, spans_bad_lines, IsKept, TakesSpan, TakesSpans, AllSpans, AreKept, cut_of, span_found, span_met, span_bad, spans_found, spans_met, spans_bad, spans_size, last_end, took_of, took_at}
-use Rattle.log_reading.proofs.Advancing.{TakesMore, StopsLater, StopsMore, too_many_more, too_many_later}
+use Rattle.log_reading.specs.Spans.{BadLine, spans_bad_lines, IsKept, TakesSpan, TakesSpans, AllSpans, AreKept, cut_of, span_found, span_met, span_bad, spans_found, spans_met, spans_bad, spans_size, last_end, took_of, took_at}
+use Rattle.log_reading.specs.UpTo.{StopsUpTo, TakesUpTo}
+use Rattle.log_reading.proofs.Advancing.{TakesMore, StopsLater, StopsMore}
+use Rattle.log_reading.proofs.Ups.{stops_up_behind, takes_up_behind, stops_up_to_all, takes_up_to_bad}
 
 -- what a span's bytes say, where they are the same in two folders
 pub kept_along : (format : Format) (waits : Bool) (a b : Folder) (span : Span) → cut_of b span ≡ cut_of a span → IsKept format waits (cut_of b span) span → IsKept format waits (cut_of a span) span
@@ -124,71 +126,96 @@ spans_more takes more format waits (Some x) (Some y) spans i span a b c u v w lt
     let Done : List Met → Type 0 = λ t. takes a.taker u t c.taker w in
     record { done = subst Done met_all (more _ _ _ _ _ _ _ _ so_far.done here.done); rows = omega arith; bad = omega arith }
 
+-- spans were taken, while logs grew
+spans_along : {T O : Type 0} (takes : Takes T O) (format : Format) (waits : Bool) (x y : Folder) (spans : List Span) (a b : Page T) (u v : O) → AllSpans spans (λ s. cut_of y s ≡ cut_of x s)
+    → TakesSpans takes format waits x spans a b u v → TakesSpans takes format waits y spans a b u v
+spans_along takes format waits x y spans a b u v same t =
+    let founds : spans_found format waits y spans ≡ spans_found format waits x spans =
+    flat_map-same (span_found format waits y) (span_found format waits x) spans (λ k s lt is. found_along format waits x y s (same k s lt is)) in
+    let bads : spans_bad format waits y spans ≡ spans_bad format waits x spans =
+    flat_map-same (span_bad format waits y) (span_bad format waits x) spans (λ k s lt is. bad_along format waits x y s (same k s lt is)) in
+    let mets : spans_met format waits y spans ≡ spans_met format waits x spans =
+    flat_map-same (span_met format waits y) (span_met format waits x) spans (λ k s lt is. met_along format waits x y s (same k s lt is)) in
+    let Done : List Met → Type 0 = λ l. takes a.taker u l b.taker v in
+    record {
+      done = subst Done (sym mets) t.done;
+      rows = t.rows ∙ ap (λ l. a.rows + length l) (sym founds);
+      bad = t.bad ∙ ap (λ l. a.bad + length l) (sym bads);
+    }
+
+told_along : {T O : Type 0} (takes : Takes T O) (format : Format) (waits : Bool) (first second : Option Folder) (spans : List Span) (a b : Page T) (u v : O)
+    → OnlyGrow first second → Told first (λ folder. AllSpans spans (λ s. s.listed ≤ length (bytes_in folder s.name)))
+    → Told first (λ folder. AreKept format waits spans folder → TakesSpans takes format waits folder spans a b u v)
+    → Told second (λ folder. AreKept format waits spans folder → TakesSpans takes format waits folder spans a b u v)
+told_along takes format waits None None spans a b u v grows there f = tt
+told_along takes format waits None (Some y) spans a b u v grows there f = let e : Some y ≡ None = grows in cc
+told_along takes format waits (Some x) None spans a b u v grows there f = tt
+told_along takes format waits (Some x) (Some y) spans a b u v grows there f = λ kept.
+    let same = cuts_stay x y spans grows there in
+    spans_along takes format waits x y spans a b u v same (f (λ k s lt is. kept_along format waits x y s (same k s lt is) (kept k s lt is)))
+
+-- those in front of a span, it, and those behind it
+spans_split : (spans : List Span) (i : ℕ) (span : Span) → i < length spans → span ≡ get_or spans i span → take i spans ++ ((span ∷ []) ++ drop (i + 1) spans) ≡ spans
+spans_split spans i span lt is =
+    sym (append_assoc (take i spans) (span ∷ []) (drop (i + 1) spans)) ∙ (ap (λ t. t ++ drop (i + 1) spans) (sym (one_more spans i span lt is)) ∙ take-append-drop (i + 1) spans)
+
+told_in_turn : {T O : Type 0} (takes : Takes T O) (stops : Stops T O) (later : StopsLater takes stops) (format : Format) (waits : Bool) (told : Option Folder) (spans : List Span) (i : ℕ) (span : Span) (a b z : Page T) (u v w : O) → i < length spans → span ≡ get_or spans i span
+    → b.most_bad ≡ a.most_bad → Told told (λ folder. AreKept format waits (take i spans) folder → TakesSpans takes format waits folder (take i spans) a b u v)
+    → Told told (λ folder. IsKept format waits (cut_of folder span) span → StopsUpTo stops format waits folder (span ∷ []) b z v w)
+    → Told told (λ folder. AreKept format waits spans folder → StopsUpTo stops format waits folder spans a z u w)
+told_in_turn takes stops later format waits None spans i span a b z u v w lt is most f s = tt
+told_in_turn {T = T} takes stops later format waits (Some y) spans i span a b z u v w lt is most f s = λ kept.
+    let Of : List Span → Type 0 = λ l. StopsUpTo stops format waits y l a z u w in
+    subst Of (spans_split spans i span lt is)
+    (stops_up_behind takes stops later format waits y (take i spans) (span ∷ []) (drop (i + 1) spans) a b z u v w most
+    (f (front_all spans (λ s. IsKept format waits (cut_of y s) s) i (omega arith) kept)) (s (kept i span lt is)))
+
+told_behind : {T O : Type 0} (takes : Takes T O) (more : TakesMore takes) (format : Format) (waits : Bool) (told : Option Folder) (spans : List Span) (i : ℕ) (span : Span) (line : BadLine) (a b z : Page T) (u v w : O) → i < length spans → span ≡ get_or spans i span
+    → b.most_bad ≡ a.most_bad → Told told (λ folder. AreKept format waits (take i spans) folder → TakesSpans takes format waits folder (take i spans) a b u v)
+    → Told told (λ folder. IsKept format waits (cut_of folder span) span → TakesUpTo takes format waits folder (span ∷ []) line b z v w)
+    → Told told (λ folder. AreKept format waits spans folder → TakesUpTo takes format waits folder spans line a z u w)
+told_behind takes more format waits None spans i span line a b z u v w lt is most f s = tt
+told_behind {T = T} takes more format waits (Some y) spans i span line a b z u v w lt is most f s = λ kept.
+    let Of : List Span → Type 0 = λ l. TakesUpTo takes format waits y l line a z u w in
+    subst Of (spans_split spans i span lt is)
+    (takes_up_behind takes more format waits y (take i spans) (span ∷ []) (drop (i + 1) spans) line a b z u v w most
+    (f (front_all spans (λ s. IsKept format waits (cut_of y s) s) i (omega arith) kept)) (s (kept i span lt is)))
+
 -- it stopped within a span
-pub spans_stopped : {T O : Type 0} (takes : Takes T O) (stops : Stops T O) (later : StopsLater takes stops) (more : StopsMore stops) (format : Format) (waits : Bool) (first second : Option Folder) (spans : List Span) (i : ℕ) (span : Span) (a b z : Page T) (u v w : O) → i < length spans → span ≡ get_or spans i span
-    → OnlyGrow first second → Told first (λ folder. AllSpans (take i spans) (λ s. s.listed ≤ length (bytes_in folder s.name)))
-    → Told first (λ folder. AreKept format waits (take i spans) folder → TakesSpans takes format waits folder (take i spans) a b u v)
-    → Told second (λ folder. IsKept format waits (cut_of folder span) span → stops b.taker v (span_met format waits folder span) z.taker w)
-    → Told second (λ folder. AreKept format waits spans folder → stops a.taker u (spans_met format waits folder spans) z.taker w)
-spans_stopped takes stops later more format waits None None spans i span a b z u v w lt is grows there f s = tt
-spans_stopped takes stops later more format waits None (Some y) spans i span a b z u v w lt is grows there f s = let e : Some y ≡ None = grows in cc
-spans_stopped takes stops later more format waits (Some x) None spans i span a b z u v w lt is grows there f s = tt
-spans_stopped takes stops later more format waits (Some x) (Some y) spans i span a b z u v w lt is grows there f s = λ kept.
-    let front = cuts_stay x y (take i spans) grows there in
-    let kept_front = front_all spans (λ s. IsKept format waits (cut_of y s) s) i (omega arith) kept in
-    let so_far = f (λ k s lt' is'. kept_along format waits x y s (front k s lt' is') (kept_front k s lt' is')) in
-    let here = s (kept i span lt is) in
-    let founds : spans_met format waits y (take i spans) ≡ spans_met format waits x (take i spans) =
-    flat_map-same (span_met format waits y) (span_met format waits x) (take i spans) (λ k s lt' is'. met_along format waits x y s (front k s lt' is')) in
-    let found_one : spans_met format waits y (take (i + 1) spans) ≡ spans_met format waits y (take i spans) ++ span_met format waits y span = flat_one (span_met format waits y) spans i span lt is in
-    let all : spans_met format waits x (take i spans) ++ span_met format waits y span ≡ spans_met format waits y (take (i + 1) spans) = ap (λ t. t ++ span_met format waits y span) (sym founds) ∙ sym found_one in
-    let rest = spans_met format waits y (drop (i + 1) spans) in
-    let whole : (spans_met format waits x (take i spans) ++ span_met format waits y span) ++ rest ≡ spans_met format waits y spans =
-    ap (λ t. t ++ rest) all ∙ (sym (flat_map-append (span_met format waits y) (take (i + 1) spans) (drop (i + 1) spans)) ∙ ap (spans_met format waits y) (take-append-drop (i + 1) spans)) in
-    let Stopped : List Met → Type 0 = λ t. stops a.taker u t z.taker w in
-    subst Stopped whole (more _ _ _ _ _ _ (later _ _ _ _ _ _ _ _ so_far.done here))
-
--- as many bad lines as numbers of bad lines
-bad_lines_length : (format : Format) (waits : Bool) (folder : Folder) (spans : List Span) → length (spans_bad_lines format waits folder spans) ≡ length (spans_bad format waits folder spans)
-bad_lines_length format waits folder [] = refl
-bad_lines_length format waits folder (span ∷ spans) =
-    let rest = bad_lines_length format waits folder spans in
-    let first : length (span_bad_lines format waits folder span) ≡ length (span_bad format waits folder span) = length-map (span_bad format waits folder span) (bad_line span.identity) in
-    let named : length (spans_bad_lines format waits folder (span ∷ spans)) ≡ length (span_bad_lines format waits folder span) + length (spans_bad_lines format waits folder spans) = length-append (span_bad_lines format waits folder span) (spans_bad_lines format waits folder spans) in
-    let numbers : length (spans_bad format waits folder (span ∷ spans)) ≡ length (span_bad format waits folder span) + length (spans_bad format waits folder spans) = length-append (span_bad format waits folder span) (spans_bad format waits folder spans) in
-    omega arith
-
--- a bad line of a span was one too many
-pub spans_exceeded : {T O : Type 0} (takes : Takes T O) (format : Format) (waits : Bool) (first second : Option Folder) (spans : List Span) (i : ℕ) (span : Span) (a b : Page T) (u v : O) (line : BadLine) → i < length spans → span ≡ get_or spans i span
+pub spans_stopped : {T O : Type 0} (takes : Takes T O) (stops : Stops T O) (later : StopsLater takes stops) (format : Format) (waits : Bool) (first second : Option Folder) (spans : List Span) (i : ℕ) (span : Span) (a b z : Page T) (u v w : O) → i < length spans → span ≡ get_or spans i span
     → OnlyGrow first second → Told first (λ folder. AllSpans (take i spans) (λ s. s.listed ≤ length (bytes_in folder s.name))) → b.most_bad ≡ a.most_bad
     → Told first (λ folder. AreKept format waits (take i spans) folder → TakesSpans takes format waits folder (take i spans) a b u v)
-    → Told second (λ folder. IsKept format waits (cut_of folder span) span → IsTooMany b.most_bad b.bad (span_bad_lines format waits folder span) line)
-    → Told second (λ folder. AreKept format waits spans folder → IsTooMany a.most_bad a.bad (spans_bad_lines format waits folder spans) line)
-spans_exceeded takes format waits None None spans i span a b u v line lt is grows there most f s = tt
-spans_exceeded takes format waits None (Some y) spans i span a b u v line lt is grows there most f s = let e : Some y ≡ None = grows in cc
-spans_exceeded takes format waits (Some x) None spans i span a b u v line lt is grows there most f s = tt
-spans_exceeded takes format waits (Some x) (Some y) spans i span a b u v line lt is grows there most f s = λ kept.
-    let front = cuts_stay x y (take i spans) grows there in
-    let kept_front = front_all spans (λ s. IsKept format waits (cut_of y s) s) i (omega arith) kept in
-    let so_far = f (λ k s lt' is'. kept_along format waits x y s (front k s lt' is') (kept_front k s lt' is')) in
-    let here = s (kept i span lt is) in
-    let bads : spans_bad format waits y (take i spans) ≡ spans_bad format waits x (take i spans) =
-    flat_map-same (span_bad format waits y) (span_bad format waits x) (take i spans) (λ k s lt' is'. bad_along format waits x y s (front k s lt' is')) in
-    let size : length (spans_bad format waits y (take i spans)) ≡ length (spans_bad format waits x (take i spans)) = ap length bads in
-    let named = bad_lines_length format waits y (take i spans) in
-    let counted = so_far.bad in
-    let before = spans_bad_lines format waits y (take i spans) in
-    let rest = spans_bad_lines format waits y (drop (i + 1) spans) in
-    let one : spans_bad_lines format waits y (take (i + 1) spans) ≡ before ++ span_bad_lines format waits y span = flat_one (span_bad_lines format waits y) spans i span lt is in
-    let whole : (before ++ span_bad_lines format waits y span) ++ rest ≡ spans_bad_lines format waits y spans =
-    ap (λ t. t ++ rest) (sym one) ∙ (sym (flat_map-append (span_bad_lines format waits y) (take (i + 1) spans) (drop (i + 1) spans)) ∙ ap (spans_bad_lines format waits y) (take-append-drop (i + 1) spans)) in
-    let Of : List BadLine → Type 0 = λ l. IsTooMany a.most_bad a.bad l line in
-    subst Of whole (too_many_more a.most_bad a.bad (before ++ span_bad_lines format waits y span) rest line
-    (too_many_later a.most_bad b.most_bad a.bad b.bad before (span_bad_lines format waits y span) line most (omega arith) here))
+    → Told second (λ folder. IsKept format waits (cut_of folder span) span → StopsUpTo stops format waits folder (span ∷ []) b z v w)
+    → Told second (λ folder. AreKept format waits spans folder → StopsUpTo stops format waits folder spans a z u w)
+spans_stopped takes stops later format waits first second spans i span a b z u v w lt is grows there most f s =
+    told_in_turn takes stops later format waits second spans i span a b z u v w lt is most (told_along takes format waits first second (take i spans) a b u v grows there f) s
+
+-- a bad line of a span was one too many
+pub spans_exceeded : {T O : Type 0} (takes : Takes T O) (more : TakesMore takes) (format : Format) (waits : Bool) (first second : Option Folder) (spans : List Span) (i : ℕ) (span : Span) (line : BadLine) (a b z : Page T) (u v w : O) → i < length spans → span ≡ get_or spans i span
+    → OnlyGrow first second → Told first (λ folder. AllSpans (take i spans) (λ s. s.listed ≤ length (bytes_in folder s.name))) → b.most_bad ≡ a.most_bad
+    → Told first (λ folder. AreKept format waits (take i spans) folder → TakesSpans takes format waits folder (take i spans) a b u v)
+    → Told second (λ folder. IsKept format waits (cut_of folder span) span → TakesUpTo takes format waits folder (span ∷ []) line b z v w)
+    → Told second (λ folder. AreKept format waits spans folder → TakesUpTo takes format waits folder spans line a z u w)
+spans_exceeded takes more format waits first second spans i span line a b z u v w lt is grows there most f s =
+    told_behind takes more format waits second spans i span line a b z u v w lt is most (told_along takes format waits first second (take i spans) a b u v grows there f) s
+
+-- where it stopped within first lines of spans it stopped within them
+pub told_stops : {T O : Type 0} (stops : Stops T O) (more : StopsMore stops) (format : Format) (waits : Bool) (told : Option Folder) (spans : List Span) (a z : Page T) (u w : O)
+    → Told told (λ folder. AreKept format waits spans folder → StopsUpTo stops format waits folder spans a z u w)
+    → Told told (λ folder. AreKept format waits spans folder → stops a.taker u (spans_met format waits folder spans) z.taker w)
+told_stops stops more format waits None spans a z u w s = tt
+told_stops stops more format waits (Some y) spans a z u w s = λ kept. stops_up_to_all stops more format waits y spans a z u w (s kept)
+
+-- the next bad line is the one that is one too many
+pub told_too_many : {T O : Type 0} (takes : Takes T O) (format : Format) (waits : Bool) (told : Option Folder) (spans : List Span) (line : BadLine) (a z : Page T) (u w : O)
+    → Told told (λ folder. AreKept format waits spans folder → TakesUpTo takes format waits folder spans line a z u w)
+    → Told told (λ folder. AreKept format waits spans folder → IsTooMany a.most_bad a.bad (spans_bad_lines format waits folder spans) line)
+told_too_many takes format waits None spans line a z u w s = tt
+told_too_many takes format waits (Some y) spans line a z u w s = λ kept. takes_up_to_bad takes format waits y spans line a z u w (s kept)
 
 -- what a run notes of a log
-took_along : (format : Format) (a b : Folder) (span : Span) → cut_of b span ≡ cut_of a span → took_of format b span ≡ took_of format a span
-took_along format a b span same = ap (λ (t : List ℕ). let to : ℕ = max span.from (last_end t) in took_at span.identity span.from to (standing_at format t true to)) same
+took_along : (format : Format) (waits : Bool) (a b : Folder) (span : Span) → cut_of b span ≡ cut_of a span → took_of format waits b span ≡ took_of format waits a span
+took_along format waits a b span same = ap (λ (t : List ℕ). let to : ℕ = max span.from (if waits then last_end t else length t) in took_at span.identity span.from to (standing_at format t waits to)) same
 
 map-same : {Y : Type 0} (f g : Span → Y) (spans : List Span) → AllSpans spans (λ s. f s ≡ g s) → map f spans ≡ map g spans
 map-same f g [] same = refl
@@ -197,25 +224,25 @@ map-same f g (span ∷ spans) same =
     let rest : map f spans ≡ map g spans = map-same f g spans (λ k s lt is. same (suc k) s (omega arith) is) in
     ap (λ t. t ∷ map f spans) first ∙ ap (λ t. g span ∷ t) rest
 
-pub took_none : (format : Format) (told : Option Folder) (spans : List Span) (list : List Took) → Told told (λ folder. AreKept format true spans folder → list ≡ list ++ map (took_of format folder) [])
-took_none format None spans list = tt
-took_none format (Some x) spans list = λ kept. sym (append-nil list)
+pub took_none : (format : Format) (waits : Bool) (told : Option Folder) (spans : List Span) (list : List Took) → Told told (λ folder. AreKept format waits spans folder → list ≡ list ++ map (took_of format waits folder) [])
+took_none format waits None spans list = tt
+took_none format waits (Some x) spans list = λ kept. sym (append-nil list)
 
-pub took_more : (format : Format) (first second : Option Folder) (spans : List Span) (i : ℕ) (span : Span) (a b c : List Took) → i < length spans → span ≡ get_or spans i span
+pub took_more : (format : Format) (waits : Bool) (first second : Option Folder) (spans : List Span) (i : ℕ) (span : Span) (a b c : List Took) → i < length spans → span ≡ get_or spans i span
     → OnlyGrow first second → Told first (λ folder. AllSpans (take i spans) (λ s. s.listed ≤ length (bytes_in folder s.name)))
-    → Told first (λ folder. AreKept format true (take i spans) folder → b ≡ a ++ map (took_of format folder) (take i spans))
-    → Told second (λ folder. IsKept format true (cut_of folder span) span → c ≡ b ++ took_of format folder span ∷ [])
-    → Told second (λ folder. AreKept format true (take (i + 1) spans) folder → c ≡ a ++ map (took_of format folder) (take (i + 1) spans))
-took_more format None None spans i span a b c lt is grows there f s = tt
-took_more format None (Some y) spans i span a b c lt is grows there f s = let e : Some y ≡ None = grows in cc
-took_more format (Some x) None spans i span a b c lt is grows there f s = tt
-took_more format (Some x) (Some y) spans i span a b c lt is grows there f s = λ kept.
+    → Told first (λ folder. AreKept format waits (take i spans) folder → b ≡ a ++ map (took_of format waits folder) (take i spans))
+    → Told second (λ folder. IsKept format waits (cut_of folder span) span → c ≡ b ++ took_of format waits folder span ∷ [])
+    → Told second (λ folder. AreKept format waits (take (i + 1) spans) folder → c ≡ a ++ map (took_of format waits folder) (take (i + 1) spans))
+took_more format waits None None spans i span a b c lt is grows there f s = tt
+took_more format waits None (Some y) spans i span a b c lt is grows there f s = let e : Some y ≡ None = grows in cc
+took_more format waits (Some x) None spans i span a b c lt is grows there f s = tt
+took_more format waits (Some x) (Some y) spans i span a b c lt is grows there f s = λ kept.
     let front = cuts_stay x y (take i spans) grows there in
-    let kept_front = front_less spans (λ s. IsKept format true (cut_of y s) s) i lt kept in
-    let so_far = f (λ k s lt' is'. kept_along format true x y s (front k s lt' is') (kept_front k s lt' is')) in
-    let here = s (last_all spans (λ s. IsKept format true (cut_of y s) s) i span lt is kept) in
-    let list : map (took_of format y) (take i spans) ≡ map (took_of format x) (take i spans) =
-    map-same (took_of format y) (took_of format x) (take i spans) (λ k s lt' is'. took_along format x y s (front k s lt' is')) in
-    let one : map (took_of format y) (take (i + 1) spans) ≡ map (took_of format y) (take i spans) ++ took_of format y span ∷ [] =
-    ap (map (took_of format y)) (one_more spans i span lt is) ∙ map-append (took_of format y) (take i spans) (span ∷ []) in
-    here ∙ (ap (λ t. t ++ took_of format y span ∷ []) (so_far ∙ ap (λ t. a ++ t) (sym list)) ∙ (append_assoc a (map (took_of format y) (take i spans)) (took_of format y span ∷ []) ∙ ap (λ t. a ++ t) (sym one)))
+    let kept_front = front_less spans (λ s. IsKept format waits (cut_of y s) s) i lt kept in
+    let so_far = f (λ k s lt' is'. kept_along format waits x y s (front k s lt' is') (kept_front k s lt' is')) in
+    let here = s (last_all spans (λ s. IsKept format waits (cut_of y s) s) i span lt is kept) in
+    let list : map (took_of format waits y) (take i spans) ≡ map (took_of format waits x) (take i spans) =
+    map-same (took_of format waits y) (took_of format waits x) (take i spans) (λ k s lt' is'. took_along format waits x y s (front k s lt' is')) in
+    let one : map (took_of format waits y) (take (i + 1) spans) ≡ map (took_of format waits y) (take i spans) ++ took_of format waits y span ∷ [] =
+    ap (map (took_of format waits y)) (one_more spans i span lt is) ∙ map-append (took_of format waits y) (take i spans) (span ∷ []) in
+    here ∙ (ap (λ t. t ++ took_of format waits y span ∷ []) (so_far ∙ ap (λ t. a ++ t) (sym list)) ∙ (append_assoc a (map (took_of format waits y) (take i spans)) (took_of format waits y span ∷ []) ∙ ap (λ t. a ++ t) (sym one)))

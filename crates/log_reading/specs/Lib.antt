@@ -2,3 +2,4 @@ pub mod Found
 pub mod Parts
 pub mod Page
 pub mod Spans
+pub mod UpTo

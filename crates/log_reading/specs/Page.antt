@@ -1,7 +1,7 @@
 -- How far the reading of a log has come.
-use Rattle.std.specs.Prelude.{◌≡◌, ◌+◌, ◌<◌, ◌≤◌, ◌^◌, ℕ, Bool, List, ◌++◌, ◌∷◌, length, Option, Some, IfSome, ⊤}
+use Rattle.std.specs.Prelude.{◌≡◌, ◌+◌, ◌<◌, ◌≤◌, ◌^◌, ℕ, Bool, true, List, [], ◌++◌, ◌∷◌, length, Option, Some, IfSome, ⊤}
 use Rattle.lp_model.specs.Lines.{Line, lines_to_come}
-use Rattle.lp_model.specs.Reading.{Format, standing_behind}
+use Rattle.lp_model.specs.Reading.{Format, is_bad, reading_behind, standing_behind}
 use Rattle.lp_model.specs.Following.{records_following, bad_following, end_of}
 use Rattle.log_reading.specs.Found.{Met, met_of}
 use Rattle.log_reading.specs.declared.page.Page.{Page}
@@ -38,17 +38,29 @@ pub record Advances {T O : Type 0} (takes : Takes T O) (format : Format) (identi
   pub place : new.splitter.place ≡ end_of old.splitter.place lines
   pub follows : Follows takes format identity lines old new before now
 
--- the output holds what a taker left that stopped within the rows of these lines
-pub record StopsIn {T O : Type 0} (stops : Stops T O) (format : Format) (identity : List ℕ) (lines : List Line) (old new : Page T) (before now : O) : Type 0 where
-  pub behind : (history : List Line) → old.standing ≡ standing_behind format history → stops old.taker before (met_of identity (records_following format history lines)) new.taker now
-
--- the same for a piece, whatever bytes follow it
-pub record StopsWithin {T O : Type 0} (stops : Stops T O) (format : Format) (identity : List ℕ) (waits : Bool) (piece : List ℕ) (old new : Page T) (before now : O) : Type 0 where
-  pub within : (rest : List ℕ) → StopsIn stops format identity (to_come waits old (piece ++ rest)) old new before now
+-- the output holds what a taker left that stopped within the rows of this line
+pub record StopsOnLine {T O : Type 0} (stops : Stops T O) (format : Format) (identity : List ℕ) (line : Line) (old new : Page T) (before now : O) : Type 0 where
+  pub behind : (history : List Line) → old.standing ≡ standing_behind format history → stops old.taker before (met_of identity (records_following format history (line ∷ []))) new.taker now
 
 -- there are no more bad lines than there may be
 abbrev pub IsWithin : Option ℕ → ℕ → Type 0
 IsWithin most_bad bad = IfSome most_bad (λ most. bad ≤ most)
+
+-- the output holds what a taker left that stopped within the rows of some first lines of these, behind others; of them no more are bad than may be
+pub record StopsAfter {T O : Type 0} (stops : Stops T O) (format : Format) (identity : List ℕ) (history lines : List Line) (old new : Page T) (before now : O) : Type 0 where
+  pub front : List Line
+  pub rest : List Line
+  pub stands : lines ≡ front ++ rest
+  pub stopped : stops old.taker before (met_of identity (records_following format history front)) new.taker now
+  pub within : IsWithin old.most_bad (old.bad + length (bad_following format history front))
+
+-- it stopped so within these lines, whatever lines the standing stands for
+pub record StopsIn {T O : Type 0} (stops : Stops T O) (format : Format) (identity : List ℕ) (lines : List Line) (old new : Page T) (before now : O) : Type 0 where
+  pub behind : (history : List Line) → old.standing ≡ standing_behind format history → StopsAfter stops format identity history lines old new before now
+
+-- the same for a piece, whatever bytes follow it
+pub record StopsWithin {T O : Type 0} (stops : Stops T O) (format : Format) (identity : List ℕ) (waits : Bool) (piece : List ℕ) (old new : Page T) (before now : O) : Type 0 where
+  pub within : (rest : List ℕ) → StopsIn stops format identity (to_come waits old (piece ++ rest)) old new before now
 
 -- of these bad lines, with so many before them, this is the first that is one too many
 pub record IsTooMany {B : Type 0} (most_bad : Option ℕ) (bad : ℕ) (lines : List B) (line : B) : Type 0 where
@@ -57,13 +69,24 @@ pub record IsTooMany {B : Type 0} (most_bad : Option ℕ) (bad : ℕ) (lines : L
   pub stands : lines ≡ front ++ line ∷ rest
   pub most : most_bad ≡ Some (bad + length front)
 
--- the bad line of this number among these is one too many
-pub record ExceedsIn {T : Type 0} (format : Format) (lines : List Line) (old : Page T) (row : ℕ) : Type 0 where
-  pub behind : (history : List Line) → old.standing ≡ standing_behind format history → IsTooMany old.most_bad old.bad (bad_following format history lines) row
+-- the bad line of this number among these, behind others, is one too many, and the rows of the lines before it were taken
+pub record ExceedsAfter {T O : Type 0} (takes : Takes T O) (format : Format) (identity : List ℕ) (history lines : List Line) (old new : Page T) (before now : O) (row : ℕ) : Type 0 where
+  pub front : List Line
+  pub line : Line
+  pub rest : List Line
+  pub stands : lines ≡ front ++ line ∷ rest
+  pub number : line.number ≡ row
+  pub bad : is_bad (reading_behind format (history ++ front) line) ≡ true
+  pub taken : takes old.taker before (met_of identity (records_following format history front)) new.taker now
+  pub most : old.most_bad ≡ Some (old.bad + length (bad_following format history front))
+
+-- it is so among these lines, whatever lines the standing stands for
+pub record ExceedsIn {T O : Type 0} (takes : Takes T O) (format : Format) (identity : List ℕ) (lines : List Line) (old new : Page T) (before now : O) (row : ℕ) : Type 0 where
+  pub behind : (history : List Line) → old.standing ≡ standing_behind format history → ExceedsAfter takes format identity history lines old new before now row
 
 -- the same for a piece, whatever bytes follow it
-pub record ExceedsWithin {T : Type 0} (format : Format) (waits : Bool) (piece : List ℕ) (old : Page T) (row : ℕ) : Type 0 where
-  pub within : (rest : List ℕ) → ExceedsIn format (to_come waits old (piece ++ rest)) old row
+pub record ExceedsWithin {T O : Type 0} (takes : Takes T O) (format : Format) (identity : List ℕ) (waits : Bool) (piece : List ℕ) (old new : Page T) (before now : O) (row : ℕ) : Type 0 where
+  pub within : (rest : List ℕ) → ExceedsIn takes format identity (to_come waits old (piece ++ rest)) old new before now row
 
 -- a fact on the bad line that was one too many
 abbrev pub OnBad : LineFault → (ℕ → Type 0) → Type 0

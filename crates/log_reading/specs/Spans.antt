@@ -1,5 +1,5 @@
 -- Spans of logs, and what a run makes of them.
-use Rattle.std.specs.Prelude.{◌≡◌, ◌⊎◌, ◌+◌, ◌-◌, ◌≤◌, ◌<◌, ◌^◌, ℕ, Bool, true, List, [], ◌∷◌, ◌++◌, length, map, max, take, reverse, flat_map, sum_by, get_or, Option, ⊤}
+use Rattle.std.specs.Prelude.{◌≡◌, ◌⊎◌, ◌+◌, ◌-◌, ◌≤◌, ◌<◌, ◌^◌, ℕ, Bool, true, List, [], ◌∷◌, ◌++◌, length, map, max, if◌then◌else◌, take, reverse, flat_map, sum_by, get_or, Option, ⊤}
 use Rattle.std.specs.List.{position_or_len}
 use Rattle.lp_model.specs.Lines.{Line, is_lf}
 use Rattle.lp_model.specs.Outside.{Folder, Told, bytes_in}
@@ -30,9 +30,9 @@ log_to_come waits page folder name cut = to_come waits page (rest_of folder name
 pub record StopsReading {T O : Type 0} (stops : Stops T O) (format : Format) (identity : List ℕ) (waits : Bool) (told : Option Folder) (name : List ℕ) (cut : ℕ) (old new : Page T) (before now : O) : Type 0 where
   pub within : Told told (λ folder. StopsIn stops format identity (log_to_come waits old folder name cut) old new before now)
 
--- the bad line of this number in the rest of a log is one too many
-pub record ExceedsReading {T : Type 0} (format : Format) (waits : Bool) (told : Option Folder) (name : List ℕ) (cut : ℕ) (old : Page T) (row : ℕ) : Type 0 where
-  pub within : Told told (λ folder. ExceedsIn format (log_to_come waits old folder name cut) old row)
+-- the bad line of this number in the rest of a log is one too many, and the rows of the lines before it were taken
+pub record ExceedsReading {T O : Type 0} (takes : Takes T O) (format : Format) (identity : List ℕ) (waits : Bool) (told : Option Folder) (name : List ℕ) (cut : ℕ) (old new : Page T) (before now : O) (row : ℕ) : Type 0 where
+  pub within : Told told (λ folder. ExceedsIn takes format identity (log_to_come waits old folder name cut) old new before now row)
 
 -- the bytes of a span's log up to its cut
 abbrev pub cut_of : Folder → Span → List ℕ
@@ -145,21 +145,25 @@ AreKept format waits spans folder = AllSpans spans (λ span. IsKept format waits
 unfoldable pub last_end : List ℕ → ℕ
 last_end bytes = length bytes - position_or_len is_lf (reverse bytes)
 
--- where a span ends: behind the last LF of its log up to the cut, or where it begins, if that is later
-abbrev pub span_end : Folder → Span → ℕ
-span_end folder span = max span.from (last_end (cut_of folder span))
+-- where a span ends: where lines wait for their LF behind the last LF of its log up to the cut, else at the cut; or where it begins, if that is later
+abbrev pub span_end : Bool → Folder → Span → ℕ
+span_end waits folder span = max span.from (if waits then last_end (cut_of folder span) else length (cut_of folder span))
+
+-- how far a page has come: where lines wait up to the last line that was taken, else up to all that was read
+abbrev pub page_end : {T : Type 0} → Bool → Page T → ℕ
+page_end waits page = if waits then page.splitter.place else page.splitter.place + length page.splitter.left
 
 -- how the page stands at a span's end
-pub record EndsSpan {T : Type 0} (format : Format) (folder : Folder) (span : Span) (new : Page T) : Type 0 where
-  pub place : new.splitter.place ≡ span_end folder span
-  pub standing : new.standing ≡ standing_at format (cut_of folder span) true (span_end folder span)
+pub record EndsSpan {T : Type 0} (format : Format) (waits : Bool) (folder : Folder) (span : Span) (new : Page T) : Type 0 where
+  pub place : page_end waits new ≡ span_end waits folder span
+  pub standing : new.standing ≡ standing_at format (cut_of folder span) waits (span_end waits folder span)
 
 abbrev pub took_at : List ℕ → ℕ → ℕ → Standing → Took
 took_at identity from to standing = record { identity = identity; from = from; to = to; standing = standing }
 
--- what a run takes of a span, where lines wait
-abbrev pub took_of : Format → Folder → Span → Took
-took_of format folder span = took_at span.identity span.from (span_end folder span) (standing_at format (cut_of folder span) true (span_end folder span))
+-- what a run takes of a span
+abbrev pub took_of : Format → Bool → Folder → Span → Took
+took_of format waits folder span = took_at span.identity span.from (span_end waits folder span) (standing_at format (cut_of folder span) waits (span_end waits folder span))
 
 -- the rows of those lines of a span that LF ends up to a place
 abbrev pub rows_up_to : Format → Folder → Span → ℕ → List Met

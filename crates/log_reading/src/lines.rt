@@ -6,7 +6,7 @@ ghost use Rattle.lp_model.specs.Lines.{Line, is_lf, is_overlong};
 ghost use Rattle.lp_model.specs.Reading.{records_read, rows};
 ghost use Rattle.line_input.specs.Taken.{slots_of};
 ghost use Rattle.log_reading.specs.Found.{met_of};
-ghost use Rattle.log_reading.specs.Page.{HasRoom, Spends, Follows, Advances, StopsIn, StopsWithin, ExceedsIn, ExceedsWithin, IsWithin, OnBad, to_come};
+ghost use Rattle.log_reading.specs.Page.{HasRoom, Spends, Follows, Advances, StopsOnLine, StopsIn, StopsWithin, ExceedsIn, ExceedsWithin, IsWithin, OnBad, to_come};
 
 use crate::{LineFault, Page, TakeFault, Taker};
 use line_input::{Columns, FieldsList, LineReader, Next, Taken};
@@ -73,9 +73,9 @@ fn take_text<R: LineReader, T: Taker<O>, O>(
     ensures takes { OnOk result ((line : Line) → line.number ≡ page.old.standing.lines + 1 → line.text ≡ page.old.splitter.line → is_overlong line.text ≡ false
         → Follows T.takes (R.format reader.now) identity.now (line ∷ []) page.old page.new out.old out.new) }
     ensures stops { OnErr result ((line : Line) → line.number ≡ page.old.standing.lines + 1 → line.text ≡ page.old.splitter.line → is_overlong line.text ≡ false
-        → StopsIn T.stops (R.format reader.now) identity.now (line ∷ []) page.old page.new out.old out.new) }
+        → StopsOnLine T.stops (R.format reader.now) identity.now line page.old page.new out.old out.new) }
     ensures too_many { IfErr result (λ fault. OnBad fault (λ row. (line : Line) → line.number ≡ page.old.standing.lines + 1 → line.text ≡ page.old.splitter.line → is_overlong line.text ≡ false
-        → ExceedsIn (R.format reader.now) (line ∷ []) page.old row)) }
+        → ExceedsIn T.takes (R.format reader.now) identity.now (line ∷ []) page.old page.new out.old out.new row)) }
     ensures within { OnOk result (IsWithin page.new.most_bad page.new.bad) }
     ensures most { page.new.most_bad ≡ page.old.most_bad }
     ensures lines { OnOk result (page.new.standing.lines ≡ page.old.standing.lines + 1) }
@@ -164,7 +164,7 @@ pub fn take_next<R: LineReader, T: Taker<O>, O>(
     requires within { IsWithin page.old.most_bad page.old.bad }
     ensures advances { OnOk result ((waits : Bool) → Advances T.takes (R.format reader.now) identity.now waits [] page.old page.new out.old out.new) }
     ensures stops { OnErr result ((waits : Bool) → StopsWithin T.stops (R.format reader.now) identity.now waits [] page.old page.new out.old out.new) }
-    ensures too_many { IfErr result (λ fault. OnBad fault (λ row. (waits : Bool) → ExceedsWithin (R.format reader.now) waits [] page.old row)) }
+    ensures too_many { IfErr result (λ fault. OnBad fault (λ row. (waits : Bool) → ExceedsWithin T.takes (R.format reader.now) identity.now waits [] page.old page.new out.old out.new row)) }
     ensures within { OnOk result (IsWithin page.new.most_bad page.new.bad) }
     ensures most { page.new.most_bad ≡ page.old.most_bad }
     ensures spends { OnOk result (Spends T.count page.old page.new 0) }
@@ -207,10 +207,11 @@ pub fn take_rest<R: LineReader, T: Taker<O>, O>(
     requires within { IsWithin page.old.most_bad page.old.bad }
     ensures takes { OnOk result (Follows T.takes (R.format reader.now) identity.now (to_come false page.old []) page.old page.new out.old out.new) }
     ensures stops { OnErr result (StopsIn T.stops (R.format reader.now) identity.now (to_come false page.old []) page.old page.new out.old out.new) }
-    ensures too_many { IfErr result (λ fault. OnBad fault (λ row. ExceedsIn (R.format reader.now) (to_come false page.old []) page.old row)) }
+    ensures too_many { IfErr result (λ fault. OnBad fault (λ row. ExceedsIn T.takes (R.format reader.now) identity.now (to_come false page.old []) page.old page.new out.old out.new row)) }
     ensures within { OnOk result (IsWithin page.new.most_bad page.new.bad) }
     ensures most { page.new.most_bad ≡ page.old.most_bad }
     ensures spends { OnOk result (Spends T.count page.old page.new 1) }
+    ensures end { OnOk result (page.new.splitter.place + length page.new.splitter.left ≡ page.old.splitter.place + length page.old.splitter.left) }
     ensures goes { T.goes out.old out.new }
     ensures later { T.faults out.old ≤ T.faults out.new }
     ensures failed { IsErrOf result LineFault.Failed → Rose (T.faults out.old) (T.faults out.new) }

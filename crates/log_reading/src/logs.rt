@@ -5,9 +5,10 @@ ghost use Rattle.lp_model.specs.Outside.{Rose, OnlyGrow, Told};
 ghost use Rattle.lp_model.specs.Lines.{is_lf};
 ghost use Rattle.lp_model.specs.Reading.{standing_at};
 ghost use Rattle.log_reading.specs.Parts.{IsReadUp};
-ghost use Rattle.log_reading.specs.Page.{HasRoom, Spends, Follows, StopsIn, ExceedsIn, IsTooMany, IsWithin, OnBad, to_come};
+ghost use Rattle.log_reading.specs.Page.{HasRoom, Spends, Follows, StopsIn, ExceedsIn, IsWithin, OnBad, to_come};
 ghost use Rattle.log_reading.specs.Found.{log_ended};
-ghost use Rattle.log_reading.specs.Spans.{HasRead, ReadsAheadInLog, ReadsAheadInSpan, StopsReading, ExceedsReading, IsKept, TakesRows, TakesSpan, EndsSpan, OnBadLine, span_rows, span_met, span_bad_lines, cut_of, took_at, took_of};
+ghost use Rattle.log_reading.specs.Spans.{HasRead, ReadsAheadInLog, ReadsAheadInSpan, StopsReading, ExceedsReading, IsKept, TakesRows, TakesSpan, EndsSpan, OnBadLine, cut_of, page_end, took_at, took_of};
+ghost use Rattle.log_reading.specs.UpTo.{StopsInSpan, StopsUpTo, TakesUpTo};
 
 use crate::lines::take_rest;
 use crate::pieces::{read_some, take_piece};
@@ -72,7 +73,7 @@ fn read_piece<R: LineReader, L: LogSource, T: Taker<O>, O>(
     ensures read { OnOk result ((waits : Bool) → HasRead T.takes (R.format reader.now) span.now.identity waits (L.folder logs.new) span.now.name span.now.listed page.old page.new out.old out.new) }
     ensures stops { OnErr result ((waits : Bool) → StopsReading T.stops (R.format reader.now) span.now.identity waits (L.folder logs.new) span.now.name span.now.listed page.old page.new out.old out.new) }
     ensures too_many { IfErr result (λ fault. OnBadLine fault (λ line. (line.log ≡ span.now.identity)
-        × ((waits : Bool) → ExceedsReading (R.format reader.now) waits (L.folder logs.new) span.now.name span.now.listed page.old line.row))) }
+        × ((waits : Bool) → ExceedsReading T.takes (R.format reader.now) span.now.identity waits (L.folder logs.new) span.now.name span.now.listed page.old page.new out.old out.new line.row))) }
     ensures within { OnOk result (IsWithin page.new.most_bad page.new.bad) }
     ensures most { page.new.most_bad ≡ page.old.most_bad }
     ensures longer { IfOk result (λ more. more ≡ true → page.old.splitter.place + length page.old.splitter.left < page.new.splitter.place + length page.new.splitter.left) }
@@ -137,7 +138,7 @@ fn read_log<R: LineReader, L: LogSource, T: Taker<O>, O>(
     ensures read { OnOk result ((waits : Bool) → HasRead T.takes (R.format reader.now) span.now.identity waits (L.folder logs.new) span.now.name span.now.listed page.old page.new out.old out.new) }
     ensures stops { OnErr result ((waits : Bool) → StopsReading T.stops (R.format reader.now) span.now.identity waits (L.folder logs.new) span.now.name span.now.listed page.old page.new out.old out.new) }
     ensures too_many { IfErr result (λ fault. OnBadLine fault (λ line. (line.log ≡ span.now.identity)
-        × ((waits : Bool) → ExceedsReading (R.format reader.now) waits (L.folder logs.new) span.now.name span.now.listed page.old line.row))) }
+        × ((waits : Bool) → ExceedsReading T.takes (R.format reader.now) span.now.identity waits (L.folder logs.new) span.now.name span.now.listed page.old page.new out.old out.new line.row))) }
     ensures within { OnOk result (IsWithin page.new.most_bad page.new.bad) }
     ensures most { page.new.most_bad ≡ page.old.most_bad }
     ensures whole { OnOk result (IsReadUp (L.folder logs.new) span.now.name (page.new.splitter.place + length page.new.splitter.left) span.now.listed) }
@@ -191,11 +192,12 @@ fn finish_log<R: LineReader, T: Taker<O>, O>(
     requires within { IsWithin page.old.most_bad page.old.bad }
     ensures takes { OnOk result (Follows T.takes (R.format reader.now) span.now.identity (to_come waits page.old []) page.old page.new out.old out.new) }
     ensures stops { OnErr result (StopsIn T.stops (R.format reader.now) span.now.identity (to_come waits page.old []) page.old page.new out.old out.new) }
-    ensures too_many { IfErr result (λ fault. OnBad fault (λ row. ExceedsIn (R.format reader.now) (to_come waits page.old []) page.old row)) }
+    ensures too_many { IfErr result (λ fault. OnBad fault (λ row. ExceedsIn T.takes (R.format reader.now) span.now.identity (to_come waits page.old []) page.old page.new out.old out.new row)) }
     ensures within { OnOk result (IsWithin page.new.most_bad page.new.bad) }
     ensures most { page.new.most_bad ≡ page.old.most_bad }
     ensures spends { OnOk result (Spends T.count page.old page.new 1) }
     ensures place { waits ≡ true → page.new.splitter ≡ page.old.splitter }
+    ensures end { OnOk result (page.new.splitter.place + length page.new.splitter.left ≡ page.old.splitter.place + length page.old.splitter.left) }
     ensures goes { T.goes out.old out.new }
     ensures later { T.faults out.old ≤ T.faults out.new }
     ensures failed { IsErrOf result LineFault.Failed → Rose (T.faults out.old) (T.faults out.new) }
@@ -235,15 +237,15 @@ fn read_span<R: LineReader, L: LogSource, T: Taker<O>, O>(
     ensures takes { OnOk result (Told (L.folder logs.new) (λ folder. IsKept (R.format reader.now) waits (cut_of folder span.now) span.now
         → TakesRows T.takes (R.format reader.now) waits folder span.now page.old page.new out.old out.new)) }
     ensures stops { OnErr result (Told (L.folder logs.new) (λ folder. IsKept (R.format reader.now) waits (cut_of folder span.now) span.now
-        → T.stops page.old.taker out.old (span_rows (R.format reader.now) waits folder span.now) page.new.taker out.new)) }
+        → StopsInSpan T.stops (R.format reader.now) waits folder span.now page.old page.new out.old out.new)) }
     ensures too_many { IfErr result (λ fault. OnBadLine fault (λ line. Told (L.folder logs.new) (λ folder. IsKept (R.format reader.now) waits (cut_of folder span.now) span.now
-        → IsTooMany page.old.most_bad page.old.bad (span_bad_lines (R.format reader.now) waits folder span.now) line))) }
+        → TakesUpTo T.takes (R.format reader.now) waits folder (span.now ∷ []) line page.old page.new out.old out.new))) }
     ensures within { OnOk result (IsWithin page.new.most_bad page.new.bad) }
     ensures most { page.new.most_bad ≡ page.old.most_bad }
     ensures standing { OnOk result (Told (L.folder logs.new) (λ folder. IsKept (R.format reader.now) waits (cut_of folder span.now) span.now
         → page.new.standing ≡ standing_at (R.format reader.now) (cut_of folder span.now) waits (length (cut_of folder span.now)))) }
-    ensures ends { OnOk result (waits ≡ true → Told (L.folder logs.new) (λ folder. IsKept (R.format reader.now) true (cut_of folder span.now) span.now
-        → EndsSpan (R.format reader.now) folder span.now page.new)) }
+    ensures ends { OnOk result (Told (L.folder logs.new) (λ folder. IsKept (R.format reader.now) waits (cut_of folder span.now) span.now
+        → EndsSpan (R.format reader.now) waits folder span.now page.new)) }
     ensures rows { OnOk result (page.new.rows ≤ page.old.rows + (span.now.listed - span.now.from) + 1) }
     ensures bad { OnOk result (page.new.bad ≤ page.old.bad + (span.now.listed - span.now.from) + 1) }
     ensures taken { OnOk result (T.count page.new.taker ≤ T.count page.old.taker + (span.now.listed - span.now.from) + 1) }
@@ -327,15 +329,15 @@ fn take_span<R: LineReader, L: LogSource, T: Taker<O>, O>(
     ensures takes { OnOk result (Told (L.folder logs.new) (λ folder. IsKept (R.format reader.now) waits (cut_of folder span.now) span.now
         → TakesSpan T.takes (R.format reader.now) waits folder span.now page.old page.new out.old out.new)) }
     ensures stops { OnErr result (Told (L.folder logs.new) (λ folder. IsKept (R.format reader.now) waits (cut_of folder span.now) span.now
-        → T.stops page.old.taker out.old (span_met (R.format reader.now) waits folder span.now) page.new.taker out.new)) }
+        → StopsUpTo T.stops (R.format reader.now) waits folder (span.now ∷ []) page.old page.new out.old out.new)) }
     ensures too_many { IfErr result (λ fault. OnBadLine fault (λ line. Told (L.folder logs.new) (λ folder. IsKept (R.format reader.now) waits (cut_of folder span.now) span.now
-        → IsTooMany page.old.most_bad page.old.bad (span_bad_lines (R.format reader.now) waits folder span.now) line))) }
+        → TakesUpTo T.takes (R.format reader.now) waits folder (span.now ∷ []) line page.old page.new out.old out.new))) }
     ensures within { OnOk result (IsWithin page.new.most_bad page.new.bad) }
     ensures most { page.new.most_bad ≡ page.old.most_bad }
     ensures standing { OnOk result (Told (L.folder logs.new) (λ folder. IsKept (R.format reader.now) waits (cut_of folder span.now) span.now
         → page.new.standing ≡ standing_at (R.format reader.now) (cut_of folder span.now) waits (length (cut_of folder span.now)))) }
-    ensures ends { OnOk result (waits ≡ true → Told (L.folder logs.new) (λ folder. IsKept (R.format reader.now) true (cut_of folder span.now) span.now
-        → EndsSpan (R.format reader.now) folder span.now page.new)) }
+    ensures ends { OnOk result (Told (L.folder logs.new) (λ folder. IsKept (R.format reader.now) waits (cut_of folder span.now) span.now
+        → EndsSpan (R.format reader.now) waits folder span.now page.new)) }
     ensures rows { OnOk result (page.new.rows ≤ page.old.rows + (span.now.listed - span.now.from) + 1) }
     ensures bad { OnOk result (page.new.bad ≤ page.old.bad + (span.now.listed - span.now.from) + 1) }
     ensures taken { OnOk result (T.count page.new.taker ≤ T.count page.old.taker + (span.now.listed - span.now.from) + 1) }
@@ -357,17 +359,23 @@ fn take_span<R: LineReader, L: LogSource, T: Taker<O>, O>(
 // Notes what was taken of a log.
 fn note_span<T>(
     alloc: Global,
+    waits: bool,
     span: &Span,
     page: &Page<T>,
     took: &mut TookList,
 ) -> Result<(), AllocError>
-    ensures { OnOk result (took.new ≡ took.old ++ took_at span.now.identity span.now.from page.now.splitter.place page.now.standing ∷ []) }
+    ensures { OnOk result (took.new ≡ took.old ++ took_at span.now.identity span.now.from (page_end waits page.now) page.now.standing ∷ []) }
 {
     let standing = page.standing.copy(alloc)?;
+    let to = if waits {
+        page.splitter.place()
+    } else {
+        page.splitter.end()
+    };
     took.push(Took {
         identity: span.identity.copy(),
         from: span.from,
-        to: page.splitter.place(),
+        to,
         standing,
     })?;
     Ok(())
@@ -400,15 +408,15 @@ pub(crate) fn take_noted<R: LineReader, L: LogSource, T: Taker<O>, O>(
     ensures takes { OnOk result (Told (L.folder logs.new) (λ folder. IsKept (R.format reader.now) waits (cut_of folder span.now) span.now
         → TakesSpan T.takes (R.format reader.now) waits folder span.now page.old page.new out.old out.new)) }
     ensures stops { OnErr result (Told (L.folder logs.new) (λ folder. IsKept (R.format reader.now) waits (cut_of folder span.now) span.now
-        → T.stops page.old.taker out.old (span_met (R.format reader.now) waits folder span.now) page.new.taker out.new)) }
+        → StopsUpTo T.stops (R.format reader.now) waits folder (span.now ∷ []) page.old page.new out.old out.new)) }
     ensures too_many { IfErr result (λ fault. OnBadLine fault (λ line. Told (L.folder logs.new) (λ folder. IsKept (R.format reader.now) waits (cut_of folder span.now) span.now
-        → IsTooMany page.old.most_bad page.old.bad (span_bad_lines (R.format reader.now) waits folder span.now) line))) }
+        → TakesUpTo T.takes (R.format reader.now) waits folder (span.now ∷ []) line page.old page.new out.old out.new))) }
     ensures within { OnOk result (IsWithin page.new.most_bad page.new.bad) }
     ensures most { page.new.most_bad ≡ page.old.most_bad }
     ensures standing { OnOk result (Told (L.folder logs.new) (λ folder. IsKept (R.format reader.now) waits (cut_of folder span.now) span.now
         → page.new.standing ≡ standing_at (R.format reader.now) (cut_of folder span.now) waits (length (cut_of folder span.now)))) }
-    ensures took { OnOk result (waits ≡ true → Told (L.folder logs.new) (λ folder. IsKept (R.format reader.now) true (cut_of folder span.now) span.now
-        → took.new ≡ took.old ++ took_of (R.format reader.now) folder span.now ∷ [])) }
+    ensures took { OnOk result (Told (L.folder logs.new) (λ folder. IsKept (R.format reader.now) waits (cut_of folder span.now) span.now
+        → took.new ≡ took.old ++ took_of (R.format reader.now) waits folder span.now ∷ [])) }
     ensures rows { OnOk result (page.new.rows ≤ page.old.rows + (span.now.listed - span.now.from) + 1) }
     ensures bad { OnOk result (page.new.bad ≤ page.old.bad + (span.now.listed - span.now.from) + 1) }
     ensures taken { OnOk result (T.count page.new.taker ≤ T.count page.old.taker + (span.now.listed - span.now.from) + 1) }
@@ -423,7 +431,7 @@ pub(crate) fn take_noted<R: LineReader, L: LogSource, T: Taker<O>, O>(
     ensures stopped { IsErrOf result RunFault.Stopped → T.stopped page.new.taker }
 {
     take_span(alloc, reader, waits, logs, span, chunk, page, out)?;
-    match note_span(alloc, span, page, took) {
+    match note_span(alloc, waits, span, page, took) {
         Ok(()) => Ok(()),
         Err(_) => Err(RunFault::Memory),
     }

@@ -24,7 +24,7 @@ pub fn take_lines<R: LineReader, T: Taker<O>, O>(
     requires within { IsWithin page.old.most_bad page.old.bad }
     ensures advances { OnOk result ((waits : Bool) → Advances T.takes (R.format reader.now) identity.now waits [] page.old page.new out.old out.new) }
     ensures stops { OnErr result ((waits : Bool) → StopsWithin T.stops (R.format reader.now) identity.now waits [] page.old page.new out.old out.new) }
-    ensures too_many { IfErr result (λ fault. OnBad fault (λ row. (waits : Bool) → ExceedsWithin (R.format reader.now) waits [] page.old row)) }
+    ensures too_many { IfErr result (λ fault. OnBad fault (λ row. (waits : Bool) → ExceedsWithin T.takes (R.format reader.now) identity.now waits [] page.old page.new out.old out.new row)) }
     ensures within { OnOk result (IsWithin page.new.most_bad page.new.bad) }
     ensures most { page.new.most_bad ≡ page.old.most_bad }
     ensures spends { OnOk result (Spends T.count page.old page.new 0) }
@@ -58,7 +58,7 @@ pub fn take_piece<R: LineReader, T: Taker<O>, O>(
     requires fits { page.old.splitter.place + length page.old.splitter.left + length piece.now < 2 ^ 64 }
     ensures advances { OnOk result ((waits : Bool) → Advances T.takes (R.format reader.now) identity.now waits piece.now page.old page.new out.old out.new) }
     ensures stops { OnErr result ((waits : Bool) → StopsWithin T.stops (R.format reader.now) identity.now waits piece.now page.old page.new out.old out.new) }
-    ensures too_many { IfErr result (λ fault. OnBad fault (λ row. (waits : Bool) → ExceedsWithin (R.format reader.now) waits piece.now page.old row)) }
+    ensures too_many { IfErr result (λ fault. OnBad fault (λ row. (waits : Bool) → ExceedsWithin T.takes (R.format reader.now) identity.now waits piece.now page.old page.new out.old out.new row)) }
     ensures within { OnOk result (IsWithin page.new.most_bad page.new.bad) }
     ensures most { page.new.most_bad ≡ page.old.most_bad }
     ensures spends { OnOk result (Spends T.count page.old page.new (length piece.now)) }

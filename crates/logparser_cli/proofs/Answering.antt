@@ -1,6 +1,6 @@
 -- What the steps of a run make of its answer.
 use Rattle.std.proofs.Common.{◌≡◌, ◌⊎◌, ℕ, ℤ, ◌+◌, ◌≤◌, Bool, true, false, List, Option, Result, Ok, Err, IfOk, OnErr, refl, inl, inr, subst, arith}
-use Rattle.std.specs.Prelude.{option_map}
+use Rattle.std.specs.Prelude.{option_map, ⊤}
 use Rattle.grammar.specs.Filled.{given_bad}
 use Rattle.grammar.specs.Trees as model
 use Rattle.lp_model.specs.Outside.{Folder, OnlyGrow, Rose}
@@ -8,7 +8,7 @@ use Rattle.checkpoint.specs.Wholes.{whole_spans}
 use Rattle.command_words.specs.declared.spec.Spec.{Spec}
 use Rattle.checkpointed_command.specs.Built.{reads_stdin}
 use Rattle.checkpointed_command.specs.Executed.{IsExecuted, IsMoment, IsUntouched, Writes, rows_in}
-use Rattle.checkpointed_command.specs.Executed.{ComesInTurn, HoldsFront as HoldsSpans, IsParseError as IsExceeded, IsStopped as IsStoppedIn, IsTyped, IsUnplaced as IsUnplacedIn, IsUnplanned as IsUnplannedIn, UnplacesAll as UnplacesSpans, WritesAll as WritesSpans}
+use Rattle.checkpointed_command.specs.Executed.{BadInTurn, BehindSample, HoldsFront as HoldsSpans, IsParseError as IsExceeded, IsStopped as IsStoppedIn, IsTyped, IsTypedInTurn, IsUnplaced as IsUnplacedIn, IsUnplanned as IsUnplannedIn, UnplacedInTurn, UnplacesAll as UnplacesSpans, WritesAll as WritesSpans}
 use Rattle.checkpointed_command.specs.Formats.{lines_in, log_format}
 use Rattle.checkpointed_command.specs.Outputs.{asked_in, is_standard}
 use Rattle.checkpointed_command.specs.Plans.{query_plan}
@@ -160,12 +160,13 @@ halted old new mid template spec moment q spans found grow stop = record {
 
 -- a bad line was one too many
 exceeded : (old new : World) (mid : Option Folder) (template : Sections) (spec : Spec) (moment : ℤ) (q : model.Query) (spans : List Span) (line : BadLine) → AreSpans old.folder mid q spans → OnlyGrow mid new.folder
-    → StopsOver old new template spec moment q spans → IsExceeded (log_format spec q) false new.folder (asked_in spec template moment q spans) spec moment q spans line → IsParseError old.folder new.folder old.held new.held template spec moment q line
+    → StopsOver old new template spec moment q spans → IsExceeded (log_format spec q) false new.folder (IsUnwritten old.held new.held) (asked_in spec template moment q spans) spec moment q spans line → IsParseError old.folder new.folder old.held new.held template spec moment q line
 exceeded old new mid template spec moment q spans line found grow stop e = record {
   logs = found.logs;
   are_logs = logs_later old.folder mid new.folder q found.logs grow found.are_logs;
   typed = subst (λ (s : List Span). IsTyped (log_format spec q) (asked_in spec template moment q s) moment q) found.wholes e.typed;
   exceeds = whole_told new.folder (log_format spec q) found.logs spans (λ s folder. IsTooMany spec.errors (given_bad q) (spans_bad_lines (lines_in (log_format spec q)) false folder s) line) found.wholes e.exceeds;
+  in_turn = whole_told new.folder (log_format spec q) found.logs spans (λ s folder. BadInTurn (log_format spec q) false (IsUnwritten old.held new.held) (asked_in spec template moment q s) spec moment q s line folder) found.wholes e.in_turn;
   front = stopped_front old new template spec moment q found.logs spans found.wholes stop;
 }
 
@@ -181,7 +182,7 @@ unplaced_is old new mid template spec moment q spans why found grow stop refused
         plan = h.plan;
         is_planned = h.is_planned;
         refused = whole_told new.folder (log_format spec q) found.logs spans (λ s folder. IsRefusedRow (asked_in spec template moment q s h.plan) (rows_in (log_format spec q) false spec.ts_format h.plan folder s) why) found.wholes h.refused;
-        in_turn = whole_told new.folder (log_format spec q) found.logs spans (λ s folder. ComesInTurn (log_format spec q) false (asked_in spec template moment q s) spec q h.plan s why folder) found.wholes h.in_turn;
+        in_turn = whole_told new.folder (log_format spec q) found.logs spans (λ s folder. UnplacedInTurn (log_format spec q) false (asked_in spec template moment q s) spec q h.plan s why folder) found.wholes h.in_turn;
       })
       refused;
   front = stopped_front old new template spec moment q found.logs spans found.wholes stop;
@@ -200,26 +201,28 @@ failed_answers old new template spec moment q false into stop rose = (into, stop
 
 -- no plan was made
 unplanned : (old new : World) (mid : Option Folder) (spec : Spec) (moment : ℤ) (q : model.Query) (spans : List Span) (fault : TypeFault) → AreSpans old.folder mid q spans → OnlyGrow mid new.folder
-    → IsUnplannedIn (log_format spec q) false new.folder spec moment q spans fault → IsUntouched (log_format spec q) false new.folder (IsUnwritten old.held new.held) spec spans → IsUnplanned old.folder new.folder old.held new.held spec moment q fault
-unplanned old new mid spec moment q spans fault found grow plan before = record {
+    → IsUnplannedIn (log_format spec q) false new.folder spec moment q spans fault → IsTypedInTurn (log_format spec q) false new.folder spec q spans → IsUntouched (log_format spec q) false new.folder (IsUnwritten old.held new.held) spec spans → IsUnplanned old.folder new.folder old.held new.held spec moment q fault
+unplanned old new mid spec moment q spans fault found grow plan turn before = record {
   logs = found.logs;
   are_logs = logs_later old.folder mid new.folder q found.logs grow found.are_logs;
   unplanned = on_whole new.folder (log_format spec q) spec.ts_format found.logs spans (λ table. query_plan table moment q ≡ Err fault) (λ table. query_plan table moment q ≡ Err fault) found.wholes (λ table is. is) plan;
+  in_turn = whole_told new.folder (log_format spec q) found.logs spans (λ s folder. BehindSample (log_format spec q) false spec q s folder (λ up. ⊤)) found.wholes turn;
   unwritten = on_whole new.folder (log_format spec q) spec.ts_format found.logs spans (λ table. IsUnwritten old.held new.held) (λ table. IsUnwritten old.held new.held) found.wholes (λ table same. same) before;
 }
 
 pub stopped_answers : (old new : World) (mid : Option Folder) (template : Sections) (spec : Spec) (moment : ℤ) (q : model.Query) (spans : List Span) (standard : Bool) (fault : RunFault) → is_standard (into_in q) ≡ standard → AreSpans old.folder mid q spans → OnlyGrow mid new.folder
     → StopsOver old new template spec moment q spans → IfPlan {T = Unit {0}} (Err fault) (IsUnplannedIn (log_format spec q) false new.folder spec moment q spans)
+    → IfPlan {T = Unit {0}} (Err fault) (λ f. IsTypedInTurn (log_format spec q) false new.folder spec q spans)
     → IfPlan {T = Unit {0}} (Err fault) (λ f. IsUntouched (log_format spec q) false new.folder (IsUnwritten old.held new.held) spec spans)
-    → IfParse {T = Unit {0}} (Err fault) (IsExceeded (log_format spec q) false new.folder (asked_in spec template moment q spans) spec moment q spans)
+    → IfParse {T = Unit {0}} (Err fault) (IsExceeded (log_format spec q) false new.folder (IsUnwritten old.held new.held) (asked_in spec template moment q spans) spec moment q spans)
     → IfRefused {T = Unit {0}} (Err fault) (IsUnplacedIn (log_format spec q) false new.folder (asked_in spec template moment q spans) spec moment q spans)
     → (fault ≡ X.LogsFault → Rose old.logs_faults new.logs_faults) → (fault ≡ X.StageFault → OutputRose standard (Rose old.disk_faults new.disk_faults) (Rose old.out_faults new.out_faults)) → AnswersRun old new template spec moment q (stopped standard fault)
-stopped_answers old new mid template spec moment q spans standard (X.Plan fault) into found grow stop plan before parse refused logs stage = unplanned old new mid spec moment q spans fault found grow plan before
-stopped_answers old new mid template spec moment q spans standard (X.Refused why) into found grow stop plan before parse refused logs stage = unplaced_answers old new template spec moment q why (unplaced_is old new mid template spec moment q spans why found grow stop refused)
-stopped_answers old new mid template spec moment q spans standard X.LogsFault into found grow stop plan before parse refused logs stage = (inr (halted old new mid template spec moment q spans found grow stop), logs refl)
-stopped_answers old new mid template spec moment q spans standard X.StageFault into found grow stop plan before parse refused logs stage = failed_answers old new template spec moment q standard into (inr (halted old new mid template spec moment q spans found grow stop)) (stage refl)
-stopped_answers old new mid template spec moment q spans standard (X.ParseErrors log row) into found grow stop plan before parse refused logs stage = exceeded old new mid template spec moment q spans (bad_line log row) found grow stop parse
-stopped_answers old new mid template spec moment q spans standard X.Memory into found grow stop plan before parse refused logs stage = inr (halted old new mid template spec moment q spans found grow stop)
+stopped_answers old new mid template spec moment q spans standard (X.Plan fault) into found grow stop plan turn before parse refused logs stage = unplanned old new mid spec moment q spans fault found grow plan turn before
+stopped_answers old new mid template spec moment q spans standard (X.Refused why) into found grow stop plan turn before parse refused logs stage = unplaced_answers old new template spec moment q why (unplaced_is old new mid template spec moment q spans why found grow stop refused)
+stopped_answers old new mid template spec moment q spans standard X.LogsFault into found grow stop plan turn before parse refused logs stage = (inr (halted old new mid template spec moment q spans found grow stop), logs refl)
+stopped_answers old new mid template spec moment q spans standard X.StageFault into found grow stop plan turn before parse refused logs stage = failed_answers old new template spec moment q standard into (inr (halted old new mid template spec moment q spans found grow stop)) (stage refl)
+stopped_answers old new mid template spec moment q spans standard (X.ParseErrors log row) into found grow stop plan turn before parse refused logs stage = exceeded old new mid template spec moment q spans (bad_line log row) found grow stop parse
+stopped_answers old new mid template spec moment q spans standard X.Memory into found grow stop plan turn before parse refused logs stage = inr (halted old new mid template spec moment q spans found grow stop)
 
 -- the same of standard input, in the place of logs
 pub input_answers : (old new : World) (template : Sections) (spec : Spec) (moment : ℤ) (q : model.Query) (standard : Bool) (fault : RunFault) (first last : ℕ) → AnswersRun (stream_world (option_map stream_files old.input.left) first old) (stream_world (option_map stream_files old.input.left) last new) template spec moment q (stopped standard fault)
@@ -258,7 +261,7 @@ unplannable_earlier mid new before faults spec moment q (Q.Lex fault) grow s = a
 unplannable_earlier mid new before faults spec moment q (Q.Parse fault) grow s = absurd s
 unplannable_earlier mid new before faults spec moment q (Q.StdinMisplaced at) grow s = absurd s
 unplannable_earlier mid new before faults spec moment q (Q.Plan fault) grow s =
-    record { logs = s.logs; are_logs = logs_earlier before mid.folder new.folder q s.logs grow s.are_logs; unplanned = s.unplanned; unwritten = s.unwritten }
+    record { logs = s.logs; are_logs = logs_earlier before mid.folder new.folder q s.logs grow s.are_logs; unplanned = s.unplanned; in_turn = s.in_turn; unwritten = s.unwritten }
 
 unplaced_earlier : (mid new : World) (before : Option Folder) (faults : ℕ) (template : Sections) (spec : Spec) (moment : ℤ) (q : model.Query) (why : Refused) → OnlyGrow before mid.folder → IsUnplaced mid.folder new.folder mid.held new.held template spec moment q why → IsUnplaced before new.folder mid.held new.held template spec moment q why
 unplaced_earlier mid new before faults template spec moment q why grow s = record { logs = s.logs; are_logs = logs_earlier before mid.folder new.folder q s.logs grow s.are_logs; refused = s.refused; front = s.front }
@@ -282,7 +285,7 @@ run_earlier mid new before faults template spec moment q LogsFault grow later s 
 run_earlier mid new before faults template spec moment q SourceFault grow later s = s
 run_earlier mid new before faults template spec moment q DiskFault grow later s = (s.0, stop_earlier mid new before faults template spec moment q grow s.1, s.2)
 run_earlier mid new before faults template spec moment q SinkFault grow later s = (s.0, stop_earlier mid new before faults template spec moment q grow s.1, s.2)
-run_earlier mid new before faults template spec moment q (ParseErrors log row) grow later s = record { logs = s.logs; are_logs = logs_earlier before mid.folder new.folder q s.logs grow s.are_logs; typed = s.typed; exceeds = s.exceeds; front = s.front }
+run_earlier mid new before faults template spec moment q (ParseErrors log row) grow later s = record { logs = s.logs; are_logs = logs_earlier before mid.folder new.folder q s.logs grow s.are_logs; typed = s.typed; exceeds = s.exceeds; in_turn = s.in_turn; front = s.front }
 run_earlier mid new before faults template spec moment q (LostLog stem number) grow later s = absurd s
 run_earlier mid new before faults template spec moment q (Shrunk lost kept found) grow later s = absurd s
 run_earlier mid new before faults template spec moment q (InputChanged kept given) grow later s = absurd s

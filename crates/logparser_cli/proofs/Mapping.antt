@@ -5,7 +5,7 @@ use Rattle.lp_model.specs.Outside.{Folder, Told}
 use Rattle.lp_time.specs.declared.piece.Piece.{Piece}
 use Rattle.command_words.specs.declared.spec.Spec.{Spec}
 use Rattle.log_reading.specs.declared.span.Span.{Span}
-use Rattle.log_reading.specs.Spans.{AreKept}
+use Rattle.log_reading.specs.Spans.{AreKept, BadLine, bad_line}
 use Rattle.order_top.specs.Finish.{Row}
 use Rattle.query_run.specs.declared.executing.Counts.{Counts}
 use Rattle.query_types.specs.declared.fault.TypeFault.{TypeFault}
@@ -15,7 +15,7 @@ use Rattle.checkpointed_command.specs.LogFormat.{LogFormat}
 use Rattle.checkpointed_command.specs.LogFormat.TheVariants as F
 use Rattle.checkpointed_command.specs.RunFault.{RunFault}
 use Rattle.checkpointed_command.specs.RunFault.TheVariants as X
-use Rattle.checkpointed_command.specs.Faults.{IfPlan}
+use Rattle.checkpointed_command.specs.Faults.{IfParse, IfPlan}
 use Rattle.checkpointed_command.specs.Formats.{lines_in}
 use Rattle.checkpointed_command.specs.Plans.{PlannedQuery}
 use Rattle.checkpointed_command.specs.Executed.{HoldsFront, IsExecuted, IsStopped, IsUntouched, OnTable, Writes, WritesAll, rows_in}
@@ -91,3 +91,12 @@ if_ok_map (Err fault) P Q so p = tt
 pub on_err_map : {T E : Type 0} (r : Result T E) (P Q : Type 0) → (P → Q) → OnErr r P → OnErr r Q
 on_err_map (Ok value) P Q so p = tt
 on_err_map (Err fault) P Q so p = so p
+
+pub if_parse_map : {T : Type 0} (r : Result T RunFault) (P Q : BadLine → Type 0) → ((line : BadLine) → P line → Q line) → IfParse r P → IfParse r Q
+if_parse_map (Ok value) P Q so p = tt
+if_parse_map (Err (X.Plan fault)) P Q so p = tt
+if_parse_map (Err (X.Refused why)) P Q so p = tt
+if_parse_map (Err X.LogsFault) P Q so p = tt
+if_parse_map (Err X.StageFault) P Q so p = tt
+if_parse_map (Err (X.ParseErrors log row)) P Q so p = so (bad_line log row) p
+if_parse_map (Err X.Memory) P Q so p = tt

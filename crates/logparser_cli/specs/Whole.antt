@@ -1,5 +1,5 @@
 -- What a run writes.
-use Rattle.std.specs.Prelude.{◌≡◌, ◌⊎◌, ℕ, ℤ, Bool, true, false, List, [], Option, Ok, Err}
+use Rattle.std.specs.Prelude.{◌≡◌, ◌⊎◌, ℕ, ℤ, Bool, true, false, List, [], Option, Ok, Err, ⊤}
 use Rattle.grammar.specs.Filled.{given_bad}
 use Rattle.grammar.specs.Trees as model
 use Rattle.lp_model.specs.Outside.{Folder, Told, Gains, GainsSome, Rose}
@@ -7,7 +7,7 @@ use Rattle.lp_model.specs.Report.{statistics}
 use Rattle.lp_time.specs.declared.piece.Piece.{Piece}
 use Rattle.command_words.specs.declared.spec.Spec.{Spec}
 use Rattle.checkpoint.specs.Wholes.{whole_spans}
-use Rattle.checkpointed_command.specs.Executed.{ComesInTurn, IsTyped, Writes, rows_in}
+use Rattle.checkpointed_command.specs.Executed.{BadInTurn, BehindSample, IsTyped, UnplacedInTurn, Writes, rows_in}
 use Rattle.checkpointed_command.specs.Formats.{lines_in, log_format}
 use Rattle.checkpointed_command.specs.Outputs.{asked_in}
 use Rattle.checkpointed_command.specs.Plans.{PlannedQuery, query_plan}
@@ -75,12 +75,13 @@ pub record IsHalted (before now : Option Folder) (old new : Held) (template : Se
   pub are_logs : AreLogs before now q logs
   pub front : IsFront now old new template spec moment q logs
 
--- of the bad lines of the whole logs, in order, this is the first that is one too many
+-- of the bad lines of the whole logs, in order, this is the first that is one too many, in its turn
 pub record IsParseError (before now : Option Folder) (old new : Held) (template : Sections) (spec : Spec) (moment : ℤ) (q : model.Query) (line : BadLine) : Type 0 where
   pub logs : List NameLength
   pub are_logs : AreLogs before now q logs
   pub typed : IsTyped (log_format spec q) (asked_in spec template moment q (whole_spans logs)) moment q
   pub exceeds : Told now (λ folder. IsTooMany spec.errors (given_bad q) (spans_bad_lines (lines_in (log_format spec q)) false folder (whole_spans logs)) line)
+  pub in_turn : Told now (BadInTurn (log_format spec q) false (IsUnwritten old new) (asked_in spec template moment q (whole_spans logs)) spec moment q (whole_spans logs) line)
   pub front : IsFront now old new template spec moment q logs
 
 -- an output of the rows of the query's plan over a table is refused by this fault, in its turn
@@ -88,7 +89,7 @@ pub record UnplacesAll (told : Option Folder) (template : Sections) (spec : Spec
   pub plan : PlannedQuery
   pub is_planned : query_plan table moment q ≡ Ok plan
   pub refused : Told told (λ folder. IsRefused (asked_in spec template moment q (whole_spans logs) plan) (rows_in (log_format spec q) false spec.ts_format plan folder (whole_spans logs)) why)
-  pub in_turn : Told told (ComesInTurn (log_format spec q) false (asked_in spec template moment q (whole_spans logs)) spec q plan (whole_spans logs) why)
+  pub in_turn : Told told (UnplacedInTurn (log_format spec q) false (asked_in spec template moment q (whole_spans logs)) spec q plan (whole_spans logs) why)
 
 -- an output of the rows is refused by this fault
 pub record IsUnplaced (before now : Option Folder) (old new : Held) (template : Sections) (spec : Spec) (moment : ℤ) (q : model.Query) (why : Refused) : Type 0 where
@@ -97,9 +98,10 @@ pub record IsUnplaced (before now : Option Folder) (old new : Held) (template : 
   pub refused : OnWhole (log_format spec q) spec.ts_format now logs (UnplacesAll now template spec moment q logs why)
   pub front : IsFront now old new template spec moment q logs
 
--- the query has no plan, by this fault, and nothing was written
+-- the query has no plan, by this fault, in its turn, and nothing was written
 pub record IsUnplanned (before now : Option Folder) (old new : Held) (spec : Spec) (moment : ℤ) (q : model.Query) (fault : TypeFault) : Type 0 where
   pub logs : List NameLength
   pub are_logs : AreLogs before now q logs
   pub unplanned : OnWhole (log_format spec q) spec.ts_format now logs (λ table. query_plan table moment q ≡ Err fault)
+  pub in_turn : Told now (λ folder. BehindSample (log_format spec q) false spec q (whole_spans logs) folder (λ up. ⊤))
   pub unwritten : OnWhole (log_format spec q) spec.ts_format now logs (λ table. IsUnwritten old new)

@@ -8,7 +8,7 @@ ghost use Rattle.log_reading.specs.Page.{IsWithin};
 ghost use Rattle.log_reading.specs.Spans.{AllSpans, AreReadable, IsSpan, spans_size};
 ghost use Rattle.query_tree.specs.Views.{query_of};
 ghost use Rattle.checkpointed_command.specs.Built.{all_built};
-ghost use Rattle.checkpointed_command.specs.Executed.{IsMoment, IsExecuted, IsParseError, IsStopped, IsUnplaced, IsUnplanned, IsUntouched};
+ghost use Rattle.checkpointed_command.specs.Executed.{IsMoment, IsExecuted, IsParseError, IsStopped, IsTypedInTurn, IsUnplaced, IsUnplanned, IsUntouched};
 ghost use Rattle.checkpointed_command.specs.Faults.{IfParse, IfPlan, IfRefused};
 ghost use Rattle.checkpointed_command.specs.Formats.{log_format};
 ghost use Rattle.checkpointed_command.specs.OnePass.{GoesInPass, SpansPassed};
@@ -54,8 +54,9 @@ pub(crate) fn write_rows<L: LogSource, D: Disk, S: Sink>(
     ensures stopped { OnErr result (IsStopped (log_format spec.now (query_of query.now)) false (L.folder logs.new) (IsUnwritten (held (AlwaysTells D.state) (D.state disk.old).seen (S.written out.old)) (held (AlwaysTells D.state) (D.state disk.new).seen (S.written out.new))) (HasFront (held (AlwaysTells D.state) (D.state disk.old).seen (S.written out.old)) (held (AlwaysTells D.state) (D.state disk.new).seen (S.written out.new))) (asked_in spec.now (sections_in (λ t. t.value) template) moment (query_of query.now) spans.now) spec.now moment (query_of query.now) spans.now) }
     ensures refused { IfRefused result (IsUnplaced (log_format spec.now (query_of query.now)) false (L.folder logs.new) (asked_in spec.now (sections_in (λ t. t.value) template) moment (query_of query.now) spans.now) spec.now moment (query_of query.now) spans.now) }
     ensures plan { IfPlan result (IsUnplanned (log_format spec.now (query_of query.now)) false (L.folder logs.new) spec.now moment (query_of query.now) spans.now) }
+    ensures plan_in_turn { IfPlan result (λ fault. IsTypedInTurn (log_format spec.now (query_of query.now)) false (L.folder logs.new) spec.now (query_of query.now) spans.now) }
     ensures before { IfPlan result (λ fault. IsUntouched (log_format spec.now (query_of query.now)) false (L.folder logs.new) (IsUnwritten (held (AlwaysTells D.state) (D.state disk.old).seen (S.written out.old)) (held (AlwaysTells D.state) (D.state disk.new).seen (S.written out.new))) spec.now spans.now) }
-    ensures parse { IfParse result (IsParseError (log_format spec.now (query_of query.now)) false (L.folder logs.new) (asked_in spec.now (sections_in (λ t. t.value) template) moment (query_of query.now) spans.now) spec.now moment (query_of query.now) spans.now) }
+    ensures parse { IfParse result (IsParseError (log_format spec.now (query_of query.now)) false (L.folder logs.new) (IsUnwritten (held (AlwaysTells D.state) (D.state disk.old).seen (S.written out.old)) (held (AlwaysTells D.state) (D.state disk.new).seen (S.written out.new))) (asked_in spec.now (sections_in (λ t. t.value) template) moment (query_of query.now) spans.now) spec.now moment (query_of query.now) spans.now) }
     ensures given { L.given logs.new ≤ L.given logs.old + spans_size spans.now }
     ensures one_pass { (format : TableFormat) → GoesInPass spec.now (query_of query.now) format → SpansPassed spec.now moment (query_of query.now) format false (L.folder logs.new) spans.now (option_map length (S.written out.old)) (option_map length (S.written out.new)) (L.given logs.old) (L.given logs.new) }
     ensures later_logs { L.faults logs.old ≤ L.faults logs.new }

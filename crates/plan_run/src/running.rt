@@ -1,15 +1,17 @@
 // A plan over spans, read by any reader of a format.
-ghost use Rattle.std.specs.Prelude.{◌≡◌, ◌⊎◌, ◌≤◌, ◌+◌, ◌++◌, [], true, length, map, option_map, OnOk, OnErr, IfOk, IfErr, IsErrOf};
+ghost use Rattle.std.specs.Prelude.{◌≡◌, ◌≤◌, ◌+◌, ◌++◌, [], true, length, map, option_map, OnOk, OnErr, IfOk, IfErr, IsErrOf};
 ghost use Rattle.lp_model.specs.Outside.{Rose, OnlyGrow, Told};
 ghost use Rattle.log_reading.specs.Page.{IsTooMany, IsWithin};
 ghost use Rattle.log_reading.specs.Spans.{AllSpans, AreReadable, IsSpan, AreKept, spans_found, spans_bad, spans_bad_lines, spans_size, took_of};
 ghost use Rattle.text_output.specs.Output.{kind_of};
 ghost use Rattle.row_output.specs.Asked.{left_of};
 ghost use Rattle.row_output.specs.Kept.{IsNew, asked_of};
-ghost use Rattle.row_output.specs.Rows.{Holds, IsRefused, IsRefusedEarly, Stops};
+ghost use Rattle.row_output.specs.Rows.{Holds, IsRefused, Stops};
 ghost use Rattle.row_output.specs.declared.fault.Refused.{Refused as Why};
 ghost use Rattle.query_run.specs.Ahead.{GoesAhead};
 ghost use Rattle.query_run.specs.Faults.{OnBad, OnRefusedOutput};
+ghost use Rattle.query_run.specs.InTurn.{BadInTurn, RefusedInTurn};
+ghost use Rattle.query_run.specs.Rows.{picked};
 ghost use Rattle.query_types.specs.Conditions.{filter_of};
 ghost use Rattle.query_types.specs.Planned.{Covers, planned_in};
 ghost use Rattle.input_tables.specs.Tables.{lines_of, columns_of, readings_of};
@@ -81,13 +83,17 @@ pub fn run_reader<R: LineReader, L: LogSource, G: Stage>(
     ensures named { IfErr result (OnBad (λ line. (why : Why) → IsRefused (asked_of output) [] why → ⊥)) }
     ensures refused { IfErr result (OnRefusedOutput (λ why. Told (L.folder logs.new) (λ folder. AreKept (lines_of format) waits spans.now folder
         → IsRefused (asked_of output) (plan_rows (readings_of format) (planned_in plan) (lines_of format) waits folder spans.now) why))) }
-    // An output that is refused once the last row is there is refused behind all bad lines.
-    ensures early { IfErr result (OnRefusedOutput (λ why. Told (L.folder logs.new) (λ folder. AreKept (lines_of format) waits spans.now folder
-        → IsRefusedEarly (asked_of output) why ⊎ IsWithin most_bad (length (spans_bad (lines_of format) waits folder spans.now))))) }
+    // Of two faults the one that comes first is told: an output that is refused, or a bad line that is one too many.
+    ensures in_turn { IfErr result (OnRefusedOutput (λ why. Told (L.folder logs.new) (λ folder. AreKept (lines_of format) waits spans.now folder
+        → RefusedInTurn (asked_of output) (picked (plan_picks (readings_of format) (planned_in plan).items (planned_in plan).condition)) most_bad 0 (lines_of format) waits folder spans.now why))) }
+    ensures placed { IfErr result (OnBad (λ line. Told (L.folder logs.new) (λ folder. AreKept (lines_of format) waits spans.now folder
+        → BadInTurn (asked_of output) (picked (plan_picks (readings_of format) (planned_in plan).items (planned_in plan).condition)) most_bad 0 (lines_of format) waits folder spans.now line))) }
+    // Where the output of a name without stars is refused, no log is read.
+    ensures unread { IfErr result (OnRefusedOutput (λ why. IsRefused (asked_of output) [] why → L.given logs.new ≡ L.given logs.old)) }
     ensures stops { OnErr result (Told (L.folder logs.new) (λ folder. AreKept (lines_of format) waits spans.now folder
         → Stops (kind_of G.state G.ended) (asked_of output) stage.old (plan_rows (readings_of format) (planned_in plan) (lines_of format) waits folder spans.now) stage.new)) }
-    ensures took { OnOk result (waits ≡ true → Told (L.folder logs.new) (λ folder. AreKept (lines_of format) true spans.now folder
-        → took.new ≡ took.old ++ map (took_of (lines_of format) folder) spans.now)) }
+    ensures took { OnOk result (Told (L.folder logs.new) (λ folder. AreKept (lines_of format) waits spans.now folder
+        → took.new ≡ took.old ++ map (took_of (lines_of format) waits folder) spans.now)) }
     ensures given { L.given logs.new ≤ L.given logs.old + spans_size spans.now }
     // Of a log no more than a piece is read while standard output lacks a piece of the text of what was read.
     ensures ahead { GoesAhead (kind_of G.state G.ended) G.goes (asked_of output) (plan_picks (readings_of format) (planned_in plan).items (planned_in plan).condition) (lines_of format) waits (L.folder logs.new) spans.now (L.given logs.old) (L.given logs.new) stage.old stage.new }

@@ -120,6 +120,27 @@ fn last_places_are_kept(rt: HostRuntime) {
     }
 }
 
+fn shown_up_to<D: Disk>(alloc: Global, disk: &mut D) -> Option<String> {
+    let ledger = named("cp")?;
+    let end = walk(disk, &ledger).ok()?;
+    match Positions::load_up_to(alloc, disk, &ledger, end) {
+        Ok(positions) => show(alloc, &positions),
+        Err(fault) => show_fault(alloc, fault),
+    }
+}
+
+fn are_kept_up_to(alloc: Global, runs: &[&[Read]], wanted: &str) -> Option<bool> {
+    let mut disk = disk_with(alloc, runs)?;
+    let shown = shown_up_to(alloc, &mut disk)?;
+    Some(shown.as_str() == wanted)
+}
+
+// The same of a ledger whose end is known.
+#[test]
+fn places_are_kept_up_to_a_known_end(rt: HostRuntime) {
+    assert!(rt; are_kept_up_to(rt.alloc(), &[&FIRST, &SECOND], BEHIND) == Some(true));
+}
+
 fn is_input<D: Disk>(alloc: Global, disk: &mut D, wanted: Option<&[u8]>) -> Option<bool> {
     let positions = loaded(alloc, disk)?;
     Some(positions.input() == wanted)

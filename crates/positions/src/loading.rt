@@ -5,6 +5,7 @@ ghost use Rattle.std.specs.Option.{option_copied};
 ghost use Rattle.ledger_model.specs.Entries.{Entry};
 ghost use Rattle.ledger_model.specs.Ledgers.{Pair, IsPair, spelled_pair};
 ghost use Rattle.ledger.specs.Reader.{Rests, Holds, left_of};
+ghost use Rattle.ledger.specs.Walking.{IsEnd};
 ghost use Rattle.positions.specs.Faults.{IsNoFault, HasLoadReason};
 ghost use Rattle.positions.specs.Places.{Keeps, kept_of, place_in};
 ghost use Rattle.positions.specs.Loads.{entries_of, KeepsLedger, RefusedLoad};
@@ -13,7 +14,7 @@ use crate::entries::take_entry;
 use crate::fields::take_number;
 use crate::places::Places;
 use crate::{LoadFault, Place};
-use ledger::{EntryReader, walk};
+use ledger::{End, EntryReader, walk};
 use lp_outside::{Disk, Name};
 use lp_values::Bytes;
 use std::alloc::Global;
@@ -93,6 +94,20 @@ impl Positions {
         ensures reason { HasLoadReason (D.faults disk.old) (D.faults disk.new) result }
     {
         let end = walk(disk, ledger)?;
+        Positions::load_up_to(alloc, disk, ledger, end)
+    }
+
+    /// The kept places of a ledger whose end is known, which isn't walked: only the fields up to its entries' spans are read.
+    pub fn load_up_to<D: Disk>(
+        alloc: Global,
+        disk: &mut D,
+        ledger: &Name,
+        end: End,
+    ) -> Result<Positions, LoadFault>
+        ensures loads { (file : List ℕ) → Holds (D.state disk.old) ledger.now file → IsEnd file end → MatchResult result (KeepsLedger file) (RefusedLoad file) }
+        ensures rests { Rests (D.state disk.old) (D.state disk.new) }
+        ensures reason { HasLoadReason (D.faults disk.old) (D.faults disk.new) result }
+    {
         let mut input = None;
         let mut places = Places::new(alloc);
         take_pairs(

@@ -24,7 +24,7 @@ use Rattle.program_meaning.proofs.Ends.{last_end_is_last, standing_of_whole, rec
 pub record IsPartOf (format : Format) (written : Written) (folder : Folder) (span : Span) (kept : EntrySpan) : Type 0 where
   pub identity : kept.identity ≡ span.identity
   pub from : kept.from ≡ span.from
-  pub to : kept.to ≡ span_end folder span
+  pub to : kept.to ≡ span_end true folder span
   pub shows : bytes_in written span.identity ≡ bytes_in folder span.name
   pub is_kept : IsKept format true (cut_of folder span) span
 
@@ -33,7 +33,7 @@ ArePartsOf format written folder spans kept = Rattle.std.specs.List.AllZip (IsPa
 
 module _ (format : Format) (written : Written) (folder : Folder) where
   -- a span ends where the last line of its cut does
-  end_is : (span : Span) → IsKept format true (cut_of folder span) span → span_end folder span ≡ last_end (cut_of folder span)
+  end_is : (span : Span) → IsKept format true (cut_of folder span) span → span_end true folder span ≡ last_end (cut_of folder span)
   end_is span kept = max-eq_right ((last_end_is_last (cut_of folder span)).last span.from kept.at_end)
 
   part_is : (span : Span) (kept : EntrySpan) → IsPartOf format written folder span kept

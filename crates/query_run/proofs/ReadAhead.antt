@@ -34,7 +34,7 @@ module _ {P : Type 0} {S : Type 0} (kind : StageKind S) (goes : S → S → Type
   has_by_then a s = told_map told (λ folder. AreKept format waits spans folder → takes old u (met folder a.front a.span a.place) a.taker a.out)
       (λ folder. AreKept format waits spans folder → (asked_of a.taker.output ≡ asked_of output) × HasRows kind a.taker.output start (picked (picks by) (rows_met (met folder a.front a.span a.place))) a.out)
       (λ folder took kept.
-      let put : PutsRows kind (picked (picks old.picker) (rows_met (met folder a.front a.span a.place))) old u a.taker a.out = took kept in
+      let put : PutsRows kind (picked (picks old.picker) (rows_met (met folder a.front a.span a.place))) old u a.taker a.out = (took kept).puts in
       (put.asked ∙ s.asked, subst (λ (p : P). HasRows kind a.taker.output start (picked (picks p) (rows_met (met folder a.front a.span a.place))) a.out) s.picker (put.has start [] s.has))) a.taken
 
   pub goes_ahead : size ≡ 65_536 → ((v : S) → goes v w → goes v z) → Starts kind output by start old u

@@ -146,3 +146,20 @@ bad_each (Err W.Logs) Q so = tt
 bad_each (Err W.Output) Q so = tt
 bad_each (Err (W.Refused why)) Q so = tt
 bad_each (Err (W.Bad log row)) Q so = so (bad_line log row)
+
+-- what holds of each refusal holds of one that is why
+pub refused_all : (fault : WriteFault) (Q : Refused → Type 0) → ((why : Refused) → Q why) → OnRefusedOutput Q fault
+refused_all W.Memory Q so = tt
+refused_all W.Logs Q so = tt
+refused_all W.Output Q so = tt
+refused_all (W.Refused why) Q so = so why
+refused_all (W.Bad log row) Q so = tt
+
+pub refused_each : {T : Type 0} (r : Result T WriteFault) (Q : Refused → Type 0) → ((why : Refused) → Q why) → IfErr r (OnRefusedOutput Q)
+refused_each (Ok value) Q so = tt
+refused_each (Err fault) Q so = refused_all fault Q so
+
+-- two facts of why an output was refused
+pub both_some : (refused : Option Refused) (P Q R : Refused → Type 0) → ((why : Refused) → P why → Q why → R why) → IfSome refused P → IfSome refused Q → IfSome refused R
+both_some None P Q R so p q = tt
+both_some (Some why) P Q R so p q = so why p q

@@ -3,3 +3,4 @@ pub mod Faults
 pub mod Writer
 pub mod Writing
 pub mod Ahead
+pub mod InTurn

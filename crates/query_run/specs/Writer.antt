@@ -1,5 +1,5 @@
 -- What a writer has put.
-use Rattle.std.specs.Prelude.{◌≡◌, List, [], ◌∷◌, ◌++◌, Option, Some, None, IfSome}
+use Rattle.std.specs.Prelude.{◌≡◌, ◌⊎◌, true, List, [], ◌∷◌, ◌++◌, Option, Some, None, IfSome}
 use Rattle.lp_values.specs.declared.value.Value.{Value}
 use Rattle.log_reading.specs.Found.{Found}
 use Rattle.log_reading.specs.declared.taker.TakeFault.{TakeFault}
@@ -26,12 +26,18 @@ refused_by refused (O.Refused why) = Some why
 refused_by refused O.Failed = refused
 refused_by refused O.Memory = refused
 
+-- where the output of a name without stars was opened, it isn't refused
+abbrev pub IsNamed : {P : Type 0} → Writer P → Type 0
+IsNamed writer = writer.opened ≡ true → (why : Refused) → IsRefused (asked_of writer.output) [] why → ⊥
+
 -- these rows were put behind those before, and nothing was refused
 pub record PutsRows {P : Type 0} {S : Type 0} (kind : StageKind S) (put : List (List Value)) (old : Writer P) (before : S) (new : Writer P) (now : S) : Type 0 where
   pub has : (start : S) (rows : List (List Value)) → HasRows kind old.output start rows before → HasRows kind new.output start (rows ++ put) now
   pub asked : asked_of new.output ≡ asked_of old.output
   pub picker : new.picker ≡ old.picker
   pub refused : new.refused ≡ old.refused
+  pub opened : old.opened ≡ true → new.opened ≡ true
+  pub named : (start : S) (rows : List (List Value)) → HasRows kind old.output start rows before → IsNamed old → IsNamed new
 
 -- it stopped within these rows, or behind them
 pub record StopsWithin {P : Type 0} {S : Type 0} (kind : StageKind S) (put : List (List Value)) (old : Writer P) (before : S) (new : Writer P) (now : S) : Type 0 where
@@ -60,9 +66,10 @@ Puts kind row old before new now = PutsRows kind (row ∷ []) old before new now
 abbrev pub StopsIn : {P : Type 0} {S : Type 0} → StageKind S → List Value → Writer P → S → Writer P → S → Type 0
 StopsIn kind row old before new now = StopsWithin kind (row ∷ []) old before new now
 
--- the rows of these records were put
-abbrev pub Writes : {P : Type 0} {S : Type 0} → StageKind S → (P → Found → Option (List Value)) → Writer P → S → List Found → Writer P → S → Type 0
-Writes kind picks old before founds new now = PutsRows kind (picked (picks old.picker) founds) old before new now
+-- the rows of these records were put, and behind any record the output is opened
+pub record Writes {P : Type 0} {S : Type 0} (kind : StageKind S) (picks : P → Found → Option (List Value)) (old : Writer P) (before : S) (founds : List Found) (new : Writer P) (now : S) : Type 0 where
+  pub puts : PutsRows kind (picked (picks old.picker) founds) old before new now
+  pub opens : (founds ≡ []) ⊎ (new.opened ≡ true)
 
 abbrev pub Halts : {P : Type 0} {S : Type 0} → StageKind S → (P → Found → Option (List Value)) → Writer P → S → List Found → Writer P → S → Type 0
 Halts kind picks old before founds new now = StopsWithin kind (picked (picks old.picker) founds) old before new now

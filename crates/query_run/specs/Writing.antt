@@ -1,7 +1,7 @@
 -- What follows from what a writer has put.
-use Rattle.std.specs.Prelude.{◌≡◌, List, [], ◌∷◌, ◌++◌, Option, Some, IfSome}
+use Rattle.std.specs.Prelude.{◌≡◌, ◌⊎◌, true, List, [], ◌∷◌, ◌++◌, Option, Some, IfSome}
 use Rattle.std.specs.List.{cons_option}
-use Rattle.std.proofs.Common.{ap, sym, ◌∙◌, refl, subst, append_assoc}
+use Rattle.std.proofs.Common.{inl, inr, ap, ap₂, sym, ◌∙◌, refl, subst, append_assoc}
 use Rattle.std.proofs.lemmas.List.{append-nil}
 use Rattle.std.proofs.lemmas.List.Elements.{filter_map-append}
 use Rattle.lp_values.specs.declared.value.Value.{Value}
@@ -35,6 +35,8 @@ puts_none kind s w = record {
   asked = refl;
   picker = refl;
   refused = refl;
+  opened = λ is_open. is_open;
+  named = λ start rows has named. named;
 }
 
 -- some rows, and then some more
@@ -46,6 +48,8 @@ puts_on kind one two a b c u v w f s = record {
   asked = s.asked ∙ f.asked;
   picker = s.picker ∙ f.picker;
   refused = s.refused ∙ f.refused;
+  opened = λ is_open. s.opened (f.opened is_open);
+  named = λ start rows has named. s.named start (rows ++ one) (f.has start rows has) (f.named start rows has named);
 }
 
 -- where it stopped within rows it stopped within these and more
@@ -91,25 +95,41 @@ stops_there kind one two a b u v f = record {
       subst Of (sym (f.refused ∙ none)) tt;
 }
 
+-- the output is opened behind records and more
+opens_more : {P : Type 0} (b c : Writer P) (xs ys : List Met) → (b.opened ≡ true → c.opened ≡ true) → (rows_met xs ≡ []) ⊎ (b.opened ≡ true) → (rows_met ys ≡ []) ⊎ (c.opened ≡ true) → (rows_met (xs ++ ys) ≡ []) ⊎ (c.opened ≡ true)
+opens_more b c xs ys on (inr is_open) later = inr (on is_open)
+opens_more b c xs ys on (inl none) (inr is_open) = inr is_open
+opens_more b c xs ys on (inl none) (inl no_more) = inl (rows_met-append xs ys ∙ ap₂ (λ (front behind : List Found). front ++ behind) none no_more)
+
 -- the rows of records
 module _ {P : Type 0} {S : Type 0} (kind : StageKind S) (picks : PicksOf P) where
   both : (a b : Writer P) (xs ys : List Met) → b.picker ≡ a.picker → picked (picks a.picker) (rows_met xs) ++ picked (picks b.picker) (rows_met ys) ≡ picked (picks a.picker) (rows_met (xs ++ ys))
   both a b xs ys picker = ap (λ p. picked (picks a.picker) (rows_met xs) ++ picked (picks p) (rows_met ys)) picker ∙ (sym (picked-append (picks a.picker) (rows_met xs) (rows_met ys)) ∙ ap (picked (picks a.picker)) (sym (rows_met-append xs ys)))
 
+  -- of no record none is put
+  pub writes_nothing : (a b : Writer P) (u v : S) → PutsRows kind [] a u b v → Writes kind picks a u [] b v
+  writes_nothing a b u v f = record { puts = f; opens = inl refl }
+
+  pub writes_none : (s : Writer P) (w : S) → Writes kind picks s w [] s w
+  writes_none s w = writes_nothing s s w w (puts_none kind s w)
+
   pub writes_more : (a b c : Writer P) (u v w : S) (xs ys : List Met) → Writes kind picks a u (rows_met xs) b v → Writes kind picks b v (rows_met ys) c w → Writes kind picks a u (rows_met (xs ++ ys)) c w
   writes_more a b c u v w xs ys f s =
       let Of : Rows → Type 0 = λ t. PutsRows kind t a u c w in
-      subst Of (both a b xs ys f.picker) (puts_on kind _ _ a b c u v w f s)
+      record {
+        puts = subst Of (both a b xs ys f.puts.picker) (puts_on kind _ _ a b c u v w f.puts s.puts);
+        opens = opens_more b c xs ys s.puts.opened f.opens s.opens;
+      }
 
   pub halts_here : (a b : Writer P) (u v : S) (xs ys : List Met) → Writes kind picks a u (rows_met xs) b v → Halts kind picks a u (rows_met (xs ++ ys)) b v
   halts_here a b u v xs ys f =
       let Of : Rows → Type 0 = λ t. StopsWithin kind t a u b v in
-      subst Of (both a b xs ys f.picker) (stops_there kind _ _ a b u v f)
+      subst Of (both a b xs ys f.puts.picker) (stops_there kind _ _ a b u v f.puts)
 
   pub halts_later : (a b c : Writer P) (u v w : S) (xs ys : List Met) → Writes kind picks a u (rows_met xs) b v → Halts kind picks b v (rows_met ys) c w → Halts kind picks a u (rows_met (xs ++ ys)) c w
   halts_later a b c u v w xs ys f s =
       let Of : Rows → Type 0 = λ t. StopsWithin kind t a u c w in
-      subst Of (both a b xs ys f.picker) (stops_behind kind _ _ a b c u v w f s)
+      subst Of (both a b xs ys f.puts.picker) (stops_behind kind _ _ a b c u v w f.puts s)
 
   pub halts_more : (a c : Writer P) (u w : S) (xs ys : List Met) → Halts kind picks a u (rows_met xs) c w → Halts kind picks a u (rows_met (xs ++ ys)) c w
   halts_more a c u w xs ys s =

@@ -7,12 +7,13 @@ ghost use Rattle.order_top.specs.Finish.{Row};
 ghost use Rattle.text_output.specs.Output.{kind_of};
 ghost use Rattle.row_output.specs.Asked.{left_of};
 ghost use Rattle.row_output.specs.Kept.{HasRows, IsNew, asked_of};
-ghost use Rattle.row_output.specs.Rows.{Holds, IsRefused, IsRefusedEarly, Stops};
+ghost use Rattle.row_output.specs.Rows.{Holds, IsRefused, Stops};
 ghost use Rattle.row_output.specs.declared.fault.Refused.{Refused as Why};
 ghost use Rattle.row_output.specs.declared.kept.RowOutput.{RowOutput};
 ghost use Rattle.log_reading.specs.declared.span.RunFault.TheVariants as R;
 ghost use Rattle.log_reading.specs.declared.taker.TakeFault.TheVariants as T;
 ghost use Rattle.query_run.specs.Faults.{OnBad, OnRefusedOutput, ended_by, stopped_at, stopped_in};
+ghost use Rattle.query_run.specs.InTurn.{BadInTurn, RefusedInTurn};
 ghost use Rattle.query_run.specs.Rows.{picked};
 ghost use Rattle.row_output.specs.Sinks.{HoldsNoPiece};
 ghost use Rattle.query_run.specs.Ahead.{GoesAhead};
@@ -207,8 +208,8 @@ fn write_page<R: LineReader, L: LogSource, P: Picker + Drop, G: Stage>(
     ensures stops { OnErr result ((output : RowOutput) (picker : P) (first : G) → Starts (kind_of G.state G.ended) output picker first page.old.taker stage.old
         → Told (L.folder logs.new) (λ folder. AreKept (R.format reader.now) waits spans.now folder
         → Stops (kind_of G.state G.ended) (asked_of output) first (picked (P.picks picker) (spans_found (R.format reader.now) waits folder spans.now)) stage.new)) }
-    ensures took { OnOk result (waits ≡ true → Told (L.folder logs.new) (λ folder. AreKept (R.format reader.now) true spans.now folder
-        → took.new ≡ took.old ++ map (took_of (R.format reader.now) folder) spans.now)) }
+    ensures took { OnOk result (Told (L.folder logs.new) (λ folder. AreKept (R.format reader.now) waits spans.now folder
+        → took.new ≡ took.old ++ map (took_of (R.format reader.now) waits folder) spans.now)) }
     ensures given { L.given logs.new ≤ L.given logs.old + spans_size spans.now }
     ensures ahead { (output : RowOutput) (picker : P) (first : G) → Starts (kind_of G.state G.ended) output picker first page.old.taker stage.old
         → GoesAhead (kind_of G.state G.ended) G.goes (asked_of output) (P.picks picker) (R.format reader.now) waits (L.folder logs.new) spans.now (L.given logs.old) (L.given logs.new) first stage.new }
@@ -221,9 +222,14 @@ fn write_page<R: LineReader, L: LogSource, P: Picker + Drop, G: Stage>(
     ensures refused { IfErr result (λ fault. (output : RowOutput) (picker : P) (first : G) → Starts (kind_of G.state G.ended) output picker first page.old.taker stage.old
         → OnRefusedOutput (λ why. Told (L.folder logs.new) (λ folder. AreKept (R.format reader.now) waits spans.now folder
         → IsRefused (asked_of output) (picked (P.picks picker) (spans_found (R.format reader.now) waits folder spans.now)) why)) fault) }
-    ensures early { IfErr result (λ fault. (output : RowOutput) (picker : P) (first : G) → Starts (kind_of G.state G.ended) output picker first page.old.taker stage.old
+    // Of two faults the one that comes first is told.
+    ensures in_turn { IfErr result (λ fault. (output : RowOutput) (picker : P) (first : G) → Starts (kind_of G.state G.ended) output picker first page.old.taker stage.old
         → OnRefusedOutput (λ why. Told (L.folder logs.new) (λ folder. AreKept (R.format reader.now) waits spans.now folder
-        → IsRefusedEarly (asked_of output) why ⊎ IsWithin page.old.most_bad (length (spans_bad (R.format reader.now) waits folder spans.now)))) fault) }
+        → RefusedInTurn (asked_of output) (picked (P.picks picker)) page.old.most_bad 0 (R.format reader.now) waits folder spans.now why)) fault) }
+    ensures placed { IfErr result (λ fault. (output : RowOutput) (picker : P) (first : G) → Starts (kind_of G.state G.ended) output picker first page.old.taker stage.old
+        → ((why : Why) → IsRefused (asked_of output) [] why → ⊥)
+        → OnBad (λ line. Told (L.folder logs.new) (λ folder. AreKept (R.format reader.now) waits spans.now folder
+        → BadInTurn (asked_of output) (picked (P.picks picker)) page.old.most_bad 0 (R.format reader.now) waits folder spans.now line)) fault) }
     ensures sink { IsErrOf result WriteFault.Output → Rose (G.faults stage.old) (G.faults stage.new) }
 {
     let Ok(mut chunk) = new_chunk(alloc) else {
@@ -267,8 +273,8 @@ pub fn write_spans<R: LineReader, L: LogSource, P: Picker + Drop, G: Stage>(
         → written.counts.bad ≡ length (spans_bad (R.format reader.now) waits folder spans.now))) }
     ensures stops { OnErr result (Told (L.folder logs.new) (λ folder. AreKept (R.format reader.now) waits spans.now folder
         → Stops (kind_of G.state G.ended) (asked_of output) stage.old (picked (P.picks picker) (spans_found (R.format reader.now) waits folder spans.now)) stage.new)) }
-    ensures took { OnOk result (waits ≡ true → Told (L.folder logs.new) (λ folder. AreKept (R.format reader.now) true spans.now folder
-        → took.new ≡ took.old ++ map (took_of (R.format reader.now) folder) spans.now)) }
+    ensures took { OnOk result (Told (L.folder logs.new) (λ folder. AreKept (R.format reader.now) waits spans.now folder
+        → took.new ≡ took.old ++ map (took_of (R.format reader.now) waits folder) spans.now)) }
     ensures given { L.given logs.new ≤ L.given logs.old + spans_size spans.now }
     // Of a log no more than a piece is read while standard output lacks a piece of the text of what was read.
     ensures ahead { GoesAhead (kind_of G.state G.ended) G.goes (asked_of output) (P.picks picker) (R.format reader.now) waits (L.folder logs.new) spans.now (L.given logs.old) (L.given logs.new) stage.old stage.new }
@@ -282,9 +288,13 @@ pub fn write_spans<R: LineReader, L: LogSource, P: Picker + Drop, G: Stage>(
     ensures named { IfErr result (OnBad (λ line. (why : Why) → IsRefused (asked_of output) [] why → ⊥)) }
     ensures refused { IfErr result (OnRefusedOutput (λ why. Told (L.folder logs.new) (λ folder. AreKept (R.format reader.now) waits spans.now folder
         → IsRefused (asked_of output) (picked (P.picks picker) (spans_found (R.format reader.now) waits folder spans.now)) why))) }
-    // An output that is refused once the last row is there is refused behind all bad lines.
-    ensures early { IfErr result (OnRefusedOutput (λ why. Told (L.folder logs.new) (λ folder. AreKept (R.format reader.now) waits spans.now folder
-        → IsRefusedEarly (asked_of output) why ⊎ IsWithin most_bad (length (spans_bad (R.format reader.now) waits folder spans.now))))) }
+    // Of two faults the one that comes first is told: an output that is refused, or a bad line that is one too many.
+    ensures in_turn { IfErr result (OnRefusedOutput (λ why. Told (L.folder logs.new) (λ folder. AreKept (R.format reader.now) waits spans.now folder
+        → RefusedInTurn (asked_of output) (picked (P.picks picker)) most_bad 0 (R.format reader.now) waits folder spans.now why))) }
+    ensures placed { IfErr result (OnBad (λ line. Told (L.folder logs.new) (λ folder. AreKept (R.format reader.now) waits spans.now folder
+        → BadInTurn (asked_of output) (picked (P.picks picker)) most_bad 0 (R.format reader.now) waits folder spans.now line))) }
+    // Where the output of a name without stars is refused, no log is read.
+    ensures unread { IfErr result (OnRefusedOutput (λ why. IsRefused (asked_of output) [] why → L.given logs.new ≡ L.given logs.old)) }
     ensures sink { IsErrOf result WriteFault.Output → Rose (G.faults stage.old) (G.faults stage.new) }
 {
     let mut page = open_page(alloc, output, picker, most_bad, stage)?;

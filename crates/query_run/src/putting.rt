@@ -1,5 +1,5 @@
 // How a writer puts rows.
-ghost use Rattle.std.specs.Prelude.{◌≡◌, ◌≤◌, ◌<◌, ◌+◌, ◌^◌, [], false, None, OnOk, OnErr, IsErrOf, IsSome};
+ghost use Rattle.std.specs.Prelude.{◌≡◌, ◌≤◌, ◌<◌, ◌+◌, ◌^◌, [], false, true, None, OnOk, OnErr, IsErrOf, IsSome};
 ghost use Rattle.lp_model.specs.Outside.{Rose};
 ghost use Rattle.text_output.specs.Output.{kind_of};
 ghost use Rattle.row_output.specs.Kept.{HasRows, asked_of};
@@ -45,6 +45,7 @@ impl<P: Drop> Writer<P> {
         ensures later { G.faults stage.old ≤ G.faults stage.new }
         ensures failed { IsErrOf result TakeFault.Failed → Rose (G.faults stage.old) (G.faults stage.new) }
         ensures stopped { IsErrOf result TakeFault.Stopped → IsSome self.new.refused }
+        ensures opened { OnOk result (self.new.opened ≡ true) }
         ensures named { OnOk result (self.old.opened ≡ false → (start : G) → HasRows (kind_of G.state G.ended) self.old.output start [] stage.old → (why : Why) → IsRefused (asked_of self.old.output) [] why → ⊥) }
     {
         if self.opened {
@@ -86,6 +87,7 @@ impl<P: Drop> Writer<P> {
         ensures later { G.faults stage.old ≤ G.faults stage.new }
         ensures failed { IsErrOf result TakeFault.Failed → Rose (G.faults stage.old) (G.faults stage.new) }
         ensures stopped { IsErrOf result TakeFault.Stopped → IsSome self.new.refused }
+        ensures opened { OnOk result (self.new.opened ≡ true) }
         ensures named { OnOk result (self.old.opened ≡ false → (start : G) → HasRows (kind_of G.state G.ended) self.old.output start [] stage.old → (why : Why) → IsRefused (asked_of self.old.output) [] why → ⊥) }
     {
         self.open(stage)?;

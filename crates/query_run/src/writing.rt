@@ -5,8 +5,9 @@ ghost use Rattle.line_input.specs.Taken.{slots_of};
 ghost use Rattle.log_reading.specs.Found.{rows_met};
 ghost use Rattle.row_output.specs.Kept.{DropsAll};
 ghost use Rattle.row_output.specs.Sinks.{HoldsNoPiece};
-ghost use Rattle.query_run.specs.Writer.{Opens, Writes, Halts};
-ghost use Rattle.query_run.specs.Writing.{puts_none, writes_more, halts_here, halts_later, halts_more};
+ghost use Rattle.query_run.specs.Rows.{picked};
+ghost use Rattle.query_run.specs.Writer.{Opens, PutsRows, Writes, Halts};
+ghost use Rattle.query_run.specs.Writing.{writes_none, writes_more, halts_here, halts_later, halts_more};
 
 use crate::{Picker, Writer};
 use line_input::{Columns, Fields};
@@ -29,7 +30,7 @@ impl<P: Picker + Drop> Writer<P> {
         requires number { number < 2 ^ 63 }
         requires room { self.old.taken < 2 ^ 63 }
         requires drops { DropsAll self.old.output }
-        ensures takes { OnOk result (Writes (kind_of G.state G.ended) P.picks self.old stage.now (record { identity = identity.now; row = record { number = number; slots = slots_of line.now fields.now; columns = columns.now } } ∷ []) self.new stage.now) }
+        ensures takes { OnOk result (PutsRows (kind_of G.state G.ended) (picked (P.picks self.old.picker) (record { identity = identity.now; row = record { number = number; slots = slots_of line.now fields.now; columns = columns.now } } ∷ [])) self.old stage.now self.new stage.now) }
         ensures err { OnErr result (Opens (kind_of G.state G.ended) self.old stage.now self.new stage.now) }
         ensures taken { OnOk result (self.new.taken ≡ self.old.taken + 1) }
     {
@@ -122,7 +123,7 @@ impl<P: Picker + Drop, G: Stage> Taker<G> for Writer<P> {
         self.pass_on(stage)
     }
 
-    ghost takes_none = { λ s w. puts_none (kind_of G.state G.ended) s w };
+    ghost takes_none = { λ s w. writes_none (kind_of G.state G.ended) P.picks s w };
 
     ghost takes_more = { λ a b c u v w. writes_more (kind_of G.state G.ended) P.picks a b c u v w };
 

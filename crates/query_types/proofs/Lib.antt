@@ -3,10 +3,10 @@ pub mod Arguments
 mod Existing
 pub mod Forms
 pub mod Lists
-mod Meant
+mod ExpressionsMeant
 mod Placing
 pub mod Parts
-mod Spellings
+pub mod Spellings
 pub mod Steps
 pub mod Using
-mod Whole
+pub mod Whole

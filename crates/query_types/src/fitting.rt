@@ -44,7 +44,7 @@ pub fn sharper(kind: Kind, other: Kind) -> Kind
 }
 
 /// A right side at this place, whose kind has to fit.
-pub(crate) fn if_fits(
+pub fn if_fits(
     table: &TableColumns,
     kind: Kind,
     at: u32,

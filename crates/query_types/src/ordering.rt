@@ -169,7 +169,7 @@ fn order_places(
 }
 
 /// The places of the items that the expressions of ORDER BY equal, each that of the first.
-pub(crate) fn places_asked(
+pub fn places_asked(
     alloc: Global,
     table: &TableColumns,
     moment: &Value,

@@ -1,5 +1,5 @@
 -- What the calls of rows on their way come to.
-use Rattle.std.proofs.Common.{◌≡◌, ◌+◌, ◌≤◌, ℕ, List, [], ◌∷◌, ◌++◌, length, Result, Ok, Err, OnOk, OnErr, IfErr, IsTrue, refl, sym, ◌∙◌, ap, subst, arith, length-append}
+use Rattle.std.proofs.Common.{◌≡◌, ◌+◌, ◌≤◌, ℕ, List, [], ◌∷◌, ◌++◌, length, Result, Ok, Err, OnOk, OnErr, IfErr, IsTrue, true, false, true≢false, refl, sym, ◌∙◌, ap, subst, arith, length-append}
 use Rattle.std.proofs.lemmas.List.{append-nil}
 use Rattle.order_top.specs.Finish.{Row, Finish, finished, keys_at}
 use Rattle.order_top.specs.Ordering.{Ordering, StandsFor, is_past}
@@ -108,6 +108,16 @@ places_taken kept old new is less = subst (λ (k : Kept). new.places ≤ places_
 -- rows that an order has don't go on
 pub ordered_apart : (Q : Type 0) (kept : Kept) (ordering : Ordering) → kept ≡ K.Ordered ordering → GoOn kept → Q
 ordered_apart Q kept ordering is go = absurd (cc)
+
+-- a row that an order lets go
+pub lets_go : (kept : Kept) (old new : Ordering) (Goes : Kept → Type 0) (Is : Type 0) → kept ≡ K.Ordered old → (Goes (K.Ordered old) → Is × (new ≡ old)) → Goes kept → Is × (K.Ordered new ≡ kept)
+lets_go kept old new Goes Is is so goes =
+    let stays = so (subst Goes is goes) in
+    (stays.0, ap K.Ordered stays.1 ∙ sym is)
+
+-- a refusal is no answer
+pub never_err : false ≡ true → ⊥
+never_err is = true≢false (sym is)
 
 -- a call that lets a sink have its rows
 module _ {S : Type 0} (kind : StageKind S) (o : RowOutput) (a b : S) where

@@ -1,6 +1,7 @@
 -- How far the rows of a query have come on their way to its outputs.
-use Rattle.std.specs.Prelude.{◌≡◌, ℕ, List, [], length, IsTrue}
-use Rattle.order_top.specs.Finish.{Row, Finish}
+use Rattle.std.specs.Prelude.{◌≡◌, ℕ, true, List, [], length, IsTrue}
+use Rattle.std.specs.List.{list_any}
+use Rattle.order_top.specs.Finish.{Row, Finish, keys_at, same_row}
 use Rattle.order_top.specs.Ordering.{StandsFor, is_past}
 use Rattle.text_output.specs.Output.{StageKind}
 use Rattle.row_output.specs.Asked.{Asked}
@@ -28,6 +29,16 @@ LetsAllGo (K.Ordered ordering) order = (order.columns ≡ []) × IsTrue (is_past
 -- each later row is dropped
 abbrev pub DropsAll : RowOutput → Type 0
 DropsAll o = LetsAllGo o.kept o.order
+
+-- under DISTINCT an order has this row already
+abbrev pub IsKnown : Kept → Row → Type 0
+IsKnown K.All row = ⊥
+IsKnown (K.Ordered ordering) row = (ordering.finish.distinct ≡ true) × (list_any (same_row row) ordering.kept ≡ true)
+
+-- an order has its n rows under TOP n, and this row goes behind them
+abbrev pub GoesPast : Kept → Row → Type 0
+GoesPast K.All row = ⊥
+GoesPast (K.Ordered ordering) row = is_past ordering.finish (keys_at ordering.finish.columns row) ordering.kept ≡ true
 
 -- rows went on as they came, or an order has them, which asks something
 abbrev pub HasKept : {S : Type 0} → StageKind S → Kept → Finish → Sink → S → List Row → S → Type 0

@@ -1,8 +1,9 @@
 // The rows of a query to its outputs.
-ghost use Rattle.std.specs.Prelude.{◌≡◌, ◌↔◌, ◌≤◌, ◌<◌, ◌+◌, ◌^◌, ◌++◌, ◌∷◌, [], ℕ, List, length, OnOk, OnErr, IfOk, IfErr, IsErrOf, IsTrue};
+ghost use Rattle.std.specs.Prelude.{◌≡◌, ◌↔◌, ◌≤◌, ◌<◌, ◌+◌, ◌^◌, ◌++◌, ◌∷◌, [], ℕ, List, length, true, OnOk, OnErr, IfOk, IfErr, IsErrOf, IsOk, IsTrue};
+ghost use Rattle.std.specs.List.{list_any};
 ghost use Rattle.lp_model.specs.Outside.{Rose};
 ghost use Rattle.any_format.specs.Wanted.{IsMoment, wanted_text};
-ghost use Rattle.order_top.specs.Finish.{Row, Finish, finished};
+ghost use Rattle.order_top.specs.Finish.{Row, Finish, finished, keys_at, same_row};
 ghost use Rattle.text_output.specs.Output.{kind_of};
 ghost use Rattle.row_output.specs.Asked.{columns_for, left_of};
 ghost use Rattle.row_output.specs.FileRows.{OnRefused};
@@ -12,7 +13,7 @@ ghost use Rattle.row_output.specs.Sinks.{HasSinkRows, HoldsLittle, HoldsNoPiece,
 ghost use Rattle.row_output.specs.declared.fault.Refused.{Refused as Why};
 ghost use Rattle.row_output.specs.Few.{GoOn, places_in};
 ghost use Rattle.row_output.specs.Orders.{IsPlain};
-ghost use Rattle.row_output.specs.Kept.{DropsAll, HasKept, HasRows, IsNew, IsNewKept, KeepsNone, asked_of};
+ghost use Rattle.row_output.specs.Kept.{DropsAll, GoesPast, HasKept, HasRows, IsKnown, IsNew, IsNewKept, KeepsNone, asked_of};
 
 use crate::kept::{Kept, RowOutput};
 use crate::sink::Sink;
@@ -66,6 +67,9 @@ fn keep(
     ensures places { orderer.new.places ≤ orderer.old.places + 1 }
     ensures stands { OnOk result (orderer.old.finish ≡ order.now → (rows : List Row) → StandsFor orderer.old rows → StandsFor orderer.new (rows ++ row.old ∷ [])) }
     ensures err { OnErr result (orderer.new ≡ orderer.old) }
+    // A row that goes behind the n rows of TOP n fails for no want of memory, nor does one that is there already.
+    ensures past { is_past orderer.old.finish (keys_at orderer.old.finish.columns row.old) orderer.old.kept ≡ true → IsOk result × (orderer.new ≡ orderer.old) }
+    ensures known { orderer.old.finish.distinct ≡ true → list_any (same_row row.old) orderer.old.kept ≡ true → IsOk result × (orderer.new ≡ orderer.old) }
 {
     if lets_all_go(order, orderer) {
         return Ok(());
@@ -110,6 +114,8 @@ fn take<G: Stage>(
     requires { places_in kept.old < 2 ^ 63 }
     ensures places { places_in kept.new ≤ places_in kept.old + 1 }
     ensures err { OnErr result (kept.new ≡ kept.old) }
+    ensures past { GoesPast kept.old row.old → IsOk result × (kept.new ≡ kept.old) }
+    ensures known { IsKnown kept.old row.old → IsOk result × (kept.new ≡ kept.old) }
     ensures streams { GoOn kept.old → GoOn kept.new }
     ensures little { OnOk result (GoOn kept.old → (start : G) (rows : List Row) → HasKept (kind_of G.state G.ended) kept.old order.now sink.old start rows stage.old → HoldsLittle sink.new) }
     ensures purpose { purpose_of sink.new ≡ purpose_of sink.old }
@@ -199,7 +205,7 @@ impl RowOutput {
         ensures early { IfErr result (OnRefused (λ fault. (start : G) (rows : List Row) → HasRows (kind_of G.state G.ended) self.old start rows stage.old → IsRefusedEarly (asked_of self.old) fault)) }
         ensures opened { OnOk result ((start : G) (rows : List Row) → HasRows (kind_of G.state G.ended) self.old start rows stage.old → IsOpened self.new.sink) }
         // An output of a name without stars is refused here, if at all.
-        ensures named { OnOk result ((start : G) → HasRows (kind_of G.state G.ended) self.old start [] stage.old → (why : Why) → IsRefused (asked_of self.old) [] why → ⊥) }
+        ensures named { OnOk result ((start : G) (rows : List Row) → HasRows (kind_of G.state G.ended) self.old start rows stage.old → (why : Why) → IsRefused (asked_of self.old) [] why → ⊥) }
         ensures count { self.new.put ≡ self.old.put }
         ensures streams { KeepsNone self.old → KeepsNone self.new }
         ensures goes { G.goes stage.old stage.new }
@@ -219,6 +225,9 @@ impl RowOutput {
         ensures early { IfErr result (OnRefused (λ fault. (start : G) (rows : List Row) → HasRows (kind_of G.state G.ended) self.old start rows stage.old → IsRefusedEarly (asked_of self.old) fault)) }
         ensures count { OnOk result (self.new.put ≡ self.old.put + 1) }
         ensures uncounted { OnErr result (self.new.put ≡ self.old.put) }
+        // A row that an order lets go fails for no want of memory: it is looked at before it is copied.
+        ensures past { GoesPast self.old.kept row.old → IsOk result × (self.new.kept ≡ self.old.kept) }
+        ensures known { IsKnown self.old.kept row.old → IsOk result × (self.new.kept ≡ self.old.kept) }
         ensures streams { KeepsNone self.old → KeepsNone self.new }
         ensures little { OnOk result (KeepsNone self.old → (start : G) (rows : List Row) → HasRows (kind_of G.state G.ended) self.old start rows stage.old → HoldsLittle self.new.sink) }
         ensures goes { G.goes stage.old stage.new }

@@ -2,4 +2,4 @@ mod Moves
 mod Handed
 mod Puts
 mod Taken
-mod Ends
+pub mod Ends

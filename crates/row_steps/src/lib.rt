@@ -2,8 +2,7 @@
 //!
 //! To the crate above: [`GroupRows`] is the taker that adds the rows of a picker, each cut into keys and arguments, to the
 //! groups of a query, and writes nothing. [`finish_groups`] puts exactly the rows that the group's plan makes of these groups,
-//! HAVING and SELECT, and ends the outputs, and [`group_spans`] does both over spans of logs. `specs::Grouped` says what the
-//! output rows are, over whole lists, and `Holds` and `Stops` of row_output what stands in the outputs.
+//! HAVING and SELECT, and ends the outputs. `specs::Grouped` says what the output rows are, over whole lists, and `Holds` and `Stops` of row_output what stands in the outputs.
 #![tactic(auto)]
 
 mod cutting;
@@ -11,9 +10,7 @@ mod finishing;
 mod gathering;
 mod group_row;
 mod handing;
-mod spans;
 mod taking;
 
 pub use finishing::finish_groups;
 pub use gathering::{GroupRows, plan_groups};
-pub use spans::group_spans;

@@ -2,6 +2,7 @@ mod Telling
 mod Fitting
 pub use Rattle.program_meaning.proofs.FormatLemmas
 pub use Rattle.program_meaning.proofs.AtOnce
+pub use Rattle.program_meaning.proofs.InTurns
 pub use Rattle.program_meaning.proofs.Ends
 pub use Rattle.program_meaning.proofs.Filled
 pub use Rattle.program_meaning.proofs.Keeping

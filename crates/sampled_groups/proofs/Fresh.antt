@@ -1,5 +1,5 @@
 -- What holds of a run before its first record.
-use Rattle.std.proofs.Common.{◌≡◌, ℕ, ℤ, List, [], length, map, None, ap, ap₂, sym, ◌∙◌, subst, refl}
+use Rattle.std.proofs.Common.{◌≡◌, ℕ, ℤ, List, length, map, ap, ap₂, sym, ◌∙◌, subst, refl}
 use Rattle.grammar.specs.Trees.{Query}
 use Rattle.lp_time.specs.declared.piece.Piece.{Piece}
 use Rattle.any_format.specs.Wanted.{wanted_text}
@@ -7,8 +7,9 @@ use Rattle.any_format.specs.declared.wanted.Wanted.{Wanted}
 use Rattle.text_output.specs.Output.{StageKind}
 use Rattle.row_output.specs.Sinks.{files_for}
 use Rattle.row_output.specs.declared.into.Into.{Into}
+use Rattle.column_kinds.proofs.UpTo.{none_enough}
 use Rattle.column_kinds.specs.Kept.{found_in}
-use Rattle.column_kinds.specs.Past.{Past}
+pub use Rattle.column_kinds.specs.Past.{nothing}
 use Rattle.column_kinds.specs.Sampling.{Holds, PhaseHolds}
 use Rattle.column_kinds.specs.Phases.{taken_in}
 use Rattle.column_kinds.specs.Sampling.{Rules as SampleRules}
@@ -21,9 +22,6 @@ use Rattle.sampled_groups.specs.Fresh.{IsFresh, IsFreshIn}
 use Rattle.sampled_run.specs.Finishes.{asked_by}
 use Rattle.sampled_groups.specs.Kinds.{Fits, group_kind, run_rules}
 use Rattle.sampled_groups.specs.Rules.{GroupRules, group_rules_of}
-
-abbrev pub nothing : Past
-nothing = record { first = None; founds = [] }
 
 pub taken_none : {S T : Type 0} (count : T → ℕ) (pattern : List Piece) (moment : ℤ) (query : Query) (wanted : Wanted) (into : Into) (phase : Phase (GroupMaker S) T) → IsFreshIn pattern moment query wanted into phase → taken_in count phase ≡ 0
 taken_none count pattern moment q wanted into (P.Gathering gathering) none = ap length none.rows
@@ -53,7 +51,7 @@ fresh_in {S = S} kind limit pattern moment q wanted into sampled (P.Gathering ga
       same = ap₂ (λ moment query. asked_rules limit pattern moment query gathering.maker.wanted gathering.maker.into) asked.moment_is asked.query_is ∙ ap₂ (λ w i. asked_rules limit pattern moment q w i) asked.wanted_is asked.into_is;
       holds = record {
         asks = record { limit_is = limit_is; pattern_is = pattern_is };
-        phase = subst Of (sym phase_is) (record { maker = refl; first = none.first; rows = ap (map found_in) none.rows; nothing = refl });
+        phase = subst Of (sym phase_is) (record { kept = record { maker = refl; first = none.first; rows = ap (map found_in) none.rows; nothing = refl }; waiting = none_enough limit });
       };
     }
 fresh_in kind limit pattern moment q wanted into sampled (P.Taking taker) now limit_is pattern_is phase_is none = absurd none

@@ -1,5 +1,5 @@
 -- The rows of a taker of groups behind a sample.
-use Rattle.std.proofs.Common.{◌≡◌, ℕ, Bool, true, false, List, [], ◌∷◌, ◌++◌, length, map, Option, Some, None, IfSome, option_map, ap, ap₂, ◌∙◌, refl, sym, subst, inl, inr}
+use Rattle.std.proofs.Common.{◌≡◌, ◌<◌, ℕ, true, List, [], ◌∷◌, ◌++◌, length, Option, Some, None, IfSome, Ok, option_map, ap, ap₂, ◌∙◌, refl, sym, subst, inl, inr, arith}
 use Rattle.lp_time.specs.declared.piece.Piece.{Piece}
 use Rattle.lp_values.specs.declared.value.Value.{Value}
 use Rattle.log_reading.specs.Found.{Found, rows_met}
@@ -11,6 +11,7 @@ use Rattle.row_output.specs.Kept.{HasRows, asked_of}
 use Rattle.row_output.specs.Rows.{Holds, Stops}
 use Rattle.row_output.specs.Rows.{IsRefused as IsRefusedOutput}
 use Rattle.row_output.proofs.Stopping.{new_has}
+use Rattle.row_output.proofs.Unrefused.{opened_unrefused}
 use Rattle.row_output.specs.declared.fault.OutputFault.{OutputFault}
 use Rattle.row_output.specs.declared.fault.OutputFault.TheVariants as O
 use Rattle.row_output.specs.declared.fault.Refused.{Refused}
@@ -30,22 +31,19 @@ use Rattle.column_kinds.specs.declared.judging.Judged.{Judged}
 use Rattle.column_kinds.specs.declared.maker.Stop.{Stop}
 use Rattle.column_kinds.specs.declared.maker.Stop.TheVariants as Why
 use Rattle.column_kinds.specs.Past.{Past}
-use Rattle.column_kinds.specs.Sampling.{Begun, StopsAs, rows_of, told_by}
+use Rattle.column_kinds.specs.Sampling.{Begun, StopsAs, TakesOn, rows_of, told_by}
 use Rattle.column_kinds.specs.Sampling.{Rules as SampleRules, IsFront as SampleFront, IsRefused as SampleRefused, IsStop as SampleStop}
 use Rattle.sampled_table.specs.Picks.{sampled_picks}
 use Rattle.sampled_run.specs.Ran.{ended_by, refused_in}
+use Rattle.sampled_run.proofs.Puts.{false_or_true, rows_again}
 use Rattle.sampled_groups.specs.declared.group_maker.GroupMaker.{GroupMaker}
 use Rattle.sampled_groups.specs.declared.group_taker.GroupTaker.{GroupTaker}
 use Rattle.sampled_groups.specs.Kinds.{Fits, group_kind, run_rules}
-use Rattle.sampled_groups.specs.Made.{IsMade, asked_in}
+use Rattle.sampled_groups.specs.InTurn.{ArePlaced}
+use Rattle.sampled_groups.specs.Made.{IsMade, asked_in, plan_over}
 use Rattle.sampled_groups.specs.Ran.{IsFront, IsRefused, IsStoppedBy, IsUnplaced, IsUnplacedFirst, IsWithin, IsWritten, fault_of}
-use Rattle.sampled_groups.specs.Rules.{rows_with}
-use Rattle.sampled_groups.specs.Taking.{HasNone}
-
--- what the rows of records that are met are
-rows_again : (founds : List Found) → rows_met (rows_of founds) ≡ founds
-rows_again [] = refl
-rows_again (found ∷ founds) = ap (λ t. found ∷ t) (rows_again founds)
+use Rattle.sampled_groups.specs.Rules.{plan_at, rows_with}
+use Rattle.sampled_groups.specs.Taking.{HasNone, OnAny}
 
 -- the rows that plans over a record's row and over a group's row make of records
 abbrev rows_by : List Piece → Judged → Plan → Plan → GroupShape → ℕ → List Found → Rows
@@ -58,9 +56,6 @@ rows_same shape p pattern t told r rows g groups w width f founds pattern_is tol
     ap₂ (λ (x : List Piece) (y : Judged). rows_by x y r g shape w f) pattern_is told_is
     ∙ (ap₂ (λ (x y : Plan). rows_by pattern told x y shape w f) rows_is groups_is
     ∙ ap₂ (λ (x : ℕ) (y : List Found). rows_by pattern told rows groups shape x y) width_is founds_is)
-
-false_or_true : (b : Bool) → b ≡ false → b ≡ true → ⊥
-false_or_true b down up = cc
 
 module _ {S : Type 0} (kind : StageKind S) where
   -- a taker that is made has put no row, and opened no output
@@ -134,14 +129,36 @@ module _ {S : Type 0} (kind : StageKind S) where
         refused = subst (λ (asked : Asked). IsRefusedOutput asked rows why) is.ready.asked_is told;
       }
 
+  -- the query's plan, where what the records tell stays
+  planned_later : (rules : SampleRules (GroupMaker S)) (past all : Past) (made : GroupTaker) → told_by rules all ≡ told_by rules past → (is : IsMade rules.maker (told_by rules past) made) → plan_at (run_rules rules) all ≡ Ok (grouped_in is.plan)
+  planned_later rules past all made stays is = subst (λ (told : Judged). plan_over rules.maker told ≡ Ok (grouped_in is.plan)) (sym stays) is.planned
+
   -- it was refused before any row
-  pub first_is : (rules : SampleRules (GroupMaker S)) (begin : S) (past : Past) (last : GroupTaker) (why : Refused) (v : S) → last.refused ≡ Some why → StopsAs (group_kind kind) rules begin past last v → IsUnplacedFirst (run_rules rules) past why
-  first_is rules begin past last why v refused stops =
+  pub unplaced_first : (rules : SampleRules (GroupMaker S)) (begin : S) (past all : Past) (last : GroupTaker) (why : Refused) (v : S) → told_by rules all ≡ told_by rules past → last.refused ≡ Some why → StopsAs (group_kind kind) rules begin past last v
+      → IsUnplacedFirst (run_rules rules) all why
+  unplaced_first rules begin past all last why v stays refused stops =
       let made = stops.made in
       let is = stops.is_made in
       let First : Option Refused → Type 0 = λ o. IfSome o (IsRefusedOutput (asked_of made.output) []) in
       let told : IsRefusedOutput (asked_of made.output) [] why = subst First refused (stops.stopped.refused is.ready.unrefused begin [] (made_has rules.maker (told_by rules past) made begin is)) in
-      record { plan = grouped_in is.plan; planned = is.planned; refused = subst (λ (asked : Asked). IsRefusedOutput asked [] why) is.ready.asked_is told }
+      record { plan = grouped_in is.plan; planned = planned_later rules past all made stays is; refused = subst (λ (asked : Asked). IsRefusedOutput asked [] why) is.ready.asked_is told }
+
+  -- behind a record the output of a name without stars is opened
+  opened_now : (founds : List Found) (Opened : Type 0) → 0 < length founds → OnAny (rows_met (rows_of founds)) Opened → Opened
+  opened_now [] Opened some is = absurd (omega (arith, some))
+  opened_now (found ∷ founds) Opened some is = is
+
+  -- so it isn't refused
+  pub placed_is : (rules : SampleRules (GroupMaker S)) (begin : S) (past all : Past) (taker : GroupTaker) (now : S) → told_by rules all ≡ told_by rules past → TakesOn (group_kind kind) rules begin past taker now → ArePlaced (run_rules rules) all
+  placed_is rules begin past all taker now stays on =
+      let made = on.begun.made in
+      let is = on.begun.is_made in
+      let took = on.begun.taken in
+      let none = took.none begin (made_has rules.maker (told_by rules past) made begin is) in
+      let opened = none.opened (opened_now past.founds (taker.opened ≡ true) on.told.some took.opened) in
+      let Free : Asked → Type 0 = λ asked. (why : Refused) → IsRefusedOutput asked [] why → ⊥ in
+      let here : Free (asked_of taker.output) = λ why refused. opened_unrefused kind taker.output begin [] now why none.has opened refused in
+      record { plan = grouped_in is.plan; planned = planned_later rules past all made stays is; placed = subst Free (took.asked ∙ is.ready.asked_is) here }
 
   -- the taker stopped: for what it refused, or for want of memory
   pub taker_stopped : (rules : SampleRules (GroupMaker S)) (begin : S) (past : Past) (last : GroupTaker) (refused : Option Refused) (v : S) → last.refused ≡ refused → StopsAs (group_kind kind) rules begin past last v

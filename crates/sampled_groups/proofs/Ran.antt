@@ -1,6 +1,6 @@
 -- A whole run, from the first log to the end of the outputs.
-use Rattle.std.proofs.Common.{◌≡◌, ◌⊎◌, ℕ, Bool, IsErrOf, List, [], ◌∷◌, ◌++◌, length, Option, Some, None, Err, ap, sym, ◌∙◌, refl, subst, arith, inl, append_assoc}
-use Rattle.std.proofs.lemmas.List.{append-nil}
+use Rattle.std.specs.Prelude.{⊤}
+use Rattle.std.proofs.Common.{◌≡◌, ◌⊎◌, ℕ, Bool, List, [], length, Option, Some, None, ap, ◌∙◌, refl, subst, arith, inl, inr}
 use Rattle.lp_model.specs.Outside.{Folder, Told}
 use Rattle.lp_model.specs.Reading.{Format}
 use Rattle.log_reading.specs.declared.page.Page.{Page}
@@ -8,42 +8,39 @@ use Rattle.log_reading.specs.declared.span.RunFault.{RunFault}
 use Rattle.log_reading.specs.declared.span.RunFault.TheVariants as R
 use Rattle.log_reading.specs.declared.span.Span.{Span}
 use Rattle.log_reading.specs.Page.{IsWithin}
-use Rattle.log_reading.specs.Spans.{AreKept, BadLine, OnBadLine, span_found, spans_bad, spans_found}
+use Rattle.log_reading.specs.Spans.{AreKept, BadLine, OnBadLine, bad_line, spans_bad}
+use Rattle.log_reading.specs.UpTo.{StopsUpTo, TakesUpTo}
 use Rattle.text_output.specs.Output.{StageKind}
-use Rattle.row_output.specs.declared.fault.OutputFault.{OutputFault}
-use Rattle.row_output.specs.declared.fault.OutputFault.TheVariants as O
 use Rattle.row_output.specs.declared.fault.Refused.{Refused}
 use Rattle.query_run.specs.declared.executing.Written.{Written}
 use Rattle.column_kinds.proofs.SetsOnce.{SetsOnce}
-use Rattle.column_kinds.proofs.Behind.{behind_all}
-use Rattle.column_kinds.specs.Laws.{later_same}
+use Rattle.column_kinds.proofs.Behind.{behind_all, behind_founds}
+use Rattle.column_kinds.proofs.InTurn.{StopsBehind, TakesBefore, bad_in_turn, bad_within, behind_lines, behind_sample, stops_behind, takes_before}
+use Rattle.column_kinds.proofs.UpTo.{past_up_to, up_stays}
+use Rattle.column_kinds.specs.Laws.{Samples, later_same}
+use Rattle.column_kinds.specs.Laws.{Halts as SampleHalts}
 use Rattle.column_kinds.specs.declared.maker.Stop.{Stop}
 use Rattle.column_kinds.specs.declared.maker.Stop.TheVariants as Why
 use Rattle.column_kinds.specs.Past.{Past}
 use Rattle.column_kinds.specs.Sampling.{Holds, StopsAs}
 use Rattle.column_kinds.specs.Sampling.{Rules as SampleRules, PhaseStopped as SamplePhase}
-use Rattle.column_kinds.specs.Spans.{past_behind, past_behind_span, past_of}
+use Rattle.column_kinds.specs.Spans.{past_behind, past_of}
 use Rattle.column_kinds.specs.SpansTold.{SamplesSpans, HaltsIn, spans_told}
 use Rattle.column_kinds.specs.declared.phase.Phase.{Phase}
 use Rattle.column_kinds.specs.declared.phase.Phase.TheVariants as P
 use Rattle.column_kinds.specs.declared.phase.Sampled.{Sampled}
 use Rattle.sampled_run.specs.declared.fault.SampleFault.{SampleFault}
 use Rattle.sampled_run.specs.declared.fault.SampleFault.TheVariants as F
-use Rattle.sampled_run.specs.Ran.{IsOfEnd, OnBadOne, OnRefusedOne, ended_by, read_fault, refused_in}
-use Rattle.sampled_run.proofs.Early.{refused_each, refused_none, refused_so, refused_told, told_else, told_first}
+use Rattle.sampled_run.specs.Ran.{IsOfEnd, OnBadOne, read_fault, refused_in}
+use Rattle.sampled_run.proofs.Faults.{bad_read, read_logs, read_output, refused_end}
 use Rattle.sampled_groups.specs.declared.group_maker.GroupMaker.{GroupMaker}
 use Rattle.sampled_groups.specs.declared.group_taker.GroupTaker.{GroupTaker}
 use Rattle.sampled_groups.specs.Kinds.{Fits, group_kind, run_rules}
+use Rattle.sampled_groups.specs.InTurn.{ArePlaced, ComesInTurn}
 use Rattle.sampled_groups.specs.Ran.{IsFront, IsSampled, IsStoppedBy, IsUnplacedFirst, IsWritten, fault_in, fault_of}
 use Rattle.sampled_groups.specs.Rules.{GroupRules}
 use Rattle.sampled_groups.proofs.Fresh.{Begins, nothing}
-use Rattle.sampled_groups.proofs.Puts.{first_is, front_is, refused_is, taker_stopped, taking_within}
-
--- the records behind spans are those of the spans
-behind_founds : (format : Format) (waits : Bool) (folder : Folder) (past : Past) (spans : List Span) → (past_behind format waits folder past spans).founds ≡ past.founds ++ spans_found format waits folder spans
-behind_founds format waits folder past [] = sym (append-nil past.founds)
-behind_founds format waits folder past (span ∷ spans) =
-    behind_founds format waits folder (past_behind_span format waits folder past span) spans ∙ append_assoc past.founds (span_found format waits folder span) (spans_found format waits folder spans)
+use Rattle.sampled_groups.proofs.Puts.{front_is, placed_is, refused_is, taker_stopped, taking_within, unplaced_first}
 
 abbrev pub SampledTaker : Type 0 → Type 0
 SampledTaker S = Sampled (GroupMaker S) GroupTaker
@@ -114,69 +111,101 @@ stopped_ending kind asked format waits (Some folder) spans first last u mid afte
     let By : GroupRules → Type 0 = λ rules. IsStoppedBy kind rules u past fault after in
     subst By begins.same (ends begins.rules u past begins.fits ((taken kept).along begins.rules u nothing begins.holds))
 
--- ---- when an output was refused
+-- ---- a fault in its turn
 
-early_kept : {S : Type 0} (kind : StageKind S) (rules : SampleRules (GroupMaker S)) (begin : S) (past : Past) (taker : GroupTaker) (refused : Option Refused) (now : S) → taker.refused ≡ refused → StopsAs (group_kind kind) rules begin past taker now
-    → OnRefusedOne (refused_in refused) (IsUnplacedFirst (run_rules rules) past)
-early_kept kind rules begin past taker None now is stops = tt
-early_kept kind rules begin past taker (Some why) now is stops = first_is kind rules begin past taker why now is stops
+module _ {S : Type 0} (kind : StageKind S) (rules : SampleRules (GroupMaker S)) (begin now : S) (most_bad : Option ℕ) (format : Format) (waits : Bool) (folder : Folder) (spans : List Span) where
+  -- the taker stopped: for the name without stars, or for want of memory
+  turn_refused : (taker : GroupTaker) (refused : Option Refused) → taker.refused ≡ refused → StopsBehind (group_kind kind) rules begin most_bad format waits folder spans (P.Taking taker) now
+      → ComesInTurn (run_rules rules) begin (past_behind format waits folder nothing spans) most_bad format waits folder spans (refused_in refused) now
+  turn_refused taker None is stops = tt
+  turn_refused taker (Some why) is stops =
+      let all = past_behind format waits folder nothing spans in
+      behind_sample (group_kind kind) rules begin now most_bad format waits folder spans (P.Taking taker) (λ up. IsUnplacedFirst (run_rules rules) all why ⊎ (up.rest ≡ [])) stops stops.judged
+      (inl (unplaced_first kind rules begin (past_up_to format waits folder spans nothing stops.up) all taker why now (up_stays format waits folder rules spans nothing stops.up stops.judged) is stops.stopped))
 
-early_taking : {S : Type 0} (kind : StageKind S) (rules : SampleRules (GroupMaker S)) (begin : S) (past : Past) (taker : GroupTaker) (fault : RunFault) (now : S) → StopsAs (group_kind kind) rules begin past taker now
-    → OnRefusedOne (read_fault fault taker.refused) (IsUnplacedFirst (run_rules rules) past)
-early_taking kind rules begin past taker R.Memory now stops = tt
-early_taking kind rules begin past taker R.Logs now stops = tt
-early_taking kind rules begin past taker R.Output now stops = tt
-early_taking kind rules begin past taker R.Stopped now stops = early_kept kind rules begin past taker taker.refused now refl stops
-early_taking kind rules begin past taker (R.Bad log row) now stops = tt
+  turn_bad : (phase : Phase (GroupMaker S) GroupTaker) (log : List ℕ) (row : ℕ) → TakesBefore (group_kind kind) rules begin most_bad format waits folder spans (bad_line log row) phase now
+      → ComesInTurn (run_rules rules) begin (past_behind format waits folder nothing spans) most_bad format waits folder spans (F.Bad log row) now
+  turn_bad phase log row takes =
+      let all = past_behind format waits folder nothing spans in
+      bad_in_turn (group_kind kind) rules begin now most_bad format waits folder spans (bad_line log row) phase (λ founds. ArePlaced (run_rules rules) all) takes
+      (λ taker on. placed_is kind rules begin (past_up_to format waits folder spans nothing takes.up) all taker now (up_stays format waits folder rules spans nothing takes.up on.told) on)
 
-phase_early : {S : Type 0} (kind : StageKind S) (rules : SampleRules (GroupMaker S)) (begin : S) (past : Past) (phase : Phase (GroupMaker S) GroupTaker) (fault : RunFault) (now : S) → SamplePhase (group_kind kind) rules begin past phase now
-    → OnRefusedOne (fault_in phase fault) (IsUnplacedFirst (run_rules rules) past)
-phase_early kind rules begin past (P.Gathering gathering) fault now stopped = refused_none fault (IsUnplacedFirst (run_rules rules) past)
-phase_early kind rules begin past (P.Taking taker) fault now stopped = early_taking kind rules begin past taker fault now stopped
-phase_early kind rules begin past (P.Refused plan) fault now stopped = tt
-phase_early kind rules begin past P.Lost fault now stopped = refused_none fault (IsUnplacedFirst (run_rules rules) past)
+  turn_none : (phase : Phase (GroupMaker S) GroupTaker) (fault : RunFault) → OnBadLine fault (λ line. TakesBefore (group_kind kind) rules begin most_bad format waits folder spans line phase now)
+      → ComesInTurn (run_rules rules) begin (past_behind format waits folder nothing spans) most_bad format waits folder spans (read_fault fault None) now
+  turn_none phase R.Memory bad = tt
+  turn_none phase R.Logs bad = tt
+  turn_none phase R.Output bad = tt
+  turn_none phase R.Stopped bad = tt
+  turn_none phase (R.Bad log row) bad = turn_bad phase log row bad
 
-halts_early : {S : Type 0} (kind : StageKind S) (asked : GroupRules) (format : Format) (waits : Bool) (told : Option Folder) (spans : List Span) (first last : Page (SampledTaker S)) (u now : S) (fault : RunFault)
-    → Begins kind asked first.taker u
-    → Told told (λ folder. AreKept format waits spans folder → HaltsIn (group_kind kind) (spans_told format waits folder spans) first.taker last.taker u now)
-    → Told told (λ folder. AreKept format waits spans folder → OnRefusedOne (fault_in last.taker.phase fault) (IsUnplacedFirst asked (past_behind format waits folder nothing spans)))
-halts_early kind asked format waits None spans first last u now fault begins halted = tt
-halts_early kind asked format waits (Some folder) spans first last u now fault begins halted = λ kept.
-    let past = past_behind format waits folder nothing spans in
-    let By : GroupRules → Type 0 = λ rules. OnRefusedOne (fault_in last.taker.phase fault) (IsUnplacedFirst rules past) in
-    subst By begins.same (phase_early kind begins.rules u past last.taker.phase fault now ((halted kept).within begins.rules u nothing begins.holds past (later_same past)))
+  turn_taking : (taker : GroupTaker) (fault : RunFault) → StopsBehind (group_kind kind) rules begin most_bad format waits folder spans (P.Taking taker) now
+      → OnBadLine fault (λ line. TakesBefore (group_kind kind) rules begin most_bad format waits folder spans line (P.Taking taker) now)
+      → ComesInTurn (run_rules rules) begin (past_behind format waits folder nothing spans) most_bad format waits folder spans (read_fault fault taker.refused) now
+  turn_taking taker R.Memory stops bad = tt
+  turn_taking taker R.Logs stops bad = tt
+  turn_taking taker R.Output stops bad = tt
+  turn_taking taker R.Stopped stops bad = turn_refused taker taker.refused refl stops
+  turn_taking taker (R.Bad log row) stops bad = turn_bad (P.Taking taker) log row bad
 
--- while records were taken: before any row
-pub early_reading : {S : Type 0} (kind : StageKind S) (asked : GroupRules) (format : Format) (waits : Bool) (told : Option Folder) (spans : List Span) (first last : Page (SampledTaker S)) (u now : S) (fault : RunFault) (Else : Folder → Type 0)
-    → Begins kind asked first.taker u
-    → Told told (λ folder. AreKept format waits spans folder → HaltsIn (group_kind kind) (spans_told format waits folder spans) first.taker last.taker u now)
-    → OnRefusedOne (fault_in last.taker.phase fault) (λ why. Told told (λ folder. AreKept format waits spans folder → IsUnplacedFirst asked (past_behind format waits folder nothing spans) why ⊎ Else folder))
-early_reading kind asked format waits told spans first last u now fault Else begins halted =
-    let Kept : Folder → Type 0 = λ folder. AreKept format waits spans folder in
-    let Early : Folder → Refused → Type 0 = λ folder why. IsUnplacedFirst asked (past_behind format waits folder nothing spans) why in
-    refused_so (fault_in last.taker.phase fault) (λ why. Told told (λ folder. Kept folder → Early folder why)) (λ why. Told told (λ folder. Kept folder → Early folder why ⊎ Else folder))
-    (λ why is. told_first told Kept (λ folder. Early folder why) Else is)
-    (refused_told (fault_in last.taker.phase fault) told Kept Early (halts_early kind asked format waits told spans first last u now fault begins halted))
+  turn_phase : (phase : Phase (GroupMaker S) GroupTaker) (fault : RunFault) → StopsBehind (group_kind kind) rules begin most_bad format waits folder spans phase now
+      → OnBadLine fault (λ line. TakesBefore (group_kind kind) rules begin most_bad format waits folder spans line phase now)
+      → ComesInTurn (run_rules rules) begin (past_behind format waits folder nothing spans) most_bad format waits folder spans (fault_in phase fault) now
+  turn_phase (P.Gathering gathering) fault stops bad = turn_none (P.Gathering gathering) fault bad
+  turn_phase (P.Taking taker) fault stops bad = turn_taking taker fault stops bad
+  turn_phase (P.Refused plan) fault stops bad = behind_sample (group_kind kind) rules begin now most_bad format waits folder spans (P.Refused plan) (λ up. ⊤) stops stops.judged tt
+  turn_phase P.Lost fault stops bad = turn_none P.Lost fault bad
 
-bad_within : {S : Type 0} (kind : StageKind S) (format : Format) (waits : Bool) (told : Option Folder) (spans : List Span) (first last : Page (SampledTaker S)) (u mid : S) (most : Option ℕ) → first.bad ≡ 0 → IsWithin most last.bad
+turn_told : {S : Type 0} (kind : StageKind S) (asked : GroupRules) (format : Format) (waits : Bool) (told : Option Folder) (spans : List Span) (first : SampledTaker S) (phase : Phase (GroupMaker S) GroupTaker) (u now : S) (fault : RunFault) (most_bad : Option ℕ)
+    → (begins : Begins kind asked first u)
+    → Told told (λ folder. AreKept format waits spans folder → StopsBehind (group_kind kind) begins.rules u most_bad format waits folder spans phase now)
+    → Told told (λ folder. AreKept format waits spans folder → OnBadLine fault (λ line. TakesBefore (group_kind kind) begins.rules u most_bad format waits folder spans line phase now))
+    → Told told (λ folder. AreKept format waits spans folder → ComesInTurn asked u (past_behind format waits folder nothing spans) most_bad format waits folder spans (fault_in phase fault) now)
+turn_told kind asked format waits None spans first phase u now fault most_bad begins stops bad = tt
+turn_told kind asked format waits (Some folder) spans first phase u now fault most_bad begins stops bad = λ kept.
+    let By : GroupRules → Type 0 = λ rules. ComesInTurn rules u (past_behind format waits folder nothing spans) most_bad format waits folder spans (fault_in phase fault) now in
+    subst By begins.same (turn_phase kind begins.rules u now most_bad format waits folder spans phase fault (stops kept) (bad kept))
+
+-- while records were taken
+pub turn_reading : {S : Type 0} (kind : StageKind S) (asked : GroupRules) (format : Format) (waits : Bool) (told : Option Folder) (spans : List Span) (first last : Page (SampledTaker S)) (u now : S) (fault : RunFault) (most_bad : Option ℕ)
+    → Begins kind asked first.taker u → first.most_bad ≡ most_bad → first.bad ≡ 0
+    → Told told (λ folder. AreKept format waits spans folder → StopsUpTo (λ (old : SampledTaker S) (before : S) mets new after. SampleHalts (group_kind kind) old before mets new after) format waits folder spans first last u now)
+    → OnBadLine fault (λ line. Told told (λ folder. AreKept format waits spans folder → TakesUpTo (λ (old : SampledTaker S) (before : S) mets new after. Samples (group_kind kind) old before mets new after) format waits folder spans line first last u now))
+    → Told told (λ folder. AreKept format waits spans folder → ComesInTurn asked u (past_behind format waits folder nothing spans) most_bad format waits folder spans (fault_in last.taker.phase fault) now)
+turn_reading kind asked format waits told spans first last u now fault most_bad begins most bad stops takes =
+    turn_told kind asked format waits told spans first.taker last.taker.phase u now fault most_bad begins
+    (stops_behind (group_kind kind) begins.rules u now most_bad format waits told spans first last most bad begins.holds stops)
+    (takes_before (group_kind kind) begins.rules u now most_bad format waits told spans fault first last most bad begins.holds takes)
+
+-- once all were taken
+turn_all : {S : Type 0} (rules : GroupRules) (start now : S) (most_bad : Option ℕ) (format : Format) (waits : Bool) (folder : Folder) (spans : List Span) (fault : SampleFault)
+    → IsOfEnd fault → IsWithin most_bad (length (spans_bad format waits folder spans))
+    → ComesInTurn rules start (past_behind format waits folder nothing spans) most_bad format waits folder spans fault now
+turn_all rules start now most_bad format waits folder spans (F.Plan plan) end within = behind_lines rules.limit most_bad format waits folder spans (λ up. ⊤) within tt
+turn_all rules start now most_bad format waits folder spans (F.Refused why) end within =
+    behind_lines rules.limit most_bad format waits folder spans (λ up. IsUnplacedFirst rules (past_behind format waits folder nothing spans) why ⊎ (up.rest ≡ [])) within (inr refl)
+turn_all rules start now most_bad format waits folder spans (F.Bad log row) end within = absurd end
+turn_all rules start now most_bad format waits folder spans F.Logs end within = tt
+turn_all rules start now most_bad format waits folder spans F.Output end within = tt
+turn_all rules start now most_bad format waits folder spans F.Memory end within = tt
+
+turn_end : {S : Type 0} (asked : GroupRules) (format : Format) (waits : Bool) (told : Option Folder) (spans : List Span) (u after : S) (most_bad : Option ℕ) (fault : SampleFault) → IsOfEnd fault
+    → Told told (λ folder. AreKept format waits spans folder → IsWithin most_bad (length (spans_bad format waits folder spans)))
+    → Told told (λ folder. AreKept format waits spans folder → ComesInTurn asked u (past_behind format waits folder nothing spans) most_bad format waits folder spans fault after)
+turn_end asked format waits None spans u after most_bad fault end within = tt
+turn_end asked format waits (Some folder) spans u after most_bad fault end within = λ kept. turn_all asked u after most_bad format waits folder spans fault end (within kept)
+
+pub turn_ending : {S : Type 0} (kind : StageKind S) (asked : GroupRules) (format : Format) (waits : Bool) (told : Option Folder) (spans : List Span) (first last : Page (SampledTaker S)) (u mid after : S) (most_bad : Option ℕ) (fault : SampleFault)
+    → first.bad ≡ 0 → IsWithin most_bad last.bad → IsOfEnd fault
     → Told told (λ folder. AreKept format waits spans folder → SamplesSpans (group_kind kind) format waits folder spans first last u mid)
-    → Told told (λ folder. AreKept format waits spans folder → IsWithin most (length (spans_bad format waits folder spans)))
-bad_within kind format waits None spans first last u mid most none within taken = tt
-bad_within kind format waits (Some folder) spans first last u mid most none within taken = λ kept.
-    let bad_now = (taken kept).bad in
-    let many : last.bad ≡ length (spans_bad format waits folder spans) = omega (arith, none, bad_now) in
-    subst (IsWithin most) many within
+    → Told told (λ folder. AreKept format waits spans folder → ComesInTurn asked u (past_behind format waits folder nothing spans) most_bad format waits folder spans fault after)
+turn_ending kind asked format waits told spans first last u mid after most_bad fault none within end taken =
+    turn_end asked format waits told spans u after most_bad fault end (bad_within (group_kind kind) format waits told spans first last u mid most_bad none within taken)
 
--- once all were taken: behind all bad lines
-pub early_ending : {S : Type 0} (kind : StageKind S) (asked : GroupRules) (format : Format) (waits : Bool) (told : Option Folder) (spans : List Span) (first last : Page (SampledTaker S)) (u mid : S) (most : Option ℕ) (fault : SampleFault)
-    → first.bad ≡ 0 → IsWithin most last.bad
-    → Told told (λ folder. AreKept format waits spans folder → SamplesSpans (group_kind kind) format waits folder spans first last u mid)
-    → OnRefusedOne fault (λ why. Told told (λ folder. AreKept format waits spans folder → IsUnplacedFirst asked (past_behind format waits folder nothing spans) why ⊎ IsWithin most (length (spans_bad format waits folder spans))))
-early_ending kind asked format waits told spans first last u mid most fault none within taken =
-    let Kept : Folder → Type 0 = λ folder. AreKept format waits spans folder in
-    let Else : Folder → Type 0 = λ folder. IsWithin most (length (spans_bad format waits folder spans)) in
-    refused_each fault (λ why. Told told (λ folder. Kept folder → IsUnplacedFirst asked (past_behind format waits folder nothing spans) why ⊎ Else folder))
-    (λ why. told_else told Kept (λ folder. IsUnplacedFirst asked (past_behind format waits folder nothing spans) why) Else (bad_within kind format waits told spans first last u mid most none within taken))
+-- nothing was read
+pub turn_at_once : {S : Type 0} (rules : GroupRules) (format : Format) (waits : Bool) (told : Option Folder) (spans : List Span) (start : S) (most_bad : Option ℕ)
+    → Told told (λ folder. AreKept format waits spans folder → ComesInTurn rules start (past_behind format waits folder nothing spans) most_bad format waits folder spans F.Memory start)
+turn_at_once rules format waits None spans start most_bad = tt
+turn_at_once rules format waits (Some folder) spans start most_bad = λ kept. tt
 
 -- the fault at the phase that a page has
 pub fault_from : {M : Type 0} (a b : Phase M GroupTaker) (fault : RunFault) (result : SampleFault) → result ≡ fault_in a fault → a ≡ b → result ≡ fault_in b fault
@@ -190,54 +219,17 @@ stopped_at_once kind rules format waits (Some folder) spans start = λ kept. inl
 
 -- ---- faults
 
-bad_refused : (refused : Option Refused) (Q : BadLine → Type 0) → OnBadOne (refused_in refused) Q
-bad_refused None Q = tt
-bad_refused (Some why) Q = tt
-
-bad_read : (fault : RunFault) (refused : Option Refused) (Q : BadLine → Type 0) → OnBadLine fault Q → OnBadOne (read_fault fault refused) Q
-bad_read R.Memory refused Q q = tt
-bad_read R.Logs refused Q q = tt
-bad_read R.Output refused Q q = tt
-bad_read R.Stopped refused Q q = bad_refused refused Q
-bad_read (R.Bad log row) refused Q q = q
-
 pub bad_in : {M : Type 0} (phase : Phase M GroupTaker) (fault : RunFault) (Q : BadLine → Type 0) → OnBadLine fault Q → OnBadOne (fault_in phase fault) Q
 bad_in (P.Gathering gathering) fault Q q = bad_read fault None Q q
 bad_in (P.Taking taker) fault Q q = bad_read fault taker.refused Q q
 bad_in (P.Refused plan) fault Q q = tt
 bad_in P.Lost fault Q q = bad_read fault None Q q
 
--- the fault of an answer
-pub fault_same : {T E : Type 0} (a b : E) → IsErrOf {T = T} {E = E} (Err a) b → a ≡ b
-fault_same a b is = cc
-
-refused_logs : (refused : Option Refused) → refused_in refused ≡ F.Logs → ⊥
-refused_logs None e = cc
-refused_logs (Some why) e = cc
-
-read_logs : (fault : RunFault) (refused : Option Refused) → read_fault fault refused ≡ F.Logs → fault ≡ R.Logs
-read_logs R.Memory refused e = absurd cc
-read_logs R.Logs refused e = refl
-read_logs R.Output refused e = absurd cc
-read_logs R.Stopped refused e = absurd (refused_logs refused e)
-read_logs (R.Bad log row) refused e = absurd cc
-
 pub logs_in : {M : Type 0} (phase : Phase M GroupTaker) (fault : RunFault) → fault_in phase fault ≡ F.Logs → fault ≡ R.Logs
 logs_in (P.Gathering gathering) fault e = read_logs fault None e
 logs_in (P.Taking taker) fault e = read_logs fault taker.refused e
 logs_in (P.Refused plan) fault e = absurd cc
 logs_in P.Lost fault e = read_logs fault None e
-
-refused_output : (refused : Option Refused) → refused_in refused ≡ F.Output → ⊥
-refused_output None e = cc
-refused_output (Some why) e = cc
-
-read_output : (fault : RunFault) (refused : Option Refused) → read_fault fault refused ≡ F.Output → fault ≡ R.Output
-read_output R.Memory refused e = absurd cc
-read_output R.Logs refused e = absurd cc
-read_output R.Output refused e = refl
-read_output R.Stopped refused e = absurd (refused_output refused e)
-read_output (R.Bad log row) refused e = absurd cc
 
 pub output_in : {M : Type 0} (phase : Phase M GroupTaker) (fault : RunFault) → fault_in phase fault ≡ F.Output → fault ≡ R.Output
 output_in (P.Gathering gathering) fault e = read_output fault None e
@@ -247,31 +239,11 @@ output_in P.Lost fault e = read_output fault None e
 
 -- ---- faults at the end
 
-refused_end : (refused : Option Refused) → IsOfEnd (refused_in refused)
-refused_end None = tt
-refused_end (Some why) = tt
-
 pub stop_end : (stop : Stop GroupTaker) → IsOfEnd (fault_of stop)
 stop_end (Why.Refused fault) = tt
 stop_end (Why.Stopped taker) = refused_end taker.refused
 stop_end Why.Failed = tt
 stop_end Why.Memory = tt
-
-pub output_end : (fault : OutputFault) → IsOfEnd (ended_by fault)
-output_end (O.Refused why) = tt
-output_end O.Failed = tt
-output_end O.Memory = tt
-
-pub bad_end : (fault : SampleFault) (Q : BadLine → Type 0) → IsOfEnd fault → OnBadOne fault Q
-bad_end (F.Plan fault) Q end = tt
-bad_end (F.Refused why) Q end = tt
-bad_end (F.Bad log row) Q end = absurd end
-bad_end F.Logs Q end = tt
-bad_end F.Output Q end = tt
-bad_end F.Memory Q end = tt
-
-pub logs_end : (fault : SampleFault) → IsOfEnd fault → fault ≡ F.Logs → ⊥
-logs_end fault end is = subst IsOfEnd is end
 
 -- ---- CSV and TSV
 
@@ -291,10 +263,10 @@ stopped_told kind rules format waits sets (Some folder) spans before after fault
     let Of : Past → Type 0 = λ past. IsStoppedBy kind rules before past fault after in
     subst Of (behind_all format sets waits folder spans kept) (stopped kept)
 
-pub early_told : (rules : GroupRules) (format : Format) (waits : Bool) → SetsOnce format → (told : Option Folder) (spans : List Span) (Else : Folder → Type 0) (why : Refused)
-    → Told told (λ folder. AreKept format waits spans folder → IsUnplacedFirst rules (past_behind format waits folder nothing spans) why ⊎ Else folder)
-    → Told told (λ folder. AreKept format waits spans folder → IsUnplacedFirst rules (past_of format waits folder spans) why ⊎ Else folder)
-early_told rules format waits sets None spans Else why early = tt
-early_told rules format waits sets (Some folder) spans Else why early = λ kept.
-    let Of : Past → Type 0 = λ past. IsUnplacedFirst rules past why ⊎ Else folder in
-    subst Of (behind_all format sets waits folder spans kept) (early kept)
+pub turn_by_spans : {S : Type 0} (rules : GroupRules) (format : Format) (waits : Bool) → SetsOnce format → (told : Option Folder) (spans : List Span) (before after : S) (most_bad : Option ℕ) (fault : SampleFault)
+    → Told told (λ folder. AreKept format waits spans folder → ComesInTurn rules before (past_behind format waits folder nothing spans) most_bad format waits folder spans fault after)
+    → Told told (λ folder. AreKept format waits spans folder → ComesInTurn rules before (past_of format waits folder spans) most_bad format waits folder spans fault after)
+turn_by_spans rules format waits sets None spans before after most_bad fault turn = tt
+turn_by_spans rules format waits sets (Some folder) spans before after most_bad fault turn = λ kept.
+    let Of : Past → Type 0 = λ past. ComesInTurn rules before past most_bad format waits folder spans fault after in
+    subst Of (behind_all format sets waits folder spans kept) (turn kept)

@@ -7,3 +7,4 @@ pub mod Kinds
 pub mod Fresh
 pub mod Read
 pub mod Ran
+pub mod InTurn

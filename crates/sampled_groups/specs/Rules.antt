@@ -7,7 +7,7 @@ use Rattle.log_reading.specs.Found.{Found}
 use Rattle.query_types.specs.declared.fault.TypeFault.{TypeFault}
 use Rattle.query_types.specs.Planned.{Planned}
 use Rattle.group_planning.specs.Groups.{Grouped, group_plan_of}
-use Rattle.group_run.specs.Rows.{rows_of_groups}
+use Rattle.group_meaning.specs.Rows.{rows_of_groups}
 use Rattle.column_kinds.specs.declared.judging.Judged.{Judged}
 use Rattle.column_kinds.specs.Judged.{table_of}
 use Rattle.column_kinds.specs.Past.{Past}

@@ -1,4 +1,4 @@
 pub mod Puts
 pub mod Fresh
-pub mod Early
+pub mod Faults
 mod Ran

@@ -1,9 +1,10 @@
 -- The rows of a writer behind a sample.
-use Rattle.std.proofs.Common.{◌≡◌, ℕ, List, [], ◌∷◌, ◌++◌, length, Option, Some, None, IfSome, ap, ap₂, ◌∙◌, refl, sym, subst, inl, inr}
+use Rattle.std.proofs.Common.{◌≡◌, ◌⊎◌, ◌<◌, ℕ, Bool, true, false, List, [], ◌∷◌, ◌++◌, length, Option, Some, None, IfSome, Ok, ap, ap₂, ◌∙◌, refl, sym, subst, inl, inr, arith}
 use Rattle.std.proofs.lemmas.List.{append-nil}
 use Rattle.lp_time.specs.declared.piece.Piece.{Piece}
 use Rattle.lp_values.specs.declared.value.Value.{Value}
 use Rattle.log_reading.specs.Found.{Found, rows_met}
+use Rattle.log_reading.specs.declared.span.Span.{Span}
 use Rattle.text_output.specs.Output.{StageKind}
 use Rattle.text_output.specs.declared.target.Output.{Output}
 use Rattle.row_output.specs.Asked.{Asked, left_of}
@@ -11,6 +12,7 @@ use Rattle.row_output.specs.Kept.{HasRows, asked_of}
 use Rattle.row_output.specs.Rows.{Holds, IsRefusedEarly, Stops}
 use Rattle.row_output.specs.Rows.{IsRefused as IsRefusedOutput}
 use Rattle.row_output.proofs.Stopping.{new_has}
+use Rattle.row_output.proofs.Unrefused.{rows_unrefused}
 use Rattle.row_output.specs.declared.fault.OutputFault.{OutputFault}
 use Rattle.row_output.specs.declared.fault.OutputFault.TheVariants as O
 use Rattle.row_output.specs.declared.fault.Refused.{Refused}
@@ -25,20 +27,24 @@ use Rattle.column_kinds.specs.declared.judging.Judged.{Judged}
 use Rattle.column_kinds.specs.declared.maker.Stop.{Stop}
 use Rattle.column_kinds.specs.declared.maker.Stop.TheVariants as Why
 use Rattle.column_kinds.specs.Past.{Past}
-use Rattle.column_kinds.specs.Sampling.{Begun, StopsAs, rows_of, told_by}
+use Rattle.column_kinds.specs.Sampling.{Begun, StopsAs, TakesOn, rows_of, told_by}
 use Rattle.column_kinds.specs.Sampling.{Rules as SampleRules, IsFront as SampleFront, IsRefused as SampleRefused, IsStop as SampleStop, IsWithin as SampleWithin}
 use Rattle.sampled_table.specs.declared.picking.SampledPicker.{SampledPicker}
 use Rattle.sampled_run.specs.declared.row_maker.RowMaker.{RowMaker}
 use Rattle.sampled_run.specs.Kinds.{Fits, picks_of, run_rules, writer_kind}
-use Rattle.sampled_run.specs.Made.{IsMade, asked_in}
-use Rattle.sampled_run.specs.Ran.{IsFront, IsRefused, IsStoppedBy, IsUnplaced, IsUnplacedEarly, IsWithin, IsWritten, ended_by, fault_of, refused_in}
-use Rattle.sampled_run.specs.Rules.{rows_with}
+use Rattle.sampled_run.specs.InTurn.{ArePlaced, IsUnplacedAt}
+use Rattle.sampled_run.specs.Made.{IsMade, asked_in, plan_over}
+use Rattle.sampled_run.specs.Ran.{IsFront, IsRefused, IsStoppedBy, IsUnplaced, IsWithin, IsWritten, ended_by, fault_of, refused_in}
+use Rattle.sampled_run.specs.Rules.{plan_at, rows_with}
 
 abbrev Rows : Type 0
 Rows = List (List Value)
 
+pub false_or_true : (b : Bool) → b ≡ false → b ≡ true → ⊥
+false_or_true b down up = cc
+
 -- what the rows of records that are met are
-rows_again : (founds : List Found) → rows_met (rows_of founds) ≡ founds
+pub rows_again : (founds : List Found) → rows_met (rows_of founds) ≡ founds
 rows_again [] = refl
 rows_again (found ∷ founds) = ap (λ t. found ∷ t) (rows_again founds)
 
@@ -65,7 +71,7 @@ module _ {S : Type 0} (kind : StageKind S) where
   end_along rules begin past writer output u P fits same step begun =
       let made = begun.made in
       let is = begun.is_made in
-      let puts = begun.taken in
+      let puts = begun.taken.puts in
       let rows = picked (picks_of made.picker) (rows_met (rows_of past.founds)) in
       let Of : RowOutput → Type 0 = λ o. HasRows kind o begin rows u × (asked_of o ≡ asked_of made.output) in
       let put : Of output = subst Of (sym same) (puts.has begin [] (new_has kind made.output begin is.new), puts.asked) in
@@ -106,14 +112,69 @@ module _ {S : Type 0} (kind : StageKind S) where
       let both = made_along rules past made P fits is here in
       record { plan = planned_in made.picker.ready.plan; planned = is.planned; stops = both.0; refused = both.1 }
 
+  -- the query's plan, where what the records tell stays
+  planned_later : (rules : SampleRules (RowMaker S)) (past all : Past) (made : Writer SampledPicker) → told_by rules all ≡ told_by rules past → IsMade rules.maker (told_by rules past) made
+      → plan_at (run_rules rules) all ≡ Ok (planned_in made.picker.ready.plan)
+  planned_later rules past all made stays is = subst (λ (told : Judged). plan_over rules.maker told ≡ Ok (planned_in made.picker.ready.plan)) (sym stays) is.planned
+
+  -- and its rows
+  rows_later : (rules : SampleRules (RowMaker S)) (past all : Past) (founds : List Found) (plan : Planned) → told_by rules all ≡ told_by rules past → past.founds ≡ founds
+      → rows_with rules.pattern (told_by rules past) plan past.founds ≡ rows_with rules.pattern (told_by rules all) plan founds
+  rows_later rules past all founds plan stays same = ap₂ (λ (told : Judged) (t : List Found). rows_with rules.pattern told plan t) (sym stays) same
+
   -- it was refused before the last row was there
-  pub early_is : (rules : SampleRules (RowMaker S)) (begin : S) (past : Past) (last : Writer SampledPicker) (why : Refused) (v : S) → last.refused ≡ Some why → StopsAs (writer_kind kind) rules begin past last v → IsUnplacedEarly (run_rules rules) past why
-  early_is rules begin past last why v refused stops =
+  pub unplaced_at : (rules : SampleRules (RowMaker S)) (begin : S) (past all : Past) (founds : List Found) (rest : List Span) (last : Writer SampledPicker) (why : Refused) (v : S)
+      → Fits rules → told_by rules all ≡ told_by rules past → past.founds ≡ founds → last.refused ≡ Some why → StopsAs (writer_kind kind) rules begin past last v → IsUnplacedAt (run_rules rules) all founds rest why
+  unplaced_at rules begin past all founds rest last why v fits stays same refused stops =
       let made = stops.made in
       let is = stops.is_made in
+      let plan = planned_in made.picker.ready.plan in
+      let rows = picked (picks_of made.picker) (rows_met (rows_of past.founds)) in
+      let has = new_has kind made.output begin is.new in
+      let P : Asked → Rows → Type 0 = λ asked rows. IsRefusedOutput asked rows why in
+      let At : Rows → Type 0 = P (asked_of made.output) in
+      let told : IfSome (Some why) (IsRefusedOutput (asked_of made.output) (rows ++ [])) = subst (λ (o : Option Refused). IfSome o (IsRefusedOutput (asked_of made.output) (rows ++ []))) refused (stops.stopped.refused is.refused begin [] [] has) in
       let Early : Option Refused → Type 0 = λ o. IfSome o (IsRefusedEarly (asked_of made.output)) in
-      let told : IsRefusedEarly (asked_of made.output) why = subst Early refused (stops.stopped.early is.refused begin [] (new_has kind made.output begin is.new)) in
-      record { plan = planned_in made.picker.ready.plan; planned = is.planned; early = subst (λ (asked : Asked). IsRefusedEarly asked why) is.asked told }
+      let early : IsRefusedEarly (asked_of made.output) why = subst Early refused (stops.stopped.early is.refused begin [] has) in
+      record {
+        plan = plan;
+        planned = planned_later rules past all made stays is;
+        refused = subst (P (asked_in rules.maker plan)) (rows_later rules past all founds plan stays same) (made_along rules past made P fits is (subst At (append-nil rows) told));
+        early = inl (subst (λ (asked : Asked). IsRefusedEarly asked why) is.asked early);
+      }
+
+  -- no output is refused that may be before the last row is there
+  rows_free : (o : RowOutput) (begin now : S) (rows : Rows) (why : Refused) → HasRows kind o begin rows now → ((why : Refused) → IsRefusedOutput (asked_of o) [] why → ⊥) → IsRefusedEarly (asked_of o) why → IsRefusedOutput (asked_of o) rows why → ⊥
+  rows_free o begin now rows why has free (inl plain) refused = rows_unrefused kind o begin rows now has plain free why refused
+  rows_free o begin now rows why has free (inr first) refused = free why first
+
+  -- behind a record the output is opened
+  opened_now : (founds : List Found) (Opened : Type 0) → 0 < length founds → (rows_met (rows_of founds) ≡ []) ⊎ Opened → Opened
+  opened_now founds Opened some (inl none) =
+      let size : length founds ≡ 0 = ap length (sym (rows_again founds) ∙ none) in
+      absurd (omega (arith, size, some))
+  opened_now founds Opened some (inr opened) = opened
+
+  -- the rows of all records so far were put
+  pub placed_is : (rules : SampleRules (RowMaker S)) (begin : S) (past all : Past) (founds : List Found) (writer : Writer SampledPicker) (now : S)
+      → Fits rules → told_by rules all ≡ told_by rules past → past.founds ≡ founds → TakesOn (writer_kind kind) rules begin past writer now → ArePlaced (run_rules rules) all founds
+  placed_is rules begin past all founds writer now fits stays same on =
+      let made = on.begun.made in
+      let is = on.begun.is_made in
+      let puts = on.begun.taken.puts in
+      let plan = planned_in made.picker.ready.plan in
+      let rows = picked (picks_of made.picker) (rows_met (rows_of past.founds)) in
+      let new = new_has kind made.output begin is.new in
+      let opened = opened_now past.founds (writer.opened ≡ true) on.told.some on.begun.taken.opens in
+      let free = puts.named begin [] new (λ up. absurd (false_or_true made.opened is.opened up)) opened in
+      let Free : Asked → Rows → Type 0 = λ asked rows. (why : Refused) → IsRefusedEarly asked why → IsRefusedOutput asked rows why → ⊥ in
+      let here : Free (asked_of writer.output) rows = λ why early refused. rows_free writer.output begin now rows why (puts.has begin [] new) free early refused in
+      let rows_are = rows_same made.picker rules.pattern (told_by rules past) past.founds (is.pattern ∙ fits) is.told_is ∙ rows_later rules past all founds plan stays same in
+      record {
+        plan = plan;
+        planned = planned_later rules past all made stays is;
+        placed = subst (Free (asked_in rules.maker plan)) rows_are (subst (λ (asked : Asked). Free asked rows) (puts.asked ∙ is.asked) here);
+      }
 
   pub front_is : (rules : SampleRules (RowMaker S)) (begin : S) (past : Past) (v : S) → Fits rules → SampleFront (writer_kind kind) rules begin past v → IsFront kind (run_rules rules) begin past v
   front_is rules begin past v fits (inl nothing) = inl nothing

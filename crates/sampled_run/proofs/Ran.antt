@@ -1,6 +1,6 @@
 -- A whole run, from the first log to the end of the text.
-use Rattle.std.proofs.Common.{◌≡◌, ◌⊎◌, ℕ, Bool, IsErrOf, List, [], ◌∷◌, ◌++◌, length, Option, Some, None, Err, ap, sym, ◌∙◌, refl, subst, arith, inl, inr, append_assoc}
-use Rattle.std.proofs.lemmas.List.{append-nil}
+use Rattle.std.specs.Prelude.{⊤}
+use Rattle.std.proofs.Common.{◌≡◌, ℕ, Bool, List, length, Option, Some, None, ap, sym, ◌∙◌, refl, subst, arith, inl, inr}
 use Rattle.lp_model.specs.Outside.{Folder, Told}
 use Rattle.lp_model.specs.Reading.{Format}
 use Rattle.log_reading.specs.declared.page.Page.{Page}
@@ -8,22 +8,27 @@ use Rattle.log_reading.specs.declared.span.RunFault.{RunFault}
 use Rattle.log_reading.specs.declared.span.RunFault.TheVariants as R
 use Rattle.log_reading.specs.declared.span.Span.{Span}
 use Rattle.log_reading.specs.Page.{IsWithin}
-use Rattle.log_reading.specs.Spans.{AreKept, BadLine, OnBadLine, span_found, spans_bad, spans_found}
+use Rattle.log_reading.specs.Found.{Found}
+use Rattle.log_reading.specs.Spans.{AreKept, BadLine, OnBadLine, bad_line, spans_bad}
+use Rattle.log_reading.specs.UpTo.{StopsUpTo, TakesUpTo, found_up_to}
+use Rattle.log_reading.proofs.Ups.{found_up_all, up_all}
 use Rattle.text_output.specs.Output.{StageKind}
-use Rattle.row_output.specs.declared.fault.OutputFault.{OutputFault}
-use Rattle.row_output.specs.declared.fault.OutputFault.TheVariants as O
+use Rattle.row_output.specs.Rows.{IsRefused as IsRefusedOutput}
 use Rattle.row_output.specs.declared.fault.Refused.{Refused}
 use Rattle.query_run.specs.declared.executing.Written.{Written}
 use Rattle.query_run.specs.declared.writer.Writer.{Writer}
 use Rattle.column_kinds.proofs.SetsOnce.{SetsOnce}
-use Rattle.column_kinds.proofs.Behind.{behind_all}
-use Rattle.column_kinds.specs.Laws.{later_same}
+use Rattle.column_kinds.proofs.Behind.{behind_all, behind_founds}
+use Rattle.column_kinds.proofs.InTurn.{StopsBehind, TakesBefore, bad_in_turn, bad_within, behind_lines, behind_sample, stops_behind, takes_before}
+use Rattle.column_kinds.proofs.UpTo.{past_up_to, up_founds, up_stays}
+use Rattle.column_kinds.specs.Laws.{Samples, later_same}
+use Rattle.column_kinds.specs.Laws.{Halts as SampleHalts}
 use Rattle.column_kinds.specs.declared.maker.Stop.{Stop}
 use Rattle.column_kinds.specs.declared.maker.Stop.TheVariants as Why
 use Rattle.column_kinds.specs.Past.{Past}
 use Rattle.column_kinds.specs.Sampling.{Holds}
 use Rattle.column_kinds.specs.Sampling.{Rules as SampleRules, PhaseStopped as SamplePhase, StopsAs}
-use Rattle.column_kinds.specs.Spans.{past_behind, past_behind_span, past_of}
+use Rattle.column_kinds.specs.Spans.{past_behind, past_of}
 use Rattle.column_kinds.specs.SpansTold.{SamplesSpans, HaltsIn, spans_told}
 use Rattle.column_kinds.specs.declared.phase.Phase.{Phase}
 use Rattle.column_kinds.specs.declared.phase.Phase.TheVariants as P
@@ -33,17 +38,12 @@ use Rattle.sampled_run.specs.declared.fault.SampleFault.{SampleFault}
 use Rattle.sampled_run.specs.declared.fault.SampleFault.TheVariants as F
 use Rattle.sampled_run.specs.declared.row_maker.RowMaker.{RowMaker}
 use Rattle.sampled_run.specs.Kinds.{Fits, run_rules, writer_kind}
-use Rattle.sampled_run.specs.Ran.{IsFront, IsOfEnd, IsSampled, IsStoppedBy, IsUnplacedEarly, IsWritten, OnBadOne, OnRefusedOne, ended_by, fault_in, fault_of, read_fault, refused_in}
-use Rattle.sampled_run.specs.Rules.{Rules}
-use Rattle.sampled_run.proofs.Early.{refused_each, refused_none, refused_so, refused_told, told_else, told_first}
+use Rattle.sampled_run.specs.Ran.{IsFront, IsOfEnd, IsSampled, IsStoppedBy, IsWritten, OnBadOne, fault_in, fault_of, read_fault, refused_in}
+use Rattle.sampled_run.specs.InTurn.{ArePlaced, ComesInTurn, IsUnplacedAt}
+use Rattle.sampled_run.specs.Rules.{Rules, rows_with, told_at}
+use Rattle.sampled_run.proofs.Faults.{bad_read, read_logs, read_output, refused_end}
 use Rattle.sampled_run.proofs.Fresh.{Begins, nothing}
-use Rattle.sampled_run.proofs.Puts.{early_is, front_is, refused_is, stops_is, writer_stopped}
-
--- the records behind spans are those of the spans
-behind_founds : (format : Format) (waits : Bool) (folder : Folder) (past : Past) (spans : List Span) → (past_behind format waits folder past spans).founds ≡ past.founds ++ spans_found format waits folder spans
-behind_founds format waits folder past [] = sym (append-nil past.founds)
-behind_founds format waits folder past (span ∷ spans) =
-    behind_founds format waits folder (past_behind_span format waits folder past span) spans ∙ append_assoc past.founds (span_found format waits folder span) (spans_found format waits folder spans)
+use Rattle.sampled_run.proofs.Puts.{front_is, placed_is, refused_is, stops_is, unplaced_at, writer_stopped}
 
 abbrev pub SampledWriter : Type 0 → Type 0
 SampledWriter S = Sampled (RowMaker S) (Writer SampledPicker)
@@ -114,69 +114,109 @@ stopped_ending kind asked format waits (Some folder) spans first last u mid afte
     let By : Rules → Type 0 = λ rules. IsStoppedBy kind rules u past fault after in
     subst By begins.same (ends begins.rules u past begins.fits ((taken kept).along begins.rules u nothing begins.holds))
 
--- ---- when an output was refused
+-- ---- a fault in its turn
 
-early_kept : {S : Type 0} (kind : StageKind S) (rules : SampleRules (RowMaker S)) (begin : S) (past : Past) (writer : Writer SampledPicker) (refused : Option Refused) (now : S) → writer.refused ≡ refused → StopsAs (writer_kind kind) rules begin past writer now
-    → OnRefusedOne (refused_in refused) (IsUnplacedEarly (run_rules rules) past)
-early_kept kind rules begin past writer None now is stops = tt
-early_kept kind rules begin past writer (Some why) now is stops = early_is kind rules begin past writer why now is stops
+module _ {S : Type 0} (kind : StageKind S) (rules : SampleRules (RowMaker S)) (begin now : S) (most_bad : Option ℕ) (format : Format) (waits : Bool) (folder : Folder) (spans : List Span) (fits : Fits rules) where
+  -- the writer stopped: for what it refused, or for want of memory
+  turn_refused : (writer : Writer SampledPicker) (refused : Option Refused) → writer.refused ≡ refused → StopsBehind (writer_kind kind) rules begin most_bad format waits folder spans (P.Taking writer) now
+      → ComesInTurn (run_rules rules) begin (past_behind format waits folder nothing spans) most_bad format waits folder spans (refused_in refused) now
+  turn_refused writer None is stops = tt
+  turn_refused writer (Some why) is stops =
+      let all = past_behind format waits folder nothing spans in
+      behind_sample (writer_kind kind) rules begin now most_bad format waits folder spans (P.Taking writer) (λ up. IsUnplacedAt (run_rules rules) all (found_up_to format waits folder spans up) up.rest why) stops stops.judged
+      (unplaced_at kind rules begin (past_up_to format waits folder spans nothing stops.up) all (found_up_to format waits folder spans stops.up) stops.up.rest writer why now fits
+      (up_stays format waits folder rules spans nothing stops.up stops.judged) (up_founds format waits folder spans nothing stops.up) is stops.stopped)
 
-early_taking : {S : Type 0} (kind : StageKind S) (rules : SampleRules (RowMaker S)) (begin : S) (past : Past) (writer : Writer SampledPicker) (fault : RunFault) (now : S) → StopsAs (writer_kind kind) rules begin past writer now
-    → OnRefusedOne (read_fault fault writer.refused) (IsUnplacedEarly (run_rules rules) past)
-early_taking kind rules begin past writer R.Memory now stops = tt
-early_taking kind rules begin past writer R.Logs now stops = tt
-early_taking kind rules begin past writer R.Output now stops = tt
-early_taking kind rules begin past writer R.Stopped now stops = early_kept kind rules begin past writer writer.refused now refl stops
-early_taking kind rules begin past writer (R.Bad log row) now stops = tt
+  turn_bad : (phase : Phase (RowMaker S) (Writer SampledPicker)) (log : List ℕ) (row : ℕ) → TakesBefore (writer_kind kind) rules begin most_bad format waits folder spans (bad_line log row) phase now
+      → ComesInTurn (run_rules rules) begin (past_behind format waits folder nothing spans) most_bad format waits folder spans (F.Bad log row) now
+  turn_bad phase log row takes =
+      let all = past_behind format waits folder nothing spans in
+      bad_in_turn (writer_kind kind) rules begin now most_bad format waits folder spans (bad_line log row) phase (ArePlaced (run_rules rules) all) takes
+      (λ writer on. placed_is kind rules begin (past_up_to format waits folder spans nothing takes.up) all (found_up_to format waits folder spans takes.up) writer now fits
+      (up_stays format waits folder rules spans nothing takes.up on.told) (up_founds format waits folder spans nothing takes.up) on)
 
-phase_early : {S : Type 0} (kind : StageKind S) (rules : SampleRules (RowMaker S)) (begin : S) (past : Past) (phase : Phase (RowMaker S) (Writer SampledPicker)) (fault : RunFault) (now : S) → SamplePhase (writer_kind kind) rules begin past phase now
-    → OnRefusedOne (fault_in phase fault) (IsUnplacedEarly (run_rules rules) past)
-phase_early kind rules begin past (P.Gathering gathering) fault now stopped = refused_none fault (IsUnplacedEarly (run_rules rules) past)
-phase_early kind rules begin past (P.Taking writer) fault now stopped = early_taking kind rules begin past writer fault now stopped
-phase_early kind rules begin past (P.Refused plan) fault now stopped = tt
-phase_early kind rules begin past P.Lost fault now stopped = refused_none fault (IsUnplacedEarly (run_rules rules) past)
+  turn_none : (phase : Phase (RowMaker S) (Writer SampledPicker)) (fault : RunFault) → OnBadLine fault (λ line. TakesBefore (writer_kind kind) rules begin most_bad format waits folder spans line phase now)
+      → ComesInTurn (run_rules rules) begin (past_behind format waits folder nothing spans) most_bad format waits folder spans (read_fault fault None) now
+  turn_none phase R.Memory bad = tt
+  turn_none phase R.Logs bad = tt
+  turn_none phase R.Output bad = tt
+  turn_none phase R.Stopped bad = tt
+  turn_none phase (R.Bad log row) bad = turn_bad phase log row bad
 
-halts_early : {S : Type 0} (kind : StageKind S) (asked : Rules) (format : Format) (waits : Bool) (told : Option Folder) (spans : List Span) (first last : Page (SampledWriter S)) (u now : S) (fault : RunFault)
-    → Begins kind asked first.taker u
-    → Told told (λ folder. AreKept format waits spans folder → HaltsIn (writer_kind kind) (spans_told format waits folder spans) first.taker last.taker u now)
-    → Told told (λ folder. AreKept format waits spans folder → OnRefusedOne (fault_in last.taker.phase fault) (IsUnplacedEarly asked (past_behind format waits folder nothing spans)))
-halts_early kind asked format waits None spans first last u now fault begins halted = tt
-halts_early kind asked format waits (Some folder) spans first last u now fault begins halted = λ kept.
-    let past = past_behind format waits folder nothing spans in
-    let By : Rules → Type 0 = λ rules. OnRefusedOne (fault_in last.taker.phase fault) (IsUnplacedEarly rules past) in
-    subst By begins.same (phase_early kind begins.rules u past last.taker.phase fault now ((halted kept).within begins.rules u nothing begins.holds past (later_same past)))
+  turn_taking : (writer : Writer SampledPicker) (fault : RunFault) → StopsBehind (writer_kind kind) rules begin most_bad format waits folder spans (P.Taking writer) now
+      → OnBadLine fault (λ line. TakesBefore (writer_kind kind) rules begin most_bad format waits folder spans line (P.Taking writer) now)
+      → ComesInTurn (run_rules rules) begin (past_behind format waits folder nothing spans) most_bad format waits folder spans (read_fault fault writer.refused) now
+  turn_taking writer R.Memory stops bad = tt
+  turn_taking writer R.Logs stops bad = tt
+  turn_taking writer R.Output stops bad = tt
+  turn_taking writer R.Stopped stops bad = turn_refused writer writer.refused refl stops
+  turn_taking writer (R.Bad log row) stops bad = turn_bad (P.Taking writer) log row bad
 
--- while records were taken: before the last row was there
-pub early_reading : {S : Type 0} (kind : StageKind S) (asked : Rules) (format : Format) (waits : Bool) (told : Option Folder) (spans : List Span) (first last : Page (SampledWriter S)) (u now : S) (fault : RunFault) (Else : Folder → Type 0)
-    → Begins kind asked first.taker u
-    → Told told (λ folder. AreKept format waits spans folder → HaltsIn (writer_kind kind) (spans_told format waits folder spans) first.taker last.taker u now)
-    → OnRefusedOne (fault_in last.taker.phase fault) (λ why. Told told (λ folder. AreKept format waits spans folder → IsUnplacedEarly asked (past_behind format waits folder nothing spans) why ⊎ Else folder))
-early_reading kind asked format waits told spans first last u now fault Else begins halted =
-    let Kept : Folder → Type 0 = λ folder. AreKept format waits spans folder in
-    let Early : Folder → Refused → Type 0 = λ folder why. IsUnplacedEarly asked (past_behind format waits folder nothing spans) why in
-    refused_so (fault_in last.taker.phase fault) (λ why. Told told (λ folder. Kept folder → Early folder why)) (λ why. Told told (λ folder. Kept folder → Early folder why ⊎ Else folder))
-    (λ why is. told_first told Kept (λ folder. Early folder why) Else is)
-    (refused_told (fault_in last.taker.phase fault) told Kept Early (halts_early kind asked format waits told spans first last u now fault begins halted))
+  turn_phase : (phase : Phase (RowMaker S) (Writer SampledPicker)) (fault : RunFault) → StopsBehind (writer_kind kind) rules begin most_bad format waits folder spans phase now
+      → OnBadLine fault (λ line. TakesBefore (writer_kind kind) rules begin most_bad format waits folder spans line phase now)
+      → ComesInTurn (run_rules rules) begin (past_behind format waits folder nothing spans) most_bad format waits folder spans (fault_in phase fault) now
+  turn_phase (P.Gathering gathering) fault stops bad = turn_none (P.Gathering gathering) fault bad
+  turn_phase (P.Taking writer) fault stops bad = turn_taking writer fault stops bad
+  turn_phase (P.Refused plan) fault stops bad = behind_sample (writer_kind kind) rules begin now most_bad format waits folder spans (P.Refused plan) (λ up. ⊤) stops stops.judged tt
+  turn_phase P.Lost fault stops bad = turn_none P.Lost fault bad
 
-bad_within : {S : Type 0} (kind : StageKind S) (format : Format) (waits : Bool) (told : Option Folder) (spans : List Span) (first last : Page (SampledWriter S)) (u mid : S) (most : Option ℕ) → first.bad ≡ 0 → IsWithin most last.bad
+turn_told : {S : Type 0} (kind : StageKind S) (asked : Rules) (format : Format) (waits : Bool) (told : Option Folder) (spans : List Span) (first : SampledWriter S) (phase : Phase (RowMaker S) (Writer SampledPicker)) (u now : S) (fault : RunFault) (most_bad : Option ℕ)
+    → (begins : Begins kind asked first u)
+    → Told told (λ folder. AreKept format waits spans folder → StopsBehind (writer_kind kind) begins.rules u most_bad format waits folder spans phase now)
+    → Told told (λ folder. AreKept format waits spans folder → OnBadLine fault (λ line. TakesBefore (writer_kind kind) begins.rules u most_bad format waits folder spans line phase now))
+    → Told told (λ folder. AreKept format waits spans folder → ComesInTurn asked u (past_behind format waits folder nothing spans) most_bad format waits folder spans (fault_in phase fault) now)
+turn_told kind asked format waits None spans first phase u now fault most_bad begins stops bad = tt
+turn_told kind asked format waits (Some folder) spans first phase u now fault most_bad begins stops bad = λ kept.
+    let By : Rules → Type 0 = λ rules. ComesInTurn rules u (past_behind format waits folder nothing spans) most_bad format waits folder spans (fault_in phase fault) now in
+    subst By begins.same (turn_phase kind begins.rules u now most_bad format waits folder spans begins.fits phase fault (stops kept) (bad kept))
+
+-- while records were taken
+pub turn_reading : {S : Type 0} (kind : StageKind S) (asked : Rules) (format : Format) (waits : Bool) (told : Option Folder) (spans : List Span) (first last : Page (SampledWriter S)) (u now : S) (fault : RunFault) (most_bad : Option ℕ)
+    → Begins kind asked first.taker u → first.most_bad ≡ most_bad → first.bad ≡ 0
+    → Told told (λ folder. AreKept format waits spans folder → StopsUpTo (λ (old : SampledWriter S) (before : S) mets new after. SampleHalts (writer_kind kind) old before mets new after) format waits folder spans first last u now)
+    → OnBadLine fault (λ line. Told told (λ folder. AreKept format waits spans folder → TakesUpTo (λ (old : SampledWriter S) (before : S) mets new after. Samples (writer_kind kind) old before mets new after) format waits folder spans line first last u now))
+    → Told told (λ folder. AreKept format waits spans folder → ComesInTurn asked u (past_behind format waits folder nothing spans) most_bad format waits folder spans (fault_in last.taker.phase fault) now)
+turn_reading kind asked format waits told spans first last u now fault most_bad begins most bad stops takes =
+    turn_told kind asked format waits told spans first.taker last.taker.phase u now fault most_bad begins
+    (stops_behind (writer_kind kind) begins.rules u now most_bad format waits told spans first last most bad begins.holds stops)
+    (takes_before (writer_kind kind) begins.rules u now most_bad format waits told spans fault first last most bad begins.holds takes)
+
+-- once all were taken
+turn_all : {S : Type 0} (kind : StageKind S) (rules : Rules) (start now : S) (most_bad : Option ℕ) (format : Format) (waits : Bool) (folder : Folder) (spans : List Span) (fault : SampleFault)
+    → IsOfEnd fault → IsWithin most_bad (length (spans_bad format waits folder spans)) → IsStoppedBy kind rules start (past_behind format waits folder nothing spans) fault now
+    → ComesInTurn rules start (past_behind format waits folder nothing spans) most_bad format waits folder spans fault now
+turn_all kind rules start now most_bad format waits folder spans (F.Plan plan) end within stopped = behind_lines rules.limit most_bad format waits folder spans (λ up. ⊤) within tt
+turn_all kind rules start now most_bad format waits folder spans (F.Refused why) end within stopped =
+    let all = past_behind format waits folder nothing spans in
+    let same : all.founds ≡ found_up_to format waits folder spans (up_all waits folder spans) = behind_founds format waits folder nothing spans ∙ sym (found_up_all format waits folder spans) in
+    let Of : List Found → Type 0 = λ founds. IsRefusedOutput (rules.asked stopped.plan) (rows_with rules.pattern (told_at rules all) stopped.plan founds) why in
+    behind_lines rules.limit most_bad format waits folder spans (λ up. IsUnplacedAt rules all (found_up_to format waits folder spans up) up.rest why) within
+    (record { plan = stopped.plan; planned = stopped.planned; refused = subst Of same stopped.refused; early = inr refl })
+turn_all kind rules start now most_bad format waits folder spans (F.Bad log row) end within stopped = absurd end
+turn_all kind rules start now most_bad format waits folder spans F.Logs end within stopped = tt
+turn_all kind rules start now most_bad format waits folder spans F.Output end within stopped = tt
+turn_all kind rules start now most_bad format waits folder spans F.Memory end within stopped = tt
+
+turn_end : {S : Type 0} (kind : StageKind S) (asked : Rules) (format : Format) (waits : Bool) (told : Option Folder) (spans : List Span) (u after : S) (most_bad : Option ℕ) (fault : SampleFault) → IsOfEnd fault
+    → Told told (λ folder. AreKept format waits spans folder → IsWithin most_bad (length (spans_bad format waits folder spans)))
+    → Told told (λ folder. AreKept format waits spans folder → IsStoppedBy kind asked u (past_behind format waits folder nothing spans) fault after)
+    → Told told (λ folder. AreKept format waits spans folder → ComesInTurn asked u (past_behind format waits folder nothing spans) most_bad format waits folder spans fault after)
+turn_end kind asked format waits None spans u after most_bad fault end within stopped = tt
+turn_end kind asked format waits (Some folder) spans u after most_bad fault end within stopped = λ kept. turn_all kind asked u after most_bad format waits folder spans fault end (within kept) (stopped kept)
+
+pub turn_ending : {S : Type 0} (kind : StageKind S) (asked : Rules) (format : Format) (waits : Bool) (told : Option Folder) (spans : List Span) (first last : Page (SampledWriter S)) (u mid after : S) (most_bad : Option ℕ) (fault : SampleFault)
+    → first.bad ≡ 0 → IsWithin most_bad last.bad → IsOfEnd fault
     → Told told (λ folder. AreKept format waits spans folder → SamplesSpans (writer_kind kind) format waits folder spans first last u mid)
-    → Told told (λ folder. AreKept format waits spans folder → IsWithin most (length (spans_bad format waits folder spans)))
-bad_within kind format waits None spans first last u mid most none within taken = tt
-bad_within kind format waits (Some folder) spans first last u mid most none within taken = λ kept.
-    let bad_now = (taken kept).bad in
-    let many : last.bad ≡ length (spans_bad format waits folder spans) = omega (arith, none, bad_now) in
-    subst (IsWithin most) many within
+    → Told told (λ folder. AreKept format waits spans folder → IsStoppedBy kind asked u (past_behind format waits folder nothing spans) fault after)
+    → Told told (λ folder. AreKept format waits spans folder → ComesInTurn asked u (past_behind format waits folder nothing spans) most_bad format waits folder spans fault after)
+turn_ending kind asked format waits told spans first last u mid after most_bad fault none within end taken stopped =
+    turn_end kind asked format waits told spans u after most_bad fault end (bad_within (writer_kind kind) format waits told spans first last u mid most_bad none within taken) stopped
 
--- once all were taken: behind all bad lines
-pub early_ending : {S : Type 0} (kind : StageKind S) (asked : Rules) (format : Format) (waits : Bool) (told : Option Folder) (spans : List Span) (first last : Page (SampledWriter S)) (u mid : S) (most : Option ℕ) (fault : SampleFault)
-    → first.bad ≡ 0 → IsWithin most last.bad
-    → Told told (λ folder. AreKept format waits spans folder → SamplesSpans (writer_kind kind) format waits folder spans first last u mid)
-    → OnRefusedOne fault (λ why. Told told (λ folder. AreKept format waits spans folder → IsUnplacedEarly asked (past_behind format waits folder nothing spans) why ⊎ IsWithin most (length (spans_bad format waits folder spans))))
-early_ending kind asked format waits told spans first last u mid most fault none within taken =
-    let Kept : Folder → Type 0 = λ folder. AreKept format waits spans folder in
-    let Else : Folder → Type 0 = λ folder. IsWithin most (length (spans_bad format waits folder spans)) in
-    refused_each fault (λ why. Told told (λ folder. Kept folder → IsUnplacedEarly asked (past_behind format waits folder nothing spans) why ⊎ Else folder))
-    (λ why. told_else told Kept (λ folder. IsUnplacedEarly asked (past_behind format waits folder nothing spans) why) Else (bad_within kind format waits told spans first last u mid most none within taken))
+-- nothing was read
+pub turn_at_once : {S : Type 0} (rules : Rules) (format : Format) (waits : Bool) (told : Option Folder) (spans : List Span) (start : S) (most_bad : Option ℕ)
+    → Told told (λ folder. AreKept format waits spans folder → ComesInTurn rules start (past_behind format waits folder nothing spans) most_bad format waits folder spans F.Memory start)
+turn_at_once rules format waits None spans start most_bad = tt
+turn_at_once rules format waits (Some folder) spans start most_bad = λ kept. tt
 
 -- the fault at the phase that a page has
 pub fault_from : {M P : Type 0} (a b : Phase M (Writer P)) (fault : RunFault) (result : SampleFault) → result ≡ fault_in a fault → a ≡ b → result ≡ fault_in b fault
@@ -190,37 +230,11 @@ stopped_at_once kind rules format waits (Some folder) spans start = λ kept. inl
 
 -- ---- faults
 
-bad_refused : (refused : Option Refused) (Q : BadLine → Type 0) → OnBadOne (read_fault R.Stopped refused) Q
-bad_refused None Q = tt
-bad_refused (Some why) Q = tt
-
-bad_read : (fault : RunFault) (refused : Option Refused) (Q : BadLine → Type 0) → OnBadLine fault Q → OnBadOne (read_fault fault refused) Q
-bad_read R.Memory refused Q q = tt
-bad_read R.Logs refused Q q = tt
-bad_read R.Output refused Q q = tt
-bad_read R.Stopped refused Q q = bad_refused refused Q
-bad_read (R.Bad log row) refused Q q = q
-
 pub bad_in : {M P : Type 0} (phase : Phase M (Writer P)) (fault : RunFault) (Q : BadLine → Type 0) → OnBadLine fault Q → OnBadOne (fault_in phase fault) Q
 bad_in (P.Gathering gathering) fault Q q = bad_read fault None Q q
 bad_in (P.Taking writer) fault Q q = bad_read fault writer.refused Q q
 bad_in (P.Refused plan) fault Q q = tt
 bad_in P.Lost fault Q q = bad_read fault None Q q
-
--- the fault of an answer
-pub fault_same : {T E : Type 0} (a b : E) → IsErrOf {T = T} {E = E} (Err a) b → a ≡ b
-fault_same a b is = cc
-
-logs_refused : (refused : Option Refused) → read_fault R.Stopped refused ≡ F.Logs → ⊥
-logs_refused None e = absurd cc
-logs_refused (Some why) e = absurd cc
-
-read_logs : (fault : RunFault) (refused : Option Refused) → read_fault fault refused ≡ F.Logs → fault ≡ R.Logs
-read_logs R.Memory refused e = absurd cc
-read_logs R.Logs refused e = refl
-read_logs R.Output refused e = absurd cc
-read_logs R.Stopped refused e = absurd (logs_refused refused e)
-read_logs (R.Bad log row) refused e = absurd cc
 
 pub logs_in : {M P : Type 0} (phase : Phase M (Writer P)) (fault : RunFault) → fault_in phase fault ≡ F.Logs → fault ≡ R.Logs
 logs_in (P.Gathering gathering) fault e = read_logs fault None e
@@ -228,50 +242,19 @@ logs_in (P.Taking writer) fault e = read_logs fault writer.refused e
 logs_in (P.Refused plan) fault e = absurd cc
 logs_in P.Lost fault e = read_logs fault None e
 
-output_refused : (refused : Option Refused) → read_fault R.Stopped refused ≡ F.Output → ⊥
-output_refused None e = absurd cc
-output_refused (Some why) e = absurd cc
-
-read_output : (fault : RunFault) (refused : Option Refused) → read_fault fault refused ≡ F.Output → fault ≡ R.Output
-read_output R.Memory refused e = absurd cc
-read_output R.Logs refused e = absurd cc
-read_output R.Output refused e = refl
-read_output R.Stopped refused e = absurd (output_refused refused e)
-read_output (R.Bad log row) refused e = absurd cc
-
 pub output_in : {M P : Type 0} (phase : Phase M (Writer P)) (fault : RunFault) → fault_in phase fault ≡ F.Output → fault ≡ R.Output
 output_in (P.Gathering gathering) fault e = read_output fault None e
 output_in (P.Taking writer) fault e = read_output fault writer.refused e
 output_in (P.Refused plan) fault e = absurd cc
 output_in P.Lost fault e = read_output fault None e
 
--- ---- faults at the end
-
-refused_end : (refused : Option Refused) → IsOfEnd (refused_in refused)
-refused_end None = tt
-refused_end (Some why) = tt
+-- ---- a fault at the end
 
 pub stop_end : {P : Type 0} (stop : Stop (Writer P)) → IsOfEnd (fault_of stop)
 stop_end (Why.Refused fault) = tt
 stop_end (Why.Stopped writer) = refused_end writer.refused
 stop_end Why.Failed = tt
 stop_end Why.Memory = tt
-
-pub output_end : (fault : OutputFault) → IsOfEnd (ended_by fault)
-output_end (O.Refused why) = tt
-output_end O.Failed = tt
-output_end O.Memory = tt
-
-pub bad_end : (fault : SampleFault) (Q : BadLine → Type 0) → IsOfEnd fault → OnBadOne fault Q
-bad_end (F.Plan fault) Q end = tt
-bad_end (F.Refused why) Q end = tt
-bad_end (F.Bad log row) Q end = absurd end
-bad_end F.Logs Q end = tt
-bad_end F.Output Q end = tt
-bad_end F.Memory Q end = tt
-
-pub logs_end : (fault : SampleFault) → IsOfEnd fault → fault ≡ F.Logs → ⊥
-logs_end fault end is = subst IsOfEnd is end
 
 -- ---- CSV and TSV
 
@@ -291,10 +274,10 @@ stopped_told kind rules format waits sets (Some folder) spans before after fault
     let Of : Past → Type 0 = λ past. IsStoppedBy kind rules before past fault after in
     subst Of (behind_all format sets waits folder spans kept) (stopped kept)
 
-pub early_told : (rules : Rules) (format : Format) (waits : Bool) → SetsOnce format → (told : Option Folder) (spans : List Span) (Else : Folder → Type 0) (why : Refused)
-    → Told told (λ folder. AreKept format waits spans folder → IsUnplacedEarly rules (past_behind format waits folder nothing spans) why ⊎ Else folder)
-    → Told told (λ folder. AreKept format waits spans folder → IsUnplacedEarly rules (past_of format waits folder spans) why ⊎ Else folder)
-early_told rules format waits sets None spans Else why early = tt
-early_told rules format waits sets (Some folder) spans Else why early = λ kept.
-    let Of : Past → Type 0 = λ past. IsUnplacedEarly rules past why ⊎ Else folder in
-    subst Of (behind_all format sets waits folder spans kept) (early kept)
+pub turn_by_spans : {S : Type 0} (rules : Rules) (format : Format) (waits : Bool) → SetsOnce format → (told : Option Folder) (spans : List Span) (before after : S) (most_bad : Option ℕ) (fault : SampleFault)
+    → Told told (λ folder. AreKept format waits spans folder → ComesInTurn rules before (past_behind format waits folder nothing spans) most_bad format waits folder spans fault after)
+    → Told told (λ folder. AreKept format waits spans folder → ComesInTurn rules before (past_of format waits folder spans) most_bad format waits folder spans fault after)
+turn_by_spans rules format waits sets None spans before after most_bad fault turn = tt
+turn_by_spans rules format waits sets (Some folder) spans before after most_bad fault turn = λ kept.
+    let Of : Past → Type 0 = λ past. ComesInTurn rules before past most_bad format waits folder spans fault after in
+    subst Of (behind_all format sets waits folder spans kept) (turn kept)

@@ -1,5 +1,5 @@
 -- The writer of a query's rows over the columns that the logs tell.
-use Rattle.std.specs.Prelude.{◌≡◌, List, Result, Ok, Err, None}
+use Rattle.std.specs.Prelude.{◌≡◌, List, Result, Ok, Err, None, false}
 use Rattle.any_format.specs.Wanted.{wanted_text}
 use Rattle.query_run.specs.declared.writer.Writer.{Writer}
 use Rattle.query_tree.specs.Views.{query_of}
@@ -22,7 +22,7 @@ plan_over maker told = plan_of (table_of told) maker.moment.seconds (query_of ma
 abbrev pub asked_in : {S : Type 0} → RowMaker S → Planned → Asked
 asked_in maker = asked_by (files_for maker.into) (wanted_text maker.wanted maker.moment.seconds) (query_of maker.query.now)
 
--- this writer is made for these columns: it goes by the plan over them, and no row is put
+-- this writer is made for these columns: it goes by the plan over them, no row is put, and no output opened
 pub record IsMade {S : Type 0} (maker : RowMaker S) (told : Judged) (writer : Writer SampledPicker) : Type 0 where
   pub planned : plan_over maker told ≡ Ok (planned_in writer.picker.ready.plan)
   pub told_is : writer.picker.told ≡ told
@@ -30,6 +30,7 @@ pub record IsMade {S : Type 0} (maker : RowMaker S) (told : Judged) (writer : Wr
   pub asked : asked_of writer.output ≡ asked_in maker (planned_in writer.picker.ready.plan)
   pub new : IsNew writer.output
   pub refused : writer.refused ≡ None
+  pub opened : writer.opened ≡ false
 
 -- none is made, since the query has no plan over these columns
 abbrev pub IsUnplanned : {S : Type 0} → RowMaker S → Judged → TypeFault → Type 0

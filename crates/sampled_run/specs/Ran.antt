@@ -9,7 +9,7 @@ use Rattle.log_reading.specs.Spans.{BadLine, spans_bad}
 use Rattle.text_output.specs.Output.{StageKind}
 use Rattle.text_output.specs.declared.target.Output.{Output}
 use Rattle.row_output.specs.Asked.{left_of}
-use Rattle.row_output.specs.Rows.{Holds, IsRefusedEarly, Stops}
+use Rattle.row_output.specs.Rows.{Holds, Stops}
 use Rattle.row_output.specs.Rows.{IsRefused as IsRefusedOutput}
 use Rattle.row_output.specs.declared.fault.OutputFault.{OutputFault}
 use Rattle.row_output.specs.declared.fault.OutputFault.TheVariants as O
@@ -45,12 +45,6 @@ pub record IsUnplaced {S : Type 0} (kind : StageKind S) (rules : Rules) (start :
   pub stops : Stops kind (rules.asked plan) start (rows_at rules past plan) now
   pub refused : IsRefusedOutput (rules.asked plan) (rows_at rules past plan) why
 
--- an output of its rows may be refused before the last of them is there
-pub record IsUnplacedEarly (rules : Rules) (past : Past) (why : Refused) : Type 0 where
-  pub plan : Planned
-  pub planned : plan_at rules past ≡ Ok plan
-  pub early : IsRefusedEarly (rules.asked plan) why
-
 -- nothing is written, or its rows were to be
 abbrev pub IsFront : {S : Type 0} → StageKind S → Rules → S → Past → S → Type 0
 IsFront kind rules start past now = (now ≡ start) ⊎ IsWithin kind rules start past now
@@ -85,15 +79,6 @@ OnBadOne (F.Bad log row) P = P (record { log = log; row = row })
 OnBadOne F.Logs P = ⊤
 OnBadOne F.Output P = ⊤
 OnBadOne F.Memory P = ⊤
-
--- P of why an output is refused, where that is why a run stops
-abbrev pub OnRefusedOne : SampleFault → (Refused → Type 0) → Type 0
-OnRefusedOne (F.Plan fault) P = ⊤
-OnRefusedOne (F.Refused why) P = P why
-OnRefusedOne (F.Bad log row) P = ⊤
-OnRefusedOne F.Logs P = ⊤
-OnRefusedOne F.Output P = ⊤
-OnRefusedOne F.Memory P = ⊤
 
 -- a run's end may stop by this fault: none is of the logs
 abbrev pub IsOfEnd : SampleFault → Type 0

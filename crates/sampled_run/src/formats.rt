@@ -1,8 +1,8 @@
 // A query over CSV or TSV logs.
-ghost use Rattle.std.specs.Prelude.{◌≡◌, ◌⊎◌, ◌≤◌, ◌+◌, ◌++◌, true, length, map, OnOk, IfOk, IfErr, IsErrOf};
+ghost use Rattle.std.specs.Prelude.{◌≡◌, ◌≤◌, ◌+◌, ◌++◌, true, length, map, OnOk, IfOk, IfErr, IsErrOf};
 ghost use Rattle.lp_model.specs.Outside.{Rose, OnlyGrow, Told};
 ghost use Rattle.log_reading.specs.Page.{IsTooMany, IsWithin};
-ghost use Rattle.log_reading.specs.Spans.{AllSpans, AreReadable, AreKept, IsSpan, spans_bad, spans_bad_lines, spans_size, took_of};
+ghost use Rattle.log_reading.specs.Spans.{AllSpans, AreReadable, AreKept, IsSpan, spans_bad_lines, spans_size, took_of};
 ghost use Rattle.delimited_input.specs.Lines.{delimited_lines};
 ghost use Rattle.delimited_input.specs.Separators.{IsRefused};
 ghost use Rattle.any_format.specs.Wanted.{IsMoment, wanted_text};
@@ -13,7 +13,8 @@ ghost use Rattle.query_types.specs.Built.{is_built};
 ghost use Rattle.column_kinds.specs.Spans.{past_of};
 ghost use Rattle.sampled_run.specs.Finishes.{asked_by};
 ghost use Rattle.sampled_run.specs.Rules.{rules_of};
-ghost use Rattle.sampled_run.specs.Ran.{IsSampled, IsStoppedBy, IsUnplacedEarly, OnBadOne, OnRefusedOne};
+ghost use Rattle.sampled_run.specs.Ran.{IsSampled, IsStoppedBy, OnBadOne};
+ghost use Rattle.sampled_run.specs.InTurn.{ComesInTurn};
 
 use crate::running::sample_reader;
 use crate::{Moment, SampleFault};
@@ -60,11 +61,11 @@ pub fn run_sampled<'a, L: LogSource, G: Stage>(
     ensures within { IfOk result (λ run. IsWithin most_bad run.counts.bad) }
     ensures too_many { IfErr result (λ fault. OnBadOne fault (λ line. Told (L.folder logs.new) (λ folder. AreKept (delimited_lines options) waits spans.now folder
         → IsTooMany most_bad 0 (spans_bad_lines (delimited_lines options) waits folder spans.now) line))) }
-    // An output that is refused once the last row is there is refused behind all bad lines.
-    ensures early { IfErr result (λ fault. OnRefusedOne fault (λ why. Told (L.folder logs.new) (λ folder. AreKept (delimited_lines options) waits spans.now folder
-        → IsUnplacedEarly (rules_of limit pattern.now moment.seconds (query_of query.now) (asked_by (files_for into) (wanted_text wanted moment.seconds) (query_of query.now))) (past_of (delimited_lines options) waits folder spans.now) why ⊎ IsWithin most_bad (length (spans_bad (delimited_lines options) waits folder spans.now))))) }
-    ensures took { OnOk result (waits ≡ true → Told (L.folder logs.new) (λ folder. AreKept (delimited_lines options) true spans.now folder
-        → took.new ≡ took.old ++ map (took_of (delimited_lines options) folder) spans.now)) }
+    // Of two faults the one that comes first is told: the sample is read before the query is planned, and each row put behind its line.
+    ensures in_turn { IfErr result (λ fault. Told (L.folder logs.new) (λ folder. AreKept (delimited_lines options) waits spans.now folder
+        → ComesInTurn (rules_of limit pattern.now moment.seconds (query_of query.now) (asked_by (files_for into) (wanted_text wanted moment.seconds) (query_of query.now))) stage.old (past_of (delimited_lines options) waits folder spans.now) most_bad (delimited_lines options) waits folder spans.now fault stage.new)) }
+    ensures took { OnOk result (Told (L.folder logs.new) (λ folder. AreKept (delimited_lines options) waits spans.now folder
+        → took.new ≡ took.old ++ map (took_of (delimited_lines options) waits folder) spans.now)) }
     ensures given { L.given logs.new ≤ L.given logs.old + spans_size spans.now }
     ensures later_logs { L.faults logs.old ≤ L.faults logs.new }
     ensures logs { IsErrOf result SampleFault.Logs → Rose (L.faults logs.old) (L.faults logs.new) }

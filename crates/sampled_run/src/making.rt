@@ -1,5 +1,5 @@
 // The writer of a query's rows, made once the logs have told their columns.
-ghost use Rattle.std.specs.Prelude.{◌≡◌, true, Ok, None, IfOk, IfErr};
+ghost use Rattle.std.specs.Prelude.{◌≡◌, true, false, Ok, None, IfOk, IfErr};
 ghost use Rattle.any_format.specs.Wanted.{IsMoment, wanted_text};
 ghost use Rattle.query_tree.specs.Views.{query_of};
 ghost use Rattle.query_types.specs.Built.{is_built};
@@ -19,8 +19,9 @@ use lp_outside::Stage;
 use lp_time::Pattern;
 use query_run::Writer;
 use query_tree::Query;
-use query_types::{TypeFault, plan};
+use query_types::TypeFault;
 use row_output::Into;
+use row_planning::plan;
 use sampled_table::SampledPicker;
 use std::alloc::Global;
 
@@ -76,6 +77,7 @@ fn writer_over<'a>(
     ensures picker { IfOk result (λ writer. writer.picker ≡ picker.entry) }
     ensures taken { IfOk result (λ writer. writer.taken ≡ 0) }
     ensures refused { IfOk result (λ writer. writer.refused ≡ None) }
+    ensures opened { IfOk result (λ writer. writer.opened ≡ false) }
     ensures fault { IfErr result (λ unmade. unmade ≡ Unmade.Memory) }
 {
     match output_of_rows(alloc, wanted, moment, into, query, &picker.ready.plan) {

@@ -1,20 +1,22 @@
 // A query over logs whose columns they tell, by any reader of their format.
-ghost use Rattle.std.specs.Prelude.{◌≡◌, ◌⊎◌, ◌≤◌, ◌+◌, ◌++◌, true, [], length, map, None, OnOk, IfOk, IfErr, IsErrOf};
+ghost use Rattle.std.specs.Prelude.{◌≡◌, ◌≤◌, ◌+◌, ◌++◌, true, length, map, OnOk, IfOk, IfErr, IsErrOf};
 ghost use Rattle.lp_model.specs.Outside.{Rose, OnlyGrow, Told};
 ghost use Rattle.log_reading.specs.Page.{IsTooMany, IsWithin};
-ghost use Rattle.log_reading.specs.Spans.{AllSpans, AreReadable, AreKept, IsSpan, spans_bad, spans_bad_lines, spans_size, took_of};
+ghost use Rattle.log_reading.specs.Spans.{AllSpans, AreReadable, AreKept, IsSpan, spans_bad_lines, spans_size, took_of};
 ghost use Rattle.any_format.specs.Wanted.{IsMoment, wanted_text};
 ghost use Rattle.text_output.specs.Output.{kind_of};
 ghost use Rattle.row_output.specs.Sinks.{IsUnplaced, files_for};
 ghost use Rattle.query_tree.specs.Views.{query_of};
 ghost use Rattle.query_types.specs.Built.{is_built};
+ghost use Rattle.column_kinds.specs.Past.{nothing};
 ghost use Rattle.column_kinds.specs.Spans.{past_behind};
 ghost use Rattle.sampled_run.specs.Fresh.{IsFresh};
 ghost use Rattle.sampled_run.specs.Read.{HasRead};
 ghost use Rattle.sampled_run.specs.Finishes.{asked_by};
 ghost use Rattle.sampled_run.specs.Rules.{rules_of};
 ghost use Rattle.sampled_run.specs.Kinds.{writer_kind};
-ghost use Rattle.sampled_run.specs.Ran.{IsSampled, IsStoppedBy, IsUnplacedEarly, OnBadOne, OnRefusedOne, fault_in, read_fault};
+ghost use Rattle.sampled_run.specs.Ran.{IsSampled, IsStoppedBy, OnBadOne, fault_in, read_fault};
+ghost use Rattle.sampled_run.specs.InTurn.{ComesInTurn};
 
 use crate::ending::{finish_run, why_refused};
 use crate::fault::refused_in;
@@ -143,14 +145,14 @@ fn read_page<'a, R: LineReader, L: LogSource, G: Stage>(
     ensures goes_logs { L.goes logs.old logs.new }
     ensures read { IfOk result (HasRead (writer_kind (kind_of G.state G.ended)) (R.format reader.now) waits (L.folder logs.new) spans.now limit pattern.now moment.seconds (query_of query.now) wanted into stage.old stage.new) }
     ensures stopped { IfErr result (λ fault. Told (L.folder logs.new) (λ folder. AreKept (R.format reader.now) waits spans.now folder
-        → IsStoppedBy (kind_of G.state G.ended) (rules_of limit pattern.now moment.seconds (query_of query.now) (asked_by (files_for into) (wanted_text wanted moment.seconds) (query_of query.now))) stage.old (past_behind (R.format reader.now) waits folder (record { first = None; founds = [] }) spans.now) fault stage.new)) }
+        → IsStoppedBy (kind_of G.state G.ended) (rules_of limit pattern.now moment.seconds (query_of query.now) (asked_by (files_for into) (wanted_text wanted moment.seconds) (query_of query.now))) stage.old (past_behind (R.format reader.now) waits folder nothing spans.now) fault stage.new)) }
     ensures within { IfOk result (λ page. IsWithin most_bad page.bad) }
     ensures too_many { IfErr result (λ fault. OnBadOne fault (λ line. Told (L.folder logs.new) (λ folder. AreKept (R.format reader.now) waits spans.now folder
         → IsTooMany most_bad 0 (spans_bad_lines (R.format reader.now) waits folder spans.now) line))) }
-    ensures early { IfErr result (λ fault. OnRefusedOne fault (λ why. Told (L.folder logs.new) (λ folder. AreKept (R.format reader.now) waits spans.now folder
-        → IsUnplacedEarly (rules_of limit pattern.now moment.seconds (query_of query.now) (asked_by (files_for into) (wanted_text wanted moment.seconds) (query_of query.now))) (past_behind (R.format reader.now) waits folder (record { first = None; founds = [] }) spans.now) why ⊎ IsWithin most_bad (length (spans_bad (R.format reader.now) waits folder spans.now))))) }
-    ensures took { OnOk result (waits ≡ true → Told (L.folder logs.new) (λ folder. AreKept (R.format reader.now) true spans.now folder
-        → took.new ≡ took.old ++ map (took_of (R.format reader.now) folder) spans.now)) }
+    ensures in_turn { IfErr result (λ fault. Told (L.folder logs.new) (λ folder. AreKept (R.format reader.now) waits spans.now folder
+        → ComesInTurn (rules_of limit pattern.now moment.seconds (query_of query.now) (asked_by (files_for into) (wanted_text wanted moment.seconds) (query_of query.now))) stage.old (past_behind (R.format reader.now) waits folder nothing spans.now) most_bad (R.format reader.now) waits folder spans.now fault stage.new)) }
+    ensures took { OnOk result (Told (L.folder logs.new) (λ folder. AreKept (R.format reader.now) waits spans.now folder
+        → took.new ≡ took.old ++ map (took_of (R.format reader.now) waits folder) spans.now)) }
     ensures given { L.given logs.new ≤ L.given logs.old + spans_size spans.now }
     ensures later_logs { L.faults logs.old ≤ L.faults logs.new }
     ensures logs { IsErrOf result SampleFault.Logs → Rose (L.faults logs.old) (L.faults logs.new) }
@@ -199,16 +201,17 @@ pub(crate) fn sample_reader<'a, R: LineReader, L: LogSource, G: Stage>(
     ensures grows { OnlyGrow (L.folder logs.old) (L.folder logs.new) }
     ensures goes_logs { L.goes logs.old logs.new }
     ensures ran { IfOk result (λ run. Told (L.folder logs.new) (λ folder. AreKept (R.format reader.now) waits spans.now folder
-        → IsSampled (kind_of G.state G.ended) (rules_of limit pattern.now moment.seconds (query_of query.now) (asked_by (files_for into) (wanted_text wanted moment.seconds) (query_of query.now))) stage.old (past_behind (R.format reader.now) waits folder (record { first = None; founds = [] }) spans.now) (R.format reader.now) waits folder spans.now run stage.new)) }
+        → IsSampled (kind_of G.state G.ended) (rules_of limit pattern.now moment.seconds (query_of query.now) (asked_by (files_for into) (wanted_text wanted moment.seconds) (query_of query.now))) stage.old (past_behind (R.format reader.now) waits folder nothing spans.now) (R.format reader.now) waits folder spans.now run stage.new)) }
     ensures stopped { IfErr result (λ fault. Told (L.folder logs.new) (λ folder. AreKept (R.format reader.now) waits spans.now folder
-        → IsStoppedBy (kind_of G.state G.ended) (rules_of limit pattern.now moment.seconds (query_of query.now) (asked_by (files_for into) (wanted_text wanted moment.seconds) (query_of query.now))) stage.old (past_behind (R.format reader.now) waits folder (record { first = None; founds = [] }) spans.now) fault stage.new)) }
+        → IsStoppedBy (kind_of G.state G.ended) (rules_of limit pattern.now moment.seconds (query_of query.now) (asked_by (files_for into) (wanted_text wanted moment.seconds) (query_of query.now))) stage.old (past_behind (R.format reader.now) waits folder nothing spans.now) fault stage.new)) }
     ensures within { IfOk result (λ run. IsWithin most_bad run.counts.bad) }
     ensures too_many { IfErr result (λ fault. OnBadOne fault (λ line. Told (L.folder logs.new) (λ folder. AreKept (R.format reader.now) waits spans.now folder
         → IsTooMany most_bad 0 (spans_bad_lines (R.format reader.now) waits folder spans.now) line))) }
-    ensures early { IfErr result (λ fault. OnRefusedOne fault (λ why. Told (L.folder logs.new) (λ folder. AreKept (R.format reader.now) waits spans.now folder
-        → IsUnplacedEarly (rules_of limit pattern.now moment.seconds (query_of query.now) (asked_by (files_for into) (wanted_text wanted moment.seconds) (query_of query.now))) (past_behind (R.format reader.now) waits folder (record { first = None; founds = [] }) spans.now) why ⊎ IsWithin most_bad (length (spans_bad (R.format reader.now) waits folder spans.now))))) }
-    ensures took { OnOk result (waits ≡ true → Told (L.folder logs.new) (λ folder. AreKept (R.format reader.now) true spans.now folder
-        → took.new ≡ took.old ++ map (took_of (R.format reader.now) folder) spans.now)) }
+    // Of two faults the one that comes first is told: the sample is read before the query is planned, and each row put behind its line.
+    ensures in_turn { IfErr result (λ fault. Told (L.folder logs.new) (λ folder. AreKept (R.format reader.now) waits spans.now folder
+        → ComesInTurn (rules_of limit pattern.now moment.seconds (query_of query.now) (asked_by (files_for into) (wanted_text wanted moment.seconds) (query_of query.now))) stage.old (past_behind (R.format reader.now) waits folder nothing spans.now) most_bad (R.format reader.now) waits folder spans.now fault stage.new)) }
+    ensures took { OnOk result (Told (L.folder logs.new) (λ folder. AreKept (R.format reader.now) waits spans.now folder
+        → took.new ≡ took.old ++ map (took_of (R.format reader.now) waits folder) spans.now)) }
     ensures given { L.given logs.new ≤ L.given logs.old + spans_size spans.now }
     ensures later_logs { L.faults logs.old ≤ L.faults logs.new }
     ensures logs { IsErrOf result SampleFault.Logs → Rose (L.faults logs.old) (L.faults logs.new) }

@@ -11,11 +11,12 @@ ghost use Rattle.seating.specs.GroupPlans.{grouped_in, groups_of, groups_planned
 use crate::gathering::{Aggregate, aggregates_of};
 use crate::plan::GroupPlan;
 use crate::seating::{seat, seat_all, seat_maybe};
+use column_naming::{add_aliases, item_names};
 use lp_values::{AggList, TextList, Value};
 use query_tree::Query;
 use query_types::{
     AliasList, Condition, GroupShape, KindList, MeaningList, PlaceList, Plan, TableColumns,
-    UsedList, add_aliases, item_names, used_columns,
+    UsedList, used_columns,
 };
 use senses::{SenseClauses, SenseForm, kinds_of_senses};
 use std::alloc::{AllocError, Global};

@@ -9,4 +9,5 @@ pub mod Split
 pub mod Steps
 pub use Rattle.execution.proofs.FormatLemmas
 pub use Rattle.execution.proofs.AtOnce
+pub use Rattle.execution.proofs.InTurns
 pub use Rattle.list_run.proofs.Alike

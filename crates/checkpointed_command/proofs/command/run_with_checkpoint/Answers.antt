@@ -3,7 +3,7 @@ use Rattle.std.specs.Prelude.{codes}
 use Rattle.std.proofs.lemmas.Int.{to_z-of_z}
 use Rattle.lp_model.proofs.Growing.{OnlyGrow-trans}
 use Rattle.query_tree.specs.Views.{query_of}
-use Rattle.checkpointed_command.proofs.Commanding.{mild_asking, refused_asking, refused_settled, settled_by, unsettled_ends, whole_settled}
+use Rattle.checkpointed_command.proofs.Commanding.{mild_asking, refused_asking, refused_settled, settled_by, since_as, unsettled_ends, whole_settled}
 use Rattle.checkpointed_command.proofs.Files.{near_as, undamaged_as}
 use Rattle.checkpointed_command.proofs.Stepping.{steps_refused}
 use Rattle.checkpointed_command.proofs.command.run_with_checkpoint.Goals as goal
@@ -50,10 +50,9 @@ returns-clause-step g c =
     let ledger = c.args.ledger.now in
     let stage = c.args.ledger.now ++ codes ".stage" in
     let files = c.files_of.result in
+    let known = since_as g.D.Disk.state c.args.disk.now c.settle_ledger.new.disk files.ledger files.stage ledger stage c.in-Ok.known c.files_of.ensures.ledger c.files_of.ensures.stage c.in-Ok.ensures.since in
     let step = simp to_z-of_z at c.run_query-counted.ensures.step in
-    step c.args.disk.now (g.L.Logs.folder c.args.logs.now)
-    (near_as (g.D.Disk.state c.args.disk.now) (g.D.Disk.state c.settle_ledger.new.disk) files.ledger files.stage ledger stage c.files_of.ensures.ledger c.files_of.ensures.stage c.settle_ledger.ensures.settles)
-    c.ask_query.ensures.grows c.in-Ok-ask_query.ensures.query
+    step known.settled known.since c.args.disk.now (g.L.Logs.folder c.args.logs.now) known.by.settles c.ask_query.ensures.grows c.in-Ok-ask_query.ensures.query
 
 pub returns-clause-refused : goal.returns-clause-refused
 returns-clause-refused g c =
@@ -61,10 +60,10 @@ returns-clause-refused g c =
     let ledger = c.args.ledger.now in
     let stage = c.args.ledger.now ++ codes ".stage" in
     let files = c.files_of.result in
-    refused_settled g.D.Disk.state c.args.disk.now c.settle_ledger.new.disk ledger stage (g.L.Logs.folder c.args.logs.now) (g.L.Logs.folder c.ask_query.new.logs) (g.L.Logs.folder c.run_query-counted.new.logs) c.args.spec.now c.args.moment
-    c.in-Ok-ask_query.written.text (query_of c.in-Ok-ask_query.written.query) c.run_query-counted.result
-    (settled_by (g.D.Disk.state c.args.disk.now) (g.D.Disk.state c.settle_ledger.new.disk) files.ledger files.stage ledger stage c.files_of.ensures.ledger c.files_of.ensures.stage c.settle_ledger.ensures.settles c.in-Ok.ensures.fits c.in-Ok.ensures.keeps c.in-Ok.ensures.tells)
-    c.ask_query.ensures.grows c.in-Ok-ask_query.ensures.query (simp to_z-of_z at c.run_query-counted.ensures.refused)
+    let known = since_as g.D.Disk.state c.args.disk.now c.settle_ledger.new.disk files.ledger files.stage ledger stage c.in-Ok.known c.files_of.ensures.ledger c.files_of.ensures.stage c.in-Ok.ensures.since in
+    let refused = simp to_z-of_z at c.run_query-counted.ensures.refused in
+    refused_settled g.D.Disk.state c.args.disk.now known.settled ledger stage (g.L.Logs.folder c.args.logs.now) (g.L.Logs.folder c.ask_query.new.logs) (g.L.Logs.folder c.run_query-counted.new.logs) c.args.spec.now c.args.moment
+    c.in-Ok-ask_query.written.text (query_of c.in-Ok-ask_query.written.query) c.run_query-counted.result known.by c.ask_query.ensures.grows c.in-Ok-ask_query.ensures.query (refused known.settled known.since)
 
 pub returns-clause-whole : goal.returns-clause-whole
 returns-clause-whole g c =
@@ -72,18 +71,19 @@ returns-clause-whole g c =
     let ledger = c.args.ledger.now in
     let stage = c.args.ledger.now ++ codes ".stage" in
     let files = c.files_of.result in
-    whole_settled g.D.Disk.state c.args.disk.now c.settle_ledger.new.disk ledger stage (g.L.Logs.folder c.args.logs.now) (g.L.Logs.folder c.ask_query.new.logs) (g.L.Logs.folder c.run_query-counted.new.logs) c.args.spec.now c.args.moment
-    c.in-Ok-ask_query.written.text (query_of c.in-Ok-ask_query.written.query) c.run_query-counted.result
-    (settled_by (g.D.Disk.state c.args.disk.now) (g.D.Disk.state c.settle_ledger.new.disk) files.ledger files.stage ledger stage c.files_of.ensures.ledger c.files_of.ensures.stage c.settle_ledger.ensures.settles c.in-Ok.ensures.fits c.in-Ok.ensures.keeps c.in-Ok.ensures.tells)
-    c.ask_query.ensures.grows c.in-Ok-ask_query.ensures.query (simp to_z-of_z at c.run_query-counted.ensures.ran)
+    let known = since_as g.D.Disk.state c.args.disk.now c.settle_ledger.new.disk files.ledger files.stage ledger stage c.in-Ok.known c.files_of.ensures.ledger c.files_of.ensures.stage c.in-Ok.ensures.since in
+    let ran = simp to_z-of_z at c.run_query-counted.ensures.ran in
+    whole_settled g.D.Disk.state c.args.disk.now known.settled ledger stage (g.L.Logs.folder c.args.logs.now) (g.L.Logs.folder c.ask_query.new.logs) (g.L.Logs.folder c.run_query-counted.new.logs) c.args.spec.now c.args.moment
+    c.in-Ok-ask_query.written.text (query_of c.in-Ok-ask_query.written.query) c.run_query-counted.result known.by c.ask_query.ensures.grows c.in-Ok-ask_query.ensures.query (ran known.settled known.since)
 
 pub returns-clause-given : goal.returns-clause-given
 returns-clause-given g c =
     let ledger = c.args.ledger.now in
     let stage = c.args.ledger.now ++ codes ".stage" in
     let files = c.files_of.result in
+    let known = since_as g.D.Disk.state c.args.disk.now c.settle_ledger.new.disk files.ledger files.stage ledger stage c.in-Ok.known c.files_of.ensures.ledger c.files_of.ensures.stage c.in-Ok.ensures.since in
     inr (
-      c.settle_ledger.new.disk,
-      settled_by (g.D.Disk.state c.args.disk.now) (g.D.Disk.state c.settle_ledger.new.disk) files.ledger files.stage ledger stage c.files_of.ensures.ledger c.files_of.ensures.stage c.settle_ledger.ensures.settles c.in-Ok.ensures.fits c.in-Ok.ensures.keeps c.in-Ok.ensures.tells,
-      c.run_query-counted.ensures.given (g.L.Logs.folder c.args.logs.now) (g.L.Logs.given c.args.logs.now) c.ask_query.ensures.grows c.in-Ok-ask_query.ensures.query c.ask_query.ensures.given,
+      known.settled,
+      known.by,
+      c.run_query-counted.ensures.given known.settled known.since (g.L.Logs.folder c.args.logs.now) (g.L.Logs.given c.args.logs.now) c.ask_query.ensures.grows c.in-Ok-ask_query.ensures.query c.ask_query.ensures.given,
     )

@@ -11,8 +11,8 @@ use Rattle.checkpointed_run.proofs.staging.stage_filled.Goals as goal
 pub returns-in-Err-clause-refused : goal.returns-in-Err-clause-refused
 returns-in-Err-clause-refused g c =
     let range : FitsSigned w64 c.args.moment = c.ranges.moment in
-    refused_for (request_of c.args.spec.now (query_of c.args.query.now) c.args.text c.args.bytes c.args.moment) (sections_in (λ t. t.value) c.args.template) _ _ c.in-Err.fault
-    (simp to_z-of_z at c.in-Err.ensures.refused) (simp to_z-of_z at c.in-Err.ensures.plan) (simp to_z-of_z at c.in-Err.ensures.parse)
+    refused_for (request_of c.args.spec.now (query_of c.args.query.now) c.args.text c.args.bytes c.args.moment) (sections_in (λ t. t.value) c.args.template) _ _ _ c.in-Err.fault
+    (simp to_z-of_z at c.in-Err.ensures.refused) (simp to_z-of_z at c.in-Err.ensures.plan) c.in-Err.ensures.plan_in_turn (simp to_z-of_z at c.in-Err.ensures.parse)
 
 pub returns-in-Ok-make_entry-clause-staged : goal.returns-in-Ok-make_entry-clause-staged
 returns-in-Ok-make_entry-clause-staged g c =
@@ -22,7 +22,7 @@ returns-in-Ok-make_entry-clause-staged g c =
       goes = c.execute.ensures.goes;
       took = c.in-Ok.ran.took;
       outputs = c.in-Ok.ran.outputs;
-      carried = record { executed = simp to_z-of_z at c.in-Ok.ensures.ran; took_is = c.in-Ok.ensures.took refl; within = c.in-Ok.ensures.within };
+      carried = record { executed = simp to_z-of_z at c.in-Ok.ensures.ran; took_is = c.in-Ok.ensures.took; within = c.in-Ok.ensures.within };
       entry_is = simp to_z-of_z at c.in-Ok-make_entry.ensures.entry ∙ (λ i. entry_for request c.args.lists c.in-Ok.ran.took c.in-Ok.ran.outputs (c.staged.ensures i) c.in-Ok.ran.counts);
       few = c.requires.few;
       parts = c.in-Ok-make_entry.ensures.parts;

@@ -1,10 +1,9 @@
 use Rattle.std.proofs.Common.{sym, ◌∙◌, ap, subst}
 use Rattle.column_kinds.specs.Sampling.{IsStop, PhaseHolds, PhaseStopped, kind_of}
 use Rattle.column_kinds.specs.Phases.{taken_in}
-use Rattle.column_kinds.specs.Laws.{phase_front}
 use Rattle.column_kinds.specs.declared.maker.Stop.{Stop}
 use Rattle.column_kinds.specs.declared.phase.Phase.{Phase}
-use Rattle.column_kinds.proofs.Beginnings.{turned, turn_stopped}
+use Rattle.column_kinds.proofs.Beginnings.{keeps_front, turned, turn_stopped}
 use Rattle.column_kinds.proofs.turning.turn.Goals as goal
 
 pub returns-in-Ok-clause-turned : goal.returns-in-Ok-clause-turned
@@ -47,7 +46,7 @@ returns-in_default-clause-stopped g c = λ rules start past later asks holds tol
     let kind = kind_of g.M.Maker.makes g.M.Maker.refuses g.T.Taker.takes g.T.Taker.stops in
     let u = c.args.out.now in
     subst (λ (p : Phase g.row.M.Denot g.row.T.Denot). PhaseStopped kind rules start later p u) (sym c.take_gathering.ensures.lost)
-    (phase_front kind (record { takes_more = g.met.T.Taker.takes_more; stops_here = g.met.T.Taker.stops_here; stops_later = g.met.T.Taker.stops_later; stops_more = g.met.T.Taker.stops_more }) rules start u past later c.args.phase.now follows holds)
+    (keeps_front kind rules start u past later c.args.phase.now holds)
 
 pub returns-in-Ok-clause-count : goal.returns-in-Ok-clause-count
 returns-in-Ok-clause-count g c =

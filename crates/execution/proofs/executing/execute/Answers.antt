@@ -14,7 +14,7 @@ use Rattle.row_output.specs.declared.fault.Refused.{Refused}
 use Rattle.execution.specs.declared.fault.Ran.{Ran}
 use Rattle.execution.specs.declared.formats.LogFormat.{LogFormat}
 use Rattle.execution.specs.declared.formats.LogFormat.TheVariants as F
-use Rattle.execution.specs.Executed.{IsExecuted, IsParseError, IsStopped, IsUnplaced, IsUnplanned, IsUntouched}
+use Rattle.execution.specs.Executed.{IsExecuted, IsNamedFirst, IsParseError, IsStopped, IsTypedInTurn, IsUnplaced, IsUnplanned, IsUntouched}
 use Rattle.execution.specs.Faults.{IfParse, IfPlan, IfRefused}
 use Rattle.execution.specs.Formats.{input_of, lines_in, log_format}
 use Rattle.execution.specs.Outputs.{asked_in}
@@ -22,6 +22,7 @@ use Rattle.execution.specs.Passing.{ReadsInPass}
 use Rattle.execution.specs.Plans.{PlannedQuery, asked_for}
 use Rattle.execution.specs.Texts.{sections_in}
 use Rattle.execution.proofs.Asking.{as_asked, stopped_at_once}
+use Rattle.execution.proofs.InTurns.{refused_each}
 use Rattle.execution.proofs.FormatLemmas.{separated}
 use Rattle.execution.proofs.OnePasses.{passed_spans}
 use Rattle.execution.proofs.executing.execute.Goals as goal
@@ -88,7 +89,7 @@ returns-in-Tabled-clause-parse g c =
     let range : FitsSigned w64 c.args.moment = c.ranges.moment in
     let told = g.L.LogSource.folder c.execute_tabled.new.logs in
     let q = query_of c.args.query.now in
-    let Of : LogFormat → (PlannedQuery → Asked) → Type 0 = λ f a. IfParse c.execute_tabled.result (λ (line : BadLine). IsParseError f c.args.waits told a c.args.spec.now c.args.moment q c.args.spans.now line) in
+    let Of : LogFormat → (PlannedQuery → Asked) → Type 0 = λ f a. IfParse c.execute_tabled.result (λ (line : BadLine). IsParseError f c.args.waits told (c.execute_tabled.new.stage ≡ c.args.stage.now) a c.args.spec.now c.args.moment q c.args.spans.now line) in
     let asked = as_asked c.args.spec.now q c.args.spans.now c.output_of.result _ c.args.moment (files_for c.in-Ok.into) (wanted_text c.wanted_as-wanted.result c.args.moment) c.in-Ok.ensures.files c.output_of.ensures (c.wanted_as-wanted.ensures c.args.moment) in
     subst (λ (a : PlannedQuery → Asked). Of (log_format c.args.spec.now q) a) asked
     (subst (λ (f : LogFormat). Of f (asked_for (files_for c.in-Ok.into) (wanted_text c.wanted_as-wanted.result c.args.moment) q)) (sym c.in-Tabled.is ∙ c.log_format.ensures) (simp to_z-of_z at c.execute_tabled.ensures.parse))
@@ -96,7 +97,7 @@ returns-in-Tabled-clause-parse g c =
 pub returns-in-Tabled-clause-took : goal.returns-in-Tabled-clause-took
 returns-in-Tabled-clause-took g c =
     let told = g.L.LogSource.folder c.execute_tabled.new.logs in
-    subst (λ (f : LogFormat). IfOk c.execute_tabled.result (λ (ran : Ran). c.args.waits ≡ true → Told told (λ folder. AreKept (lines_in f) true c.args.spans.now folder → ran.took ≡ map (took_of (lines_in f) folder) c.args.spans.now))) (sym c.in-Tabled.is ∙ c.log_format.ensures) c.execute_tabled.ensures.took
+    subst (λ (f : LogFormat). IfOk c.execute_tabled.result (λ (ran : Ran). Told told (λ folder. AreKept (lines_in f) c.args.waits c.args.spans.now folder → ran.took ≡ map (took_of (lines_in f) c.args.waits folder) c.args.spans.now))) (sym c.in-Tabled.is ∙ c.log_format.ensures) c.execute_tabled.ensures.took
 
 pub returns-in-Sampled-clause-ran : goal.returns-in-Sampled-clause-ran
 returns-in-Sampled-clause-ran g c =
@@ -150,7 +151,7 @@ returns-in-Sampled-clause-parse g c =
     let range : FitsSigned w64 c.args.moment = c.ranges.moment in
     let told = g.L.LogSource.folder c.execute_sampled.new.logs in
     let q = query_of c.args.query.now in
-    let Of : LogFormat → (PlannedQuery → Asked) → Type 0 = λ f a. IfParse c.execute_sampled.result (λ (line : BadLine). IsParseError f c.args.waits told a c.args.spec.now c.args.moment q c.args.spans.now line) in
+    let Of : LogFormat → (PlannedQuery → Asked) → Type 0 = λ f a. IfParse c.execute_sampled.result (λ (line : BadLine). IsParseError f c.args.waits told (c.execute_sampled.new.stage ≡ c.args.stage.now) a c.args.spec.now c.args.moment q c.args.spans.now line) in
     let asked = as_asked c.args.spec.now q c.args.spans.now c.output_of.result _ c.args.moment (files_for c.in-Ok.into) (wanted_text c.wanted_as-wanted.result c.args.moment) c.in-Ok.ensures.files c.output_of.ensures (c.wanted_as-wanted.ensures c.args.moment) in
     subst (λ (a : PlannedQuery → Asked). Of (log_format c.args.spec.now q) a) asked
     (subst (λ (f : LogFormat). Of f (asked_for (files_for c.in-Ok.into) (wanted_text c.wanted_as-wanted.result c.args.moment) q)) (sym c.in-Sampled.is ∙ c.log_format.ensures) (simp to_z-of_z at c.execute_sampled.ensures.parse))
@@ -158,7 +159,7 @@ returns-in-Sampled-clause-parse g c =
 pub returns-in-Sampled-clause-took : goal.returns-in-Sampled-clause-took
 returns-in-Sampled-clause-took g c =
     let told = g.L.LogSource.folder c.execute_sampled.new.logs in
-    subst (λ (f : LogFormat). IfOk c.execute_sampled.result (λ (ran : Ran). c.args.waits ≡ true → Told told (λ folder. AreKept (lines_in f) true c.args.spans.now folder → ran.took ≡ map (took_of (lines_in f) folder) c.args.spans.now))) (sym c.in-Sampled.is ∙ c.log_format.ensures) c.execute_sampled.ensures.took
+    subst (λ (f : LogFormat). IfOk c.execute_sampled.result (λ (ran : Ran). Told told (λ folder. AreKept (lines_in f) c.args.waits c.args.spans.now folder → ran.took ≡ map (took_of (lines_in f) c.args.waits folder) c.args.spans.now))) (sym c.in-Sampled.is ∙ c.log_format.ensures) c.execute_sampled.ensures.took
 
 pub returns-in_default-clause-one_pass : goal.returns-in_default-clause-one_pass
 returns-in_default-clause-one_pass g c = λ format passes. inl refl
@@ -178,3 +179,29 @@ pub returns-in-Sampled-clause-one_pass : goal.returns-in-Sampled-clause-one_pass
 returns-in-Sampled-clause-one_pass g c = λ format passes.
     let tabled : F.Sampled c.in-Sampled.options c.in-Sampled.limit ≡ F.Tabled format = sym c.in-Sampled.is ∙ (c.log_format.ensures ∙ passes.input) in
     absurd cc
+
+pub returns-in-Tabled-clause-plan_in_turn : goal.returns-in-Tabled-clause-plan_in_turn
+returns-in-Tabled-clause-plan_in_turn g c =
+    let told = g.L.LogSource.folder c.execute_tabled.new.logs in
+    subst (λ (f : LogFormat). IfPlan c.execute_tabled.result (λ (fault : TypeFault). IsTypedInTurn f c.args.waits told c.args.spec.now (query_of c.args.query.now) c.args.spans.now)) (sym c.in-Tabled.is ∙ c.log_format.ensures) c.execute_tabled.ensures.plan_in_turn
+
+pub returns-in-Sampled-clause-plan_in_turn : goal.returns-in-Sampled-clause-plan_in_turn
+returns-in-Sampled-clause-plan_in_turn g c =
+    let told = g.L.LogSource.folder c.execute_sampled.new.logs in
+    subst (λ (f : LogFormat). IfPlan c.execute_sampled.result (λ (fault : TypeFault). IsTypedInTurn f c.args.waits told c.args.spec.now (query_of c.args.query.now) c.args.spans.now)) (sym c.in-Sampled.is ∙ c.log_format.ensures) c.execute_sampled.ensures.plan_in_turn
+
+pub returns-in-Tabled-clause-unread : goal.returns-in-Tabled-clause-unread
+returns-in-Tabled-clause-unread g c =
+    let range : FitsSigned w64 c.args.moment = c.ranges.moment in
+    let q = query_of c.args.query.now in
+    let Of : LogFormat → (PlannedQuery → Asked) → Type 0 = λ f a. IfRefused c.execute_tabled.result (λ (why : Refused). IsNamedFirst f a c.args.moment q (g.L.LogSource.given c.execute_tabled.new.logs ≡ g.L.LogSource.given c.args.logs.now) why) in
+    let asked = as_asked c.args.spec.now q c.args.spans.now c.output_of.result _ c.args.moment (files_for c.in-Ok.into) (wanted_text c.wanted_as-wanted.result c.args.moment) c.in-Ok.ensures.files c.output_of.ensures (c.wanted_as-wanted.ensures c.args.moment) in
+    subst (λ (a : PlannedQuery → Asked). Of (log_format c.args.spec.now q) a) asked
+    (subst (λ (f : LogFormat). Of f (asked_for (files_for c.in-Ok.into) (wanted_text c.wanted_as-wanted.result c.args.moment) q)) (sym c.in-Tabled.is ∙ c.log_format.ensures) (simp to_z-of_z at c.execute_tabled.ensures.unread))
+
+pub returns-in-Sampled-clause-unread : goal.returns-in-Sampled-clause-unread
+returns-in-Sampled-clause-unread g c =
+    let q = query_of c.args.query.now in
+    let asked : PlannedQuery → Asked = asked_in c.args.spec.now (sections_in (λ t. t.value) c.args.template) c.args.moment q c.args.spans.now in
+    subst (λ (f : LogFormat). IfRefused c.execute_sampled.result (λ (why : Refused). IsNamedFirst f asked c.args.moment q (g.L.LogSource.given c.execute_sampled.new.logs ≡ g.L.LogSource.given c.args.logs.now) why)) (sym c.in-Sampled.is ∙ c.log_format.ensures)
+    (refused_each c.execute_sampled.result)

@@ -9,7 +9,7 @@ use Rattle.delimited_input.specs.Lines.{delimited_lines}
 use Rattle.execution.specs.Plans.{asked_for}
 use Rattle.execution.proofs.Taking.{taken}
 use Rattle.execution.proofs.Budgeting.{all_within, are_all}
-use Rattle.execution.proofs.SampledRuns.{executed, stopped, unplaced, unplaced_stopped, unplanned, untouched, refused_stopped, parse_error}
+use Rattle.execution.proofs.SampledRuns.{executed, stopped, typed_in_turn, unplaced, unplaced_stopped, unplanned, untouched, refused_stopped, parse_error}
 use Rattle.execution.proofs.sampled.execute_sampled.Goals as goal
 
 pub returns-in-Ok-clause-ran : goal.returns-in-Ok-clause-ran
@@ -55,7 +55,7 @@ returns-in-Err-Refused-clause-stopped g c =
 pub returns-in-Err-Refused-clause-refused : goal.returns-in-Err-Refused-clause-refused
 returns-in-Err-Refused-clause-refused g c =
     rw c.in-Err-Refused.field-0-is (unplaced (kind_of g.G.Stage.state g.G.Stage.ended) (g.L.LogSource.folder c.sample_query.new.logs) c.args.stage.now c.sample_query.new.stage (asked_for (files_for c.args.into) (wanted_text c.args.wanted c.args.moment.seconds) (query_of c.args.query.now)) c.args.spec.now c.args.moment.seconds (query_of c.args.query.now) c.args.options c.args.limit c.args.waits
-    c.as_slice.result.now c.args.spans.now _ c.args.budget c.as_slice.ensures c.requires.budget (rw c.in-Err-Refused.field-0-is at c.in-Err-Refused.ensures.stopped) (rw c.in-Err-Refused.field-0-is at c.in-Err-Refused.ensures.early))
+    c.as_slice.result.now c.args.spans.now _ c.args.budget c.as_slice.ensures c.requires.budget (rw c.in-Err-Refused.field-0-is at c.in-Err-Refused.ensures.stopped) (rw c.in-Err-Refused.field-0-is at c.in-Err-Refused.ensures.in_turn))
 
 pub returns-in-Err-Plan-clause-stopped : goal.returns-in-Err-Plan-clause-stopped
 returns-in-Err-Plan-clause-stopped g c =
@@ -74,5 +74,10 @@ returns-in-Err-Plan-clause-before g c =
 
 pub returns-in-Some-clause-parse : goal.returns-in-Some-clause-parse
 returns-in-Some-clause-parse g c =
-    rw c.in-Err-Bad.field-0-is (parse_error (g.L.LogSource.folder c.sample_query.new.logs) (asked_for (files_for c.args.into) (wanted_text c.args.wanted c.args.moment.seconds) (query_of c.args.query.now)) c.args.spec.now c.args.moment.seconds (query_of c.args.query.now)
-    c.args.options c.args.limit c.args.waits c.as_slice.result.now c.args.spans.now c.in-Some.field-0 c.args.budget _ c.as_slice.ensures c.in-Some.is c.requires.budget (rw c.in-Err-Bad.field-0-is at c.in-Err-Bad.ensures.too_many))
+    rw c.in-Err-Bad.field-0-is (parse_error (kind_of g.G.Stage.state g.G.Stage.ended) (g.L.LogSource.folder c.sample_query.new.logs) c.args.stage.now c.sample_query.new.stage (asked_for (files_for c.args.into) (wanted_text c.args.wanted c.args.moment.seconds) (query_of c.args.query.now)) c.args.spec.now c.args.moment.seconds (query_of c.args.query.now) c.args.options c.args.limit c.args.waits
+    c.as_slice.result.now c.args.spans.now c.in-Some.field-0 c.args.budget _ _ c.as_slice.ensures c.in-Some.is c.requires.budget (rw c.in-Err-Bad.field-0-is at c.in-Err-Bad.ensures.too_many) (rw c.in-Err-Bad.field-0-is at c.in-Err-Bad.ensures.in_turn))
+
+pub returns-in-Err-Plan-clause-plan_in_turn : goal.returns-in-Err-Plan-clause-plan_in_turn
+returns-in-Err-Plan-clause-plan_in_turn g c =
+    typed_in_turn (kind_of g.G.Stage.state g.G.Stage.ended) (g.L.LogSource.folder c.sample_query.new.logs) c.args.stage.now c.sample_query.new.stage (asked_for (files_for c.args.into) (wanted_text c.args.wanted c.args.moment.seconds) (query_of c.args.query.now)) c.args.spec.now c.args.moment.seconds (query_of c.args.query.now) c.args.options c.args.limit c.args.waits
+    c.as_slice.result.now c.args.spans.now c.in-Err-Plan.fault c.args.budget c.as_slice.ensures c.requires.budget (rw c.in-Err-Plan.field-0-is at c.in-Err-Plan.ensures.in_turn)

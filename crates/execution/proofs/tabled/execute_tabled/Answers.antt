@@ -1,4 +1,4 @@
-use Rattle.std.proofs.Common.{ℕ, ℤ, List, Option, inl, inr, refl, subst}
+use Rattle.std.proofs.Common.{ℕ, ℤ, List, Option, Err, inl, inr, refl, subst}
 use Rattle.grammar.specs.Filled.{given_bad}
 use Rattle.grammar.specs.Trees as model
 use Rattle.lp_model.proofs.Growing.{OnlyGrow-refl}
@@ -14,11 +14,15 @@ use Rattle.row_output.specs.Rows.{Holds, IsRefused, Stops}
 use Rattle.row_output.specs.Sinks.{files_for}
 use Rattle.row_output.specs.declared.into.Into.{Into}
 use Rattle.input_tables.specs.Tables.{lines_of}
+use Rattle.execution.specs.declared.fault.Ran.{Ran}
+use Rattle.execution.specs.declared.formats.LogFormat.TheVariants as F
+use Rattle.execution.specs.Executed.{IsTypedInTurn}
 use Rattle.execution.specs.Fitting.{planned_query}
 use Rattle.execution.specs.Plans.{PlannedQuery, asked_for}
 use Rattle.execution.proofs.Taking.{taken}
 use Rattle.execution.proofs.Budgeting.{all_within, are_all}
-use Rattle.execution.proofs.TabledRuns.{executed, front, parse_error, passed, unplaced}
+use Rattle.execution.proofs.InTurns.{plan_each, typed_first}
+use Rattle.execution.proofs.TabledRuns.{executed, front, named_first, parse_error, passed, unplaced}
 use Rattle.execution.proofs.tabled.execute_tabled.Goals as goal
 
 abbrev asked_with : Into → Wanted → ℤ → model.Query → PlannedQuery → Asked
@@ -76,7 +80,7 @@ pub returns-in-Err-Refused-clause-refused : goal.returns-in-Err-Refused-clause-r
 returns-in-Err-Refused-clause-refused g c =
     rw c.in-Err-Refused.field-0-is (unplaced (g.L.LogSource.folder c.carry_out.new.logs) (asked_with c.args.into c.args.wanted c.args.moment.seconds (query_of c.args.query.now)) c.args.spec.now c.args.moment.seconds (query_of c.args.query.now)
     c.args.format c.args.waits (planned_query c.in-Ok.plan) c.as_slice.result.now c.args.spans.now (asked_of c.in-Ok-output_over.output) c.args.budget c.in-Err-Refused.why c.as_slice.ensures c.in-Ok.ensures.plan c.in-Ok-output_over.ensures.asked c.requires.budget
-    (rw c.in-Err-Refused.field-0-is at c.in-Err-Refused.ensures.refused) (rw c.in-Err-Refused.field-0-is at c.in-Err-Refused.ensures.early))
+    (rw c.in-Err-Refused.field-0-is at c.in-Err-Refused.ensures.refused) (rw c.in-Err-Refused.field-0-is at c.in-Err-Refused.ensures.in_turn))
 
 pub returns-in-Some-clause-stopped : goal.returns-in-Some-clause-stopped
 returns-in-Some-clause-stopped g c = inr
@@ -86,8 +90,8 @@ returns-in-Some-clause-stopped g c = inr
 pub returns-in-Some-clause-parse : goal.returns-in-Some-clause-parse
 returns-in-Some-clause-parse g c =
     rw c.in-Err-Bad.field-0-is (parse_error (g.L.LogSource.folder c.carry_out.new.logs) (asked_with c.args.into c.args.wanted c.args.moment.seconds (query_of c.args.query.now)) c.args.spec.now c.args.moment.seconds (query_of c.args.query.now)
-    c.args.format c.args.waits (planned_query c.in-Ok.plan) c.as_slice.result.now c.args.spans.now (asked_of c.in-Ok-output_over.output) c.in-Some.field-0 c.args.budget _ c.as_slice.ensures c.in-Ok.ensures.plan c.in-Ok-output_over.ensures.asked c.in-Some.is c.requires.budget
-    (rw c.in-Err-Bad.field-0-is at c.in-Err-Bad.ensures.named) (rw c.in-Err-Bad.field-0-is at c.in-Err-Bad.ensures.too_many))
+    c.args.format c.args.waits (planned_query c.in-Ok.plan) c.as_slice.result.now c.args.spans.now (asked_of c.in-Ok-output_over.output) c.in-Some.field-0 c.args.budget _ _ c.as_slice.ensures c.in-Ok.ensures.plan c.in-Ok-output_over.ensures.asked c.in-Some.is c.requires.budget
+    (rw c.in-Err-Bad.field-0-is at c.in-Err-Bad.ensures.named) (rw c.in-Err-Bad.field-0-is at c.in-Err-Bad.ensures.too_many) (rw c.in-Err-Bad.field-0-is at c.in-Err-Bad.ensures.placed))
 
 pub returns-in-Ok-carry_out-clause-passes : goal.returns-in-Ok-carry_out-clause-passes
 returns-in-Ok-carry_out-clause-passes g c = inr
@@ -129,3 +133,15 @@ returns-in-Err-clause-passes g c = inl refl
 
 pub returns-in_default-clause-passes : goal.returns-in_default-clause-passes
 returns-in_default-clause-passes g c = inl refl
+
+pub returns-in-Err-Refused-clause-unread : goal.returns-in-Err-Refused-clause-unread
+returns-in-Err-Refused-clause-unread g c =
+    rw c.in-Err-Refused.field-0-is (named_first (asked_with c.args.into c.args.wanted c.args.moment.seconds (query_of c.args.query.now)) c.args.moment.seconds (query_of c.args.query.now) c.args.format (planned_query c.in-Ok.plan) (asked_of c.in-Ok-output_over.output) _ _
+    c.in-Ok.ensures.plan c.in-Ok-output_over.ensures.asked (rw c.in-Err-Refused.field-0-is at c.in-Err-Refused.ensures.unread))
+
+pub returns-in-Err-clause-plan_in_turn : goal.returns-in-Err-clause-plan_in_turn
+returns-in-Err-clause-plan_in_turn g c =
+    let told = g.L.LogSource.folder c.args.logs.now in
+    let q = query_of c.args.query.now in
+    let So : Type 0 = IsTypedInTurn (F.Tabled c.args.format) c.args.waits told c.args.spec.now q c.args.spans.now in
+    plan_each {T = Ran} (Err c.unplanned.result) So (typed_first told c.args.spec.now q c.args.format c.args.waits c.args.spans.now c.args.budget c.requires.budget)

@@ -10,7 +10,7 @@ use Rattle.row_output.specs.Asked.{left_of}
 use Rattle.row_output.specs.Kept.{asked_of}
 use Rattle.row_output.specs.Rows.{Holds, IsRefused, Stops}
 use Rattle.row_output.proofs.Stopping.{none_stops}
-use Rattle.query_run.specs.Faults.{OnRefusedOutput}
+use Rattle.query_run.specs.Faults.{OnBad, OnRefusedOutput}
 use Rattle.query_run.specs.declared.executing.Written.{Written}
 use Rattle.query_types.specs.Conditions.{filter_of}
 use Rattle.query_types.specs.declared.plans.Plan.{Plan}
@@ -19,6 +19,7 @@ use Rattle.input_tables.specs.Tables.{lines_of, readings_of}
 use Rattle.plan_rows.specs.Picks.{plan_picks}
 use Rattle.row_steps.specs.Grouped.{HasWidth}
 use Rattle.row_steps.specs.Widths.{plan_width}
+use Rattle.group_run.specs.InTurn.{IsReached}
 use Rattle.group_run.proofs.GroupRuns.{OnGroupRows, told_of_all, as_asked}
 use Rattle.group_run.proofs.running.group_reader.Goals as goal
 
@@ -75,6 +76,11 @@ returns-clause-early g c =
 
 pub returns-clause-took : goal.returns-clause-took
 returns-clause-took g c =
-    let Of : Format → Type 0 = λ format. OnOk c.group_spans.result (c.args.waits ≡ true → Told (g.L.LogSource.folder c.group_spans.new.logs) (λ folder. AreKept format true c.args.spans.now folder
-    → c.group_spans.new.took ≡ c.args.took.now ++ map (took_of format folder) c.args.spans.now)) in
+    let Of : Format → Type 0 = λ format. OnOk c.group_spans.result (Told (g.L.LogSource.folder c.group_spans.new.logs) (λ folder. AreKept format c.args.waits c.args.spans.now folder
+    → c.group_spans.new.took ≡ c.args.took.now ++ map (took_of format c.args.waits folder) c.args.spans.now)) in
     subst Of c.requires.reads c.group_spans.ensures.took
+
+pub returns-clause-reached : goal.returns-clause-reached
+returns-clause-reached g c =
+    let Of : Format → Type 0 = λ format. IfErr c.group_spans.result (OnBad (λ line. Told (g.L.LogSource.folder c.group_spans.new.logs) (λ folder. AreKept format c.args.waits c.args.spans.now folder → IsReached c.args.most_bad format c.args.waits folder c.args.spans.now line))) in
+    subst Of c.requires.reads c.group_spans.ensures.reached

@@ -1,4 +1,4 @@
-use Rattle.std.proofs.Common.{◌≡◌, [], Bool, List, ◌∙◌, ap, sym, subst}
+use Rattle.std.proofs.Common.{◌≡◌, [], ℕ, Bool, List, ◌∙◌, ap, sym, subst}
 use Rattle.lp_model.specs.Lines.{Line}
 use Rattle.log_reading.specs.Page.{Follows, ExceedsIn, OnBad, to_come}
 use Rattle.log_reading.proofs.Faults.{handed_on, bad_so}
@@ -17,7 +17,10 @@ pub returns-in_err-take_rest-clause-too_many : goal.returns-in_err-take_rest-cla
 returns-in_err-take_rest-clause-too_many g c =
     let page = c.args.page.now in
     let format = g.R.LineReader.format c.args.reader.now in
-    handed_on c.from_residual.result _ (λ fault. OnBad fault (λ row. ExceedsIn format (to_come c.args.waits page []) page row)) c.from_residual.ensures.1
-    (bad_so _ _ (λ row. ExceedsIn format (to_come c.args.waits page []) page row)
-    (λ row s. subst (λ (b : Bool). ExceedsIn format (to_come b page []) page row) (sym c.if-waits.false) s)
+    let identity = c.args.span.now.identity in
+    let new = c.take_rest.new.page in
+    let Q : ℕ → Type 0 = λ row. ExceedsIn g.T.Taker.takes format identity (to_come c.args.waits page []) page new c.args.out.now c.take_rest.new.out row in
+    handed_on c.from_residual.result _ (λ fault. OnBad fault Q) c.from_residual.ensures.1
+    (bad_so _ _ Q
+    (λ row s. subst (λ (b : Bool). ExceedsIn g.T.Taker.takes format identity (to_come b page []) page new c.args.out.now c.take_rest.new.out row) (sym c.if-waits.false) s)
     c.in_err-take_rest.ensures.too_many)

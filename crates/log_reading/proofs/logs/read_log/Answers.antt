@@ -74,7 +74,7 @@ pub returns-in_err-more-clause-stops : goal.returns-in_err-more-clause-stops
 returns-in_err-more-clause-stops g c = on_err _ c.from_residual.result (λ waits.
     let span = c.args.span.now in
     let here = c.in_err-more.ensures in
-    stops_behind g.T.Taker.takes g.T.Taker.stops g.met.T.Taker.stops_later (g.R.LineReader.format c.args.reader.now) span.identity waits _ _ span.name span.listed _ _ _ _ _ _ here.grows (c.log.invariant.read waits) (here.stops waits))
+    stops_behind g.T.Taker.takes g.T.Taker.stops g.met.T.Taker.stops_later (g.R.LineReader.format c.args.reader.now) span.identity waits _ _ span.name span.listed c.args.page.now c.log.page _ _ _ _ here.grows c.log.invariant.most (c.log.invariant.read waits) (here.stops waits))
 
 pub returns-in_err-more-clause-too_many : goal.returns-in_err-more-clause-too_many
 returns-in_err-more-clause-too_many g c =
@@ -83,9 +83,11 @@ returns-in_err-more-clause-too_many g c =
     let format = g.R.LineReader.format c.args.reader.now in
     let here = c.in_err-more.ensures in
     let so_far = c.log.invariant in
-    let Q : BadLine → Type 0 = λ line. (line.log ≡ span.identity) × ((waits : Bool) → ExceedsReading format waits (g.L.LogSource.folder c.read_piece.new.logs) span.name span.listed page line.row) in
+    let new = c.read_piece.new.page in
+    let Q : BadLine → Type 0 = λ line. (line.log ≡ span.identity)
+    × ((waits : Bool) → ExceedsReading g.T.Taker.takes format span.identity waits (g.L.LogSource.folder c.read_piece.new.logs) span.name span.listed page new c.args.out.now c.read_piece.new.out line.row) in
     handed_on c.from_residual.result _ (λ fault. OnBadLine fault Q) c.from_residual.ensures.1
-    (bad_line_so _ _ Q (λ line s. (s.0, λ waits. exceeds_behind g.T.Taker.takes format span.identity waits _ _ span.name span.listed page c.log.page _ _ line.row here.grows so_far.most (so_far.read waits) (s.1 waits)))
+    (bad_line_so _ _ Q (λ line s. (s.0, λ waits. exceeds_behind g.T.Taker.takes g.met.T.Taker.takes_more format span.identity waits _ _ span.name span.listed page c.log.page new _ _ _ line.row here.grows so_far.most (so_far.read waits) (s.1 waits)))
     here.too_many)
 
 pub returns-in_err-more-clause-ahead : goal.returns-in_err-more-clause-ahead

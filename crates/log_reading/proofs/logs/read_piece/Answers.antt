@@ -11,7 +11,7 @@ returns-in-Err-clause-stops g c = λ waits.
     let span = c.args.span.now in
     let page = c.args.page.now in
     let w = c.args.out.now in
-    stops_at_once g.T.Taker.takes g.T.Taker.stops g.met.T.Taker.stops_here (g.R.LineReader.format c.args.reader.now) span.identity waits _ span.name span.listed page w (g.met.T.Taker.takes_none page.taker w)
+    stops_at_once g.T.Taker.takes g.T.Taker.stops g.met.T.Taker.stops_here (g.R.LineReader.format c.args.reader.now) span.identity waits _ span.name span.listed page w (g.met.T.Taker.takes_none page.taker w) c.requires.within
 
 pub returns-in-Err-Memory-clause-stops : goal.returns-in-Err-Memory-clause-stops
 returns-in-Err-Memory-clause-stops g c = λ waits.
@@ -39,8 +39,10 @@ returns-in-Err-Bad-clause-too_many g c =
     let page = c.args.page.now in
     let format = g.R.LineReader.format c.args.reader.now in
     let folder = g.L.LogSource.folder c.read_some.new.logs in
-    subst (λ (fault : RunFault). OnBadLine fault (λ line. (line.log ≡ span.identity) × ((waits : Bool) → ExceedsReading format waits folder span.name span.listed page line.row))) (sym c.one_too_many.ensures)
-    (refl, λ waits. exceeds_in_piece format waits folder span.name span.listed page (take c.in-Ok.count c.read_some.new.chunk) _ (rw c.end-at.ensures at c.in-Ok.ensures.part) ((rw c.in-Err-Bad.field-0-is at c.in-Err-Bad.ensures.too_many) waits))
+    let new = c.take_piece.new.page in
+    subst (λ (fault : RunFault). OnBadLine fault (λ line. (line.log ≡ span.identity)
+    × ((waits : Bool) → ExceedsReading g.T.Taker.takes format span.identity waits folder span.name span.listed page new c.args.out.now c.take_piece.new.out line.row))) (sym c.one_too_many.ensures)
+    (refl, λ waits. exceeds_in_piece g.T.Taker.takes format span.identity waits folder span.name span.listed page new (take c.in-Ok.count c.read_some.new.chunk) _ _ _ (rw c.end-at.ensures at c.in-Ok.ensures.part) ((rw c.in-Err-Bad.field-0-is at c.in-Err-Bad.ensures.too_many) waits))
 
 pub returns-in_err-hand_on-in-Ok-take_piece-clause-stops : goal.returns-in_err-hand_on-in-Ok-take_piece-clause-stops
 returns-in_err-hand_on-in-Ok-take_piece-clause-stops g c = on_err _ c.from_residual.result (λ waits.
@@ -48,9 +50,9 @@ returns-in_err-hand_on-in-Ok-take_piece-clause-stops g c = on_err _ c.from_resid
     let format = g.R.LineReader.format c.args.reader.now in
     let told = g.L.LogSource.folder c.read_some.new.logs in
     let taken = c.in-Ok-take_piece.ensures in
-    stops_behind g.T.Taker.takes g.T.Taker.stops g.met.T.Taker.stops_later format span.identity waits told told span.name span.listed c.args.page.now c.take_piece.new.page c.hand_on.new.page c.args.out.now c.take_piece.new.out c.hand_on.new.out (OnlyGrow-refl told)
+    stops_behind g.T.Taker.takes g.T.Taker.stops g.met.T.Taker.stops_later format span.identity waits told told span.name span.listed c.args.page.now c.take_piece.new.page c.hand_on.new.page c.args.out.now c.take_piece.new.out c.hand_on.new.out (OnlyGrow-refl told) taken.most
     (record { bytes = take c.in-Ok.count c.read_some.new.chunk; piece = rw c.end-at.ensures at c.in-Ok.ensures.part; end = taken.end; advances = taken.advances waits })
-    (stops_on g.T.Taker.stops g.met.T.Taker.stops_more format span.identity waits told span.name span.listed c.take_piece.new.page c.hand_on.new.page c.take_piece.new.out c.hand_on.new.out c.in_err-hand_on-in-Ok-take_piece.ensures.stops))
+    (stops_on g.T.Taker.stops format span.identity waits told span.name span.listed c.take_piece.new.page c.hand_on.new.page c.take_piece.new.out c.hand_on.new.out taken.within c.in_err-hand_on-in-Ok-take_piece.ensures.stops))
 
 pub returns-in_ok-hand_on-in-Ok-take_piece-clause-read : goal.returns-in_ok-hand_on-in-Ok-take_piece-clause-read
 returns-in_ok-hand_on-in-Ok-take_piece-clause-read g c = λ waits.

@@ -1,26 +1,27 @@
-use Rattle.std.proofs.Common.{◌≡◌, [], length, ap, refl, sym, arith, subst, Bool, true}
-use Rattle.log_reading.specs.Page.{Follows, IsTooMany, to_come}
+use Rattle.std.proofs.Common.{◌≡◌, [], ◌∷◌, length, ap, refl, sym, arith, subst, Bool, true}
+use Rattle.log_reading.specs.Page.{Follows, to_come}
 use Rattle.lp_model.proofs.Results.{on_err}
-use Rattle.log_reading.proofs.Spanning.{IsStart, told_taken, told_stopped, told_at_once, stops_at_end, told_ends, told_exceeded, told_standing, exceeds_at_end}
+use Rattle.log_reading.proofs.Spanning.{IsStart, told_taken, told_stopped, told_at_once, stops_at_end, told_ended_so, told_exceeded, told_standing, exceeds_at_end}
 use Rattle.log_reading.proofs.Ahead.{span_ahead, span_unread}
 use Rattle.log_reading.proofs.Faults.{handed_on, bad_line_so}
 use Rattle.log_reading.specs.declared.span.RunFault.{RunFault}
 use Rattle.lp_model.specs.Outside.{Told}
-use Rattle.log_reading.specs.Spans.{BadLine, OnBadLine, IsKept, bad_line, cut_of, span_bad_lines}
+use Rattle.log_reading.specs.Spans.{BadLine, OnBadLine, IsKept, bad_line, cut_of}
+use Rattle.log_reading.specs.UpTo.{TakesUpTo}
 use Rattle.log_reading.proofs.logs.read_span.Goals as goal
 
 pub returns-in_default-clause-stops : goal.returns-in_default-clause-stops
 returns-in_default-clause-stops g c =
     let page = c.args.page.now in
     let w = c.args.out.now in
-    told_at_once g.T.Taker.takes g.T.Taker.stops g.met.T.Taker.stops_here (g.R.LineReader.format c.args.reader.now) c.args.waits (g.L.LogSource.folder c.args.logs.now) c.args.span.now page c.start_log.new.page w c.start_log.ensures.taker (g.met.T.Taker.takes_none page.taker w)
+    told_at_once g.T.Taker.takes g.T.Taker.stops g.met.T.Taker.stops_here (g.R.LineReader.format c.args.reader.now) c.args.waits (g.L.LogSource.folder c.args.logs.now) c.args.span.now page c.start_log.new.page w c.start_log.ensures.taker (g.met.T.Taker.takes_none page.taker w) c.requires.within
 
 pub returns-in_err-read_log-clause-stops : goal.returns-in_err-read_log-clause-stops
 returns-in_err-read_log-clause-stops g c = on_err _ c.from_residual.result (
     let first = c.start_log.new.page in
     let began = c.in-Ok.ensures in
     let start : IsStart c.args.span.now first = record { place = began.place; left = began.left; standing = began.standing } in
-    told_stopped g.T.Taker.stops (g.R.LineReader.format c.args.reader.now) c.args.waits _ c.args.span.now c.args.page.now first _ _ _ start began.taker (c.in_err-read_log.ensures.stops c.args.waits))
+    told_stopped g.T.Taker.stops (g.R.LineReader.format c.args.reader.now) c.args.waits _ c.args.span.now c.args.page.now first _ _ _ start began.taker began.bad began.most (c.in_err-read_log.ensures.stops c.args.waits))
 
 pub returns-in-Ok-finish_log-clause-takes : goal.returns-in-Ok-finish_log-clause-takes
 returns-in-Ok-finish_log-clause-takes g c =
@@ -68,8 +69,8 @@ returns-in-Err-Memory-clause-stops g c =
     let read = c.in_ok-read_log.ensures in
     let span = c.args.span.now in
     let start : IsStart span first = record { place = began.place; left = began.left; standing = began.standing } in
-    told_stopped g.T.Taker.stops (g.R.LineReader.format c.args.reader.now) c.args.waits _ span c.args.page.now first _ _ _ start began.taker
-    (stops_at_end g.T.Taker.takes g.T.Taker.stops g.met.T.Taker.stops_later (g.R.LineReader.format c.args.reader.now) span.identity c.args.waits _ span.name span.listed first c.read_log.new.page _ _ _ _ (read.read c.args.waits) read.whole c.in-Err-Memory.ensures.stops)
+    told_stopped g.T.Taker.stops (g.R.LineReader.format c.args.reader.now) c.args.waits _ span c.args.page.now first _ _ _ start began.taker began.bad began.most
+    (stops_at_end g.T.Taker.takes g.T.Taker.stops g.met.T.Taker.stops_later (g.R.LineReader.format c.args.reader.now) span.identity c.args.waits _ span.name span.listed first c.read_log.new.page _ _ _ _ read.most (read.read c.args.waits) read.whole c.in-Err-Memory.ensures.stops)
 
 pub returns-in-Err-Failed-clause-stops : goal.returns-in-Err-Failed-clause-stops
 returns-in-Err-Failed-clause-stops g c =
@@ -78,8 +79,8 @@ returns-in-Err-Failed-clause-stops g c =
     let read = c.in_ok-read_log.ensures in
     let span = c.args.span.now in
     let start : IsStart span first = record { place = began.place; left = began.left; standing = began.standing } in
-    told_stopped g.T.Taker.stops (g.R.LineReader.format c.args.reader.now) c.args.waits _ span c.args.page.now first _ _ _ start began.taker
-    (stops_at_end g.T.Taker.takes g.T.Taker.stops g.met.T.Taker.stops_later (g.R.LineReader.format c.args.reader.now) span.identity c.args.waits _ span.name span.listed first c.read_log.new.page _ _ _ _ (read.read c.args.waits) read.whole c.in-Err-Failed.ensures.stops)
+    told_stopped g.T.Taker.stops (g.R.LineReader.format c.args.reader.now) c.args.waits _ span c.args.page.now first _ _ _ start began.taker began.bad began.most
+    (stops_at_end g.T.Taker.takes g.T.Taker.stops g.met.T.Taker.stops_later (g.R.LineReader.format c.args.reader.now) span.identity c.args.waits _ span.name span.listed first c.read_log.new.page _ _ _ _ read.most (read.read c.args.waits) read.whole c.in-Err-Failed.ensures.stops)
 
 pub returns-in-Err-Stopped-clause-stops : goal.returns-in-Err-Stopped-clause-stops
 returns-in-Err-Stopped-clause-stops g c =
@@ -88,8 +89,8 @@ returns-in-Err-Stopped-clause-stops g c =
     let read = c.in_ok-read_log.ensures in
     let span = c.args.span.now in
     let start : IsStart span first = record { place = began.place; left = began.left; standing = began.standing } in
-    told_stopped g.T.Taker.stops (g.R.LineReader.format c.args.reader.now) c.args.waits _ span c.args.page.now first _ _ _ start began.taker
-    (stops_at_end g.T.Taker.takes g.T.Taker.stops g.met.T.Taker.stops_later (g.R.LineReader.format c.args.reader.now) span.identity c.args.waits _ span.name span.listed first c.read_log.new.page _ _ _ _ (read.read c.args.waits) read.whole c.in-Err-Stopped.ensures.stops)
+    told_stopped g.T.Taker.stops (g.R.LineReader.format c.args.reader.now) c.args.waits _ span c.args.page.now first _ _ _ start began.taker began.bad began.most
+    (stops_at_end g.T.Taker.takes g.T.Taker.stops g.met.T.Taker.stops_later (g.R.LineReader.format c.args.reader.now) span.identity c.args.waits _ span.name span.listed first c.read_log.new.page _ _ _ _ read.most (read.read c.args.waits) read.whole c.in-Err-Stopped.ensures.stops)
 
 pub returns-in-Err-Bad-clause-stops : goal.returns-in-Err-Bad-clause-stops
 returns-in-Err-Bad-clause-stops g c =
@@ -98,19 +99,17 @@ returns-in-Err-Bad-clause-stops g c =
     let read = c.in_ok-read_log.ensures in
     let span = c.args.span.now in
     let start : IsStart span first = record { place = began.place; left = began.left; standing = began.standing } in
-    told_stopped g.T.Taker.stops (g.R.LineReader.format c.args.reader.now) c.args.waits _ span c.args.page.now first _ _ _ start began.taker
-    (stops_at_end g.T.Taker.takes g.T.Taker.stops g.met.T.Taker.stops_later (g.R.LineReader.format c.args.reader.now) span.identity c.args.waits _ span.name span.listed first c.read_log.new.page _ _ _ _ (read.read c.args.waits) read.whole c.in-Err-Bad.ensures.stops)
+    told_stopped g.T.Taker.stops (g.R.LineReader.format c.args.reader.now) c.args.waits _ span c.args.page.now first _ _ _ start began.taker began.bad began.most
+    (stops_at_end g.T.Taker.takes g.T.Taker.stops g.met.T.Taker.stops_later (g.R.LineReader.format c.args.reader.now) span.identity c.args.waits _ span.name span.listed first c.read_log.new.page _ _ _ _ read.most (read.read c.args.waits) read.whole c.in-Err-Bad.ensures.stops)
 
 pub returns-in-Ok-finish_log-clause-ends : goal.returns-in-Ok-finish_log-clause-ends
-returns-in-Ok-finish_log-clause-ends g c = λ waits.
+returns-in-Ok-finish_log-clause-ends g c =
     let first = c.start_log.new.page in
     let began = c.in-Ok.ensures in
     let read = c.in_ok-read_log.ensures in
     let done = c.in-Ok-finish_log.ensures in
-    let format = g.R.LineReader.format c.args.reader.now in
     let start : IsStart c.args.span.now first = record { place = began.place; left = began.left; standing = began.standing } in
-    let Of : Bool → Type 0 = λ b. Follows g.T.Taker.takes format c.args.span.now.identity (to_come b c.read_log.new.page []) c.read_log.new.page c.finish_log.new.page c.read_log.new.out c.finish_log.new.out in
-    told_ends g.T.Taker.takes g.met.T.Taker.takes_more format _ c.args.span.now first c.read_log.new.page c.finish_log.new.page _ _ _ start (read.read true) read.whole read.last (done.place waits) (subst Of waits done.takes)
+    told_ended_so g.T.Taker.takes g.met.T.Taker.takes_more (g.R.LineReader.format c.args.reader.now) c.args.waits _ c.args.span.now first c.read_log.new.page c.finish_log.new.page _ _ _ start (read.read c.args.waits) read.whole read.last done.place done.end done.takes
 
 pub returns-in_err-read_log-clause-too_many : goal.returns-in_err-read_log-clause-too_many
 returns-in_err-read_log-clause-too_many g c =
@@ -118,12 +117,13 @@ returns-in_err-read_log-clause-too_many g c =
     let began = c.in-Ok.ensures in
     let span = c.args.span.now in
     let page = c.args.page.now in
+    let new = c.read_log.new.page in
     let format = g.R.LineReader.format c.args.reader.now in
     let folder = g.L.LogSource.folder c.read_log.new.logs in
     let start : IsStart span first = record { place = began.place; left = began.left; standing = began.standing } in
-    let Q : BadLine → Type 0 = λ line. Told folder (λ folder. IsKept format c.args.waits (cut_of folder span) span → IsTooMany page.most_bad page.bad (span_bad_lines format c.args.waits folder span) line) in
+    let Q : BadLine → Type 0 = λ line. Told folder (λ folder. IsKept format c.args.waits (cut_of folder span) span → TakesUpTo g.T.Taker.takes format c.args.waits folder (span ∷ []) line page new c.args.out.now c.read_log.new.out) in
     handed_on c.from_residual.result _ (λ fault. OnBadLine fault Q) c.from_residual.ensures.1
-    (bad_line_so _ _ Q (λ line s. told_exceeded format c.args.waits folder span page first line start began.bad began.most s.0 (s.1 c.args.waits))
+    (bad_line_so _ _ Q (λ line s. told_exceeded g.T.Taker.takes format c.args.waits folder span page first new _ _ line start began.taker began.bad began.most s.0 (s.1 c.args.waits))
     c.in_err-read_log.ensures.too_many)
 
 pub returns-in-Err-Bad-clause-too_many : goal.returns-in-Err-Bad-clause-too_many
@@ -133,13 +133,14 @@ returns-in-Err-Bad-clause-too_many g c =
     let read = c.in_ok-read_log.ensures in
     let span = c.args.span.now in
     let page = c.args.page.now in
+    let new = c.finish_log.new.page in
     let format = g.R.LineReader.format c.args.reader.now in
     let folder = g.L.LogSource.folder c.read_log.new.logs in
     let start : IsStart span first = record { place = began.place; left = began.left; standing = began.standing } in
-    let Q : BadLine → Type 0 = λ line. Told folder (λ folder. IsKept format c.args.waits (cut_of folder span) span → IsTooMany page.most_bad page.bad (span_bad_lines format c.args.waits folder span) line) in
+    let Q : BadLine → Type 0 = λ line. Told folder (λ folder. IsKept format c.args.waits (cut_of folder span) span → TakesUpTo g.T.Taker.takes format c.args.waits folder (span ∷ []) line page new c.args.out.now c.finish_log.new.out) in
     subst (λ (fault : RunFault). OnBadLine fault Q) (sym c.one_too_many.ensures)
-    (told_exceeded format c.args.waits folder span page first (bad_line span.identity _) start began.bad began.most refl
-    (exceeds_at_end g.T.Taker.takes format span.identity c.args.waits folder span.name span.listed first c.read_log.new.page _ _ _ read.most (read.read c.args.waits) read.whole (rw c.in-Err-Bad.field-0-is at c.in-Err-Bad.ensures.too_many)))
+    (told_exceeded g.T.Taker.takes format c.args.waits folder span page first new _ _ (bad_line span.identity _) start began.taker began.bad began.most refl
+    (exceeds_at_end g.T.Taker.takes g.met.T.Taker.takes_more format span.identity c.args.waits folder span.name span.listed first c.read_log.new.page new _ _ _ _ read.most (read.read c.args.waits) read.whole (rw c.in-Err-Bad.field-0-is at c.in-Err-Bad.ensures.too_many)))
 
 pub returns-in-Ok-finish_log-clause-standing : goal.returns-in-Ok-finish_log-clause-standing
 returns-in-Ok-finish_log-clause-standing g c =

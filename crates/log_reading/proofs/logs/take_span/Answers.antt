@@ -6,7 +6,7 @@ use Rattle.log_reading.proofs.logs.take_span.Goals as goal
 
 pub returns-in_err-read_span-clause-stops : goal.returns-in_err-read_span-clause-stops
 returns-in_err-read_span-clause-stops g c = on_err _ c.from_residual.result
-    (told_in_rows g.T.Taker.stops g.met.T.Taker.stops_more (g.R.LineReader.format c.args.reader.now) c.args.waits _ c.args.span.now c.args.page.now c.read_span.new.page _ _ c.in_err-read_span.ensures.stops)
+    (told_in_rows g.T.Taker.stops (g.R.LineReader.format c.args.reader.now) c.args.waits _ c.args.span.now c.args.page.now c.read_span.new.page _ _ c.in_err-read_span.ensures.stops)
 
 pub returns-in_err-read_span-clause-too_many : goal.returns-in_err-read_span-clause-too_many
 returns-in_err-read_span-clause-too_many g c = handed_on c.from_residual.result _ _ c.from_residual.ensures.1 c.in_err-read_span.ensures.too_many
@@ -15,7 +15,7 @@ pub returns-in_err-end_span-clause-stops : goal.returns-in_err-end_span-clause-s
 returns-in_err-end_span-clause-stops g c =
     let read = c.in_ok-read_span.ensures in
     on_err _ c.from_residual-in_err-end_span.result
-    (told_unended g.T.Taker.takes g.T.Taker.stops g.met.T.Taker.stops_later (g.R.LineReader.format c.args.reader.now) c.args.waits _ c.args.span.now c.args.page.now c.read_span.new.page c.end_span.new.page _ _ _ read.takes read.standing c.in_err-end_span.ensures.stops)
+    (told_unended g.T.Taker.takes g.T.Taker.stops g.met.T.Taker.stops_later (g.R.LineReader.format c.args.reader.now) c.args.waits _ c.args.span.now c.args.page.now c.read_span.new.page c.end_span.new.page _ _ _ read.takes read.standing read.most read.within c.in_err-end_span.ensures.stops)
 
 pub returns-clause-takes : goal.returns-clause-takes
 returns-clause-takes g c =

@@ -1,4 +1,4 @@
-use Rattle.std.proofs.Common.{[], Bool, ◌∙◌, refl, arith}
+use Rattle.std.proofs.Common.{[], ℕ, Bool, ◌∙◌, refl, arith}
 use Rattle.lp_model.proofs.Results.{on_err}
 use Rattle.log_reading.proofs.Advancing.{advances_none, advances_trans, stops_within, spends_trans, exceeds_within}
 use Rattle.log_reading.proofs.Faults.{handed_on, bad_so}
@@ -37,7 +37,7 @@ loop-more-preserved g c =
 
 pub returns-in_err-more-clause-stops : goal.returns-in_err-more-clause-stops
 returns-in_err-more-clause-stops g c = on_err _ c.from_residual.result (λ waits.
-    stops_within g.T.Taker.takes g.T.Taker.stops g.met.T.Taker.stops_later (g.R.LineReader.format c.args.reader.now) c.args.identity.now waits [] [] _ _ _ _ _ _ (c.loop-more.invariant.advances waits) (c.in_err-more.ensures.stops waits))
+    stops_within g.T.Taker.takes g.T.Taker.stops g.met.T.Taker.stops_later (g.R.LineReader.format c.args.reader.now) c.args.identity.now waits [] [] c.args.page.now c.loop-more.page _ _ _ _ c.loop-more.invariant.most (c.loop-more.invariant.advances waits) (c.in_err-more.ensures.stops waits))
 
 pub returns-clause-advances : goal.returns-clause-advances
 returns-clause-advances g c = λ waits.
@@ -51,7 +51,10 @@ returns-in_err-more-clause-too_many g c =
     let page = c.args.page.now in
     let format = g.R.LineReader.format c.args.reader.now in
     let so_far = c.loop-more.invariant in
-    handed_on c.from_residual.result _ (λ fault. OnBad fault (λ row. (waits : Bool) → ExceedsWithin format waits [] page row)) c.from_residual.ensures.1
-    (bad_so _ _ (λ row. (waits : Bool) → ExceedsWithin format waits [] page row)
-    (λ row s waits. exceeds_within g.T.Taker.takes format c.args.identity.now waits [] [] page c.loop-more.page _ _ row so_far.most (so_far.advances waits) (s waits))
+    let identity = c.args.identity.now in
+    let new = c.take_next.new.page in
+    let Q : ℕ → Type 0 = λ row. (waits : Bool) → ExceedsWithin g.T.Taker.takes format identity waits [] page new c.args.out.now c.take_next.new.out row in
+    handed_on c.from_residual.result _ (λ fault. OnBad fault Q) c.from_residual.ensures.1
+    (bad_so _ _ Q
+    (λ row s waits. exceeds_within g.T.Taker.takes g.met.T.Taker.takes_more format identity waits [] [] page c.loop-more.page new _ _ _ row so_far.most (so_far.advances waits) (s waits))
     c.in_err-more.ensures.too_many)

@@ -1,4 +1,4 @@
-use Rattle.std.proofs.Common.{◌≡◌, ◌⊎◌, length, ◌≤◌, ◌+◌, take, map, true, ◌++◌}
+use Rattle.std.proofs.Common.{◌≡◌, ◌⊎◌, length, ◌≤◌, ◌+◌, take, map, ◌++◌}
 use Rattle.lp_model.specs.Outside.{OnlyGrow, Told}
 use Rattle.log_reading.specs.Page.{IsWithin}
 use Rattle.log_reading.specs.Spans.{AreKept, TakesSpans, ReadsAhead, spans_size, took_of}
@@ -13,7 +13,7 @@ invariant-loop-span g l = record {
   readable : StillReadable g.L.LogSource.folder g.L.LogSource.ready l.logs l.spans l.span-index;
   takes : Told (g.L.LogSource.folder l.logs) (λ folder. AreKept (g.R.LineReader.format l.reader) l.waits (take l.span-index l.spans) folder
       → TakesSpans g.T.Taker.takes (g.R.LineReader.format l.reader) l.waits folder (take l.span-index l.spans) l.initial.page l.page l.initial.out l.out);
-  took : l.waits ≡ true → Told (g.L.LogSource.folder l.logs) (λ folder. AreKept (g.R.LineReader.format l.reader) true (take l.span-index l.spans) folder → l.took ≡ l.initial.took ++ map (took_of (g.R.LineReader.format l.reader) folder) (take l.span-index l.spans));
+  took : Told (g.L.LogSource.folder l.logs) (λ folder. AreKept (g.R.LineReader.format l.reader) l.waits (take l.span-index l.spans) folder → l.took ≡ l.initial.took ++ map (took_of (g.R.LineReader.format l.reader) l.waits folder) (take l.span-index l.spans));
   handed : g.T.Taker.handed_on l.page.taker l.out;
   ahead : (g.L.LogSource.given l.logs ≡ g.L.LogSource.given l.initial.logs) ⊎ ReadsAhead g.T.Taker.takes g.T.Taker.goes g.T.Taker.handed_on (g.R.LineReader.format l.reader) l.waits (g.L.LogSource.folder l.logs) l.spans (length l.initial.chunk) (g.L.LogSource.given l.initial.logs) (g.L.LogSource.given l.logs) l.initial.page.taker l.initial.out l.out;
   within : IsWithin l.page.most_bad l.page.bad;

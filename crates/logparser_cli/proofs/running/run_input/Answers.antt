@@ -52,7 +52,7 @@ returns-clause-answers g c = λ folder faults.
     let ends : after ≡ last.input.now = c.input-1.given.1 (sym (goes.reference ∙ c.new-log.ensures.same_reference)) ∙ c.drop.ensures in
     let run : AnswersRun (stream_world files was old) (stream_world files now new) template c.args.spec.now c.args.moment q (stopped c.is_standard.result fault) =
     stopped_answers (stream_world files was old) (stream_world files now new) files template c.args.spec.now c.args.moment q c.in-Ok.spans c.is_standard.result fault (sym c.is_standard.ensures) (from_input files files q c.in-Ok.spans c.requires.stdin c.in-Ok.ensures) (OnlyGrow-refl files)
-    (simp to_z-of_z at c.in-Err.ensures.stopped) (simp to_z-of_z at c.in-Err.ensures.plan) c.in-Err.ensures.before (simp to_z-of_z at c.in-Err.ensures.parse) (simp to_z-of_z at c.in-Err.ensures.refused)
+    (simp to_z-of_z at c.in-Err.ensures.stopped) (simp to_z-of_z at c.in-Err.ensures.plan) c.in-Err.ensures.plan_in_turn c.in-Err.ensures.before (simp to_z-of_z at c.in-Err.ensures.parse) (simp to_z-of_z at c.in-Err.ensures.refused)
     (λ e. c.in-Err.ensures.logs (ap Err e)) (λ e. subst (λ (standard : Bool). OutputRose standard (Rose old.disk_faults new.disk_faults) (Rose old.out_faults new.out_faults)) (sym c.is_standard.ensures) (c.in-Err.ensures.failed (ap Err e))) in
     let kept = folder_kept g.I.Source.left g.I.Source.given g.I.Source.faults first last c.args.input.now c.in-Err.ensures.goes_logs c.new-log.ensures.none c.new-log.ensures.zero c.new-log.ensures.fresh c.new-log.ensures.same in
     subst (λ (status : Status). AnswersInput old new template c.args.spec.now c.args.moment q status) (sym c.stopped_input.ensures)

@@ -31,7 +31,7 @@ returns-clause-answers g c =
     let template : Sections = sections_in (λ t. t.value) c.args.template in
     subst (λ (status : Status). AnswersRun old new template c.args.spec.now c.args.moment q status) (sym c.stopped.ensures)
     (stopped_answers old new (g.L.Logs.folder c.find_spans.new.logs) template c.args.spec.now c.args.moment q c.in-Ok.spans c.is_standard.result c.in-Err-write_rows.fault (sym c.is_standard.ensures) c.in-Ok.ensures.found c.in-Err-write_rows.ensures.grows
-    (simp to_z-of_z at c.in-Err-write_rows.ensures.stopped) (simp to_z-of_z at c.in-Err-write_rows.ensures.plan) c.in-Err-write_rows.ensures.before (simp to_z-of_z at c.in-Err-write_rows.ensures.parse) (simp to_z-of_z at c.in-Err-write_rows.ensures.refused)
+    (simp to_z-of_z at c.in-Err-write_rows.ensures.stopped) (simp to_z-of_z at c.in-Err-write_rows.ensures.plan) c.in-Err-write_rows.ensures.plan_in_turn c.in-Err-write_rows.ensures.before (simp to_z-of_z at c.in-Err-write_rows.ensures.parse) (simp to_z-of_z at c.in-Err-write_rows.ensures.refused)
     (λ e. rose_since _ _ _ c.in-Ok.ensures.later (c.in-Err-write_rows.ensures.logs (ap Err e))) (λ e. subst (λ (standard : Bool). OutputRose standard (Rose old.disk_faults new.disk_faults) (Rose old.out_faults new.out_faults)) (sym c.is_standard.ensures) (c.in-Err-write_rows.ensures.failed (ap Err e))))
 
 pub returns-in-Err-clause-given : goal.returns-in-Err-clause-given

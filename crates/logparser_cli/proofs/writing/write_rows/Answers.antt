@@ -8,7 +8,8 @@ use Rattle.checkpointed_command.specs.RunFault.{RunFault}
 use Rattle.checkpointed_command.specs.Outputs.{asked_in, is_standard}
 use Rattle.checkpointed_command.specs.Texts.{into_in, sections_in}
 use Rattle.logparser_cli.specs.Outputs.{HasFront, HasWritten, IsUnwritten, held}
-use Rattle.logparser_cli.proofs.Mapping.{executed_map, if_ok_map, on_err_map, stopped_map}
+use Rattle.checkpointed_command.proofs.InTurns.{exceeded_map}
+use Rattle.logparser_cli.proofs.Mapping.{executed_map, if_ok_map, if_parse_map, if_plan_map, on_err_map, stopped_map, untouched_map}
 use Rattle.logparser_cli.proofs.Written.{files_cut, files_unwritten, files_written, goes_to_files, output_cut, output_written}
 use Rattle.logparser_cli.proofs.writing.write_rows.Goals as goal
 
@@ -86,9 +87,39 @@ returns-clause-one_pass g c = λ format passes. absurd (true≢false (sym passes
 pub returns-then-is_standard-clause-parse : goal.returns-then-is_standard-clause-parse
 returns-then-is_standard-clause-parse g c =
     let range : FitsSigned w64 c.args.moment = c.ranges.moment in
-    simp to_z-of_z at c.execute.ensures.parse
+    let q = query_of c.args.query.now in
+    let asked = asked_in c.args.spec.now (sections_in (λ t. t.value) c.args.template) c.args.moment q c.args.spans.now in
+    let files = (g.D.Disk.state c.args.disk.now).seen in
+    let old = held (AlwaysTells g.D.Disk.state) files (g.S.Sink.written c.args.out.now) in
+    let new = held (AlwaysTells g.D.Disk.state) files (g.S.Sink.written c.execute.new.stage) in
+    let same : (c.execute.new.stage ≡ c.args.out.now) → IsUnwritten old new = λ same. record { out = ap g.S.Sink.written same; files = refl } in
+    if_parse_map _ _ _ (λ line e. exceeded_map (log_format c.args.spec.now q) false (g.L.LogSource.folder c.execute.new.logs) (c.execute.new.stage ≡ c.args.out.now) (IsUnwritten old new) asked c.args.spec.now c.args.moment q c.args.spans.now line same e)
+    (simp to_z-of_z at c.execute.ensures.parse)
 
 pub returns-clause-parse : goal.returns-clause-parse
 returns-clause-parse g c =
     let range : FitsSigned w64 c.args.moment = c.ranges.moment in
-    simp to_z-of_z at c.execute-2.ensures.parse
+    let q = query_of c.args.query.now in
+    let asked = asked_in c.args.spec.now (sections_in (λ t. t.value) c.args.template) c.args.moment q c.args.spans.now in
+    let out = g.S.Sink.written c.args.out.now in
+    let ends : c.execute-2.new.stage.disk.now ≡ c.disk-1.given.0 = search rules in
+    if_parse_map _ _ _ (λ line e. exceeded_map (log_format c.args.spec.now q) false (g.L.LogSource.folder c.execute-2.new.logs) (c.execute-2.new.stage ≡ c.new-stage.result) _ asked c.args.spec.now c.args.moment q c.args.spans.now line
+    (λ same. files_unwritten g.D.Disk.state c.new-stage.result c.execute-2.new.stage c.args.disk.now c.disk-1.given.0 out c.new-stage.ensures.same ends same) e)
+    (simp to_z-of_z at c.execute-2.ensures.parse)
+
+pub returns-then-is_standard-clause-before : goal.returns-then-is_standard-clause-before
+returns-then-is_standard-clause-before g c =
+    let files = (g.D.Disk.state c.args.disk.now).seen in
+    let old = held (AlwaysTells g.D.Disk.state) files (g.S.Sink.written c.args.out.now) in
+    let new = held (AlwaysTells g.D.Disk.state) files (g.S.Sink.written c.execute.new.stage) in
+    let same : (c.execute.new.stage ≡ c.args.out.now) → IsUnwritten old new = λ same. record { out = ap g.S.Sink.written same; files = refl } in
+    if_plan_map _ _ _ (λ fault is. untouched_map (log_format c.args.spec.now (query_of c.args.query.now)) false (g.L.LogSource.folder c.execute.new.logs) (c.execute.new.stage ≡ c.args.out.now) (IsUnwritten old new) c.args.spec.now c.args.spans.now same is)
+    c.execute.ensures.before
+
+pub returns-clause-before : goal.returns-clause-before
+returns-clause-before g c =
+    let out = g.S.Sink.written c.args.out.now in
+    let ends : c.execute-2.new.stage.disk.now ≡ c.disk-1.given.0 = search rules in
+    if_plan_map _ _ _ (λ fault is. untouched_map (log_format c.args.spec.now (query_of c.args.query.now)) false (g.L.LogSource.folder c.execute-2.new.logs) (c.execute-2.new.stage ≡ c.new-stage.result) _ c.args.spec.now c.args.spans.now
+    (λ same. files_unwritten g.D.Disk.state c.new-stage.result c.execute-2.new.stage c.args.disk.now c.disk-1.given.0 out c.new-stage.ensures.same ends same) is)
+    c.execute-2.ensures.before

@@ -1,18 +1,20 @@
-use Rattle.std.proofs.Common.{◌≡◌, ◌⊎◌, ◌++◌, true, map, length, IfOk, IfErr, OnOk, OnErr, inl, refl, subst}
+use Rattle.std.proofs.Common.{◌≡◌, ◌++◌, true, map, length, IfOk, IfErr, OnOk, OnErr, inl, refl, subst}
 use Rattle.lp_model.specs.Outside.{Told}
 use Rattle.lp_model.specs.Reading.{Format}
 use Rattle.lp_model.proofs.Growing.{OnlyGrow-refl}
-use Rattle.log_reading.specs.Page.{IsTooMany, IsWithin}
-use Rattle.log_reading.specs.Spans.{AreKept, spans_bad, spans_bad_lines, took_of}
+use Rattle.log_reading.specs.Page.{IsTooMany}
+use Rattle.log_reading.specs.Spans.{AreKept, spans_bad_lines, took_of}
 use Rattle.log_reading.proofs.Sizes.{has_room}
 use Rattle.text_output.specs.Output.{kind_of}
 use Rattle.row_output.specs.Asked.{left_of}
 use Rattle.row_output.specs.Kept.{asked_of}
-use Rattle.row_output.specs.Rows.{Holds, IsRefused, IsRefusedEarly, Stops}
+use Rattle.row_output.specs.Rows.{Holds, IsRefused, Stops}
 use Rattle.row_output.proofs.Stopping.{none_stops}
 use Rattle.plan_rows.specs.Picks.{plan_picks}
 use Rattle.query_run.specs.Ahead.{GoesAhead}
 use Rattle.query_run.specs.Faults.{OnBad, OnRefusedOutput}
+use Rattle.query_run.specs.InTurn.{BadInTurn, RefusedInTurn}
+use Rattle.query_run.specs.Rows.{picked}
 use Rattle.query_run.specs.declared.executing.Written.{Written}
 use Rattle.query_types.specs.Planned.{planned_in}
 use Rattle.input_tables.specs.Tables.{lines_of, readings_of}
@@ -53,11 +55,17 @@ returns-clause-refused g c =
     as_asked (λ format readings plan. IfErr c.write_spans.result (OnRefusedOutput (λ why. OnRows (g.L.LogSource.folder c.write_spans.new.logs) c.args.waits c.args.spans.now (λ rows. IsRefused (asked_of c.args.output) rows why) format readings plan)))
     (g.R.LineReader.format c.args.reader.now) (lines_of c.args.format) c.in-Ok.picker.readings (readings_of c.args.format) c.in-Ok.picker.ready.plan c.args.plan c.requires.reads c.in-Ok.ensures.readings c.in-Ok.ensures.plan c.write_spans.ensures.refused
 
-pub returns-clause-early : goal.returns-clause-early
-returns-clause-early g c =
-    let Of : Format → Type 0 = λ format. IfErr c.write_spans.result (OnRefusedOutput (λ why. Told (g.L.LogSource.folder c.write_spans.new.logs) (λ folder. AreKept format c.args.waits c.args.spans.now folder
-    → IsRefusedEarly (asked_of c.args.output) why ⊎ IsWithin c.args.most_bad (length (spans_bad format c.args.waits folder c.args.spans.now))))) in
-    subst Of c.requires.reads c.write_spans.ensures.early
+pub returns-clause-in_turn : goal.returns-clause-in_turn
+returns-clause-in_turn g c =
+    as_asked (λ format readings plan. IfErr c.write_spans.result (OnRefusedOutput (λ why. Told (g.L.LogSource.folder c.write_spans.new.logs) (λ folder. AreKept format c.args.waits c.args.spans.now folder
+    → RefusedInTurn (asked_of c.args.output) (picked (plan_picks readings plan.items plan.condition)) c.args.most_bad 0 format c.args.waits folder c.args.spans.now why))))
+    (g.R.LineReader.format c.args.reader.now) (lines_of c.args.format) c.in-Ok.picker.readings (readings_of c.args.format) c.in-Ok.picker.ready.plan c.args.plan c.requires.reads c.in-Ok.ensures.readings c.in-Ok.ensures.plan c.write_spans.ensures.in_turn
+
+pub returns-clause-placed : goal.returns-clause-placed
+returns-clause-placed g c =
+    as_asked (λ format readings plan. IfErr c.write_spans.result (OnBad (λ line. Told (g.L.LogSource.folder c.write_spans.new.logs) (λ folder. AreKept format c.args.waits c.args.spans.now folder
+    → BadInTurn (asked_of c.args.output) (picked (plan_picks readings plan.items plan.condition)) c.args.most_bad 0 format c.args.waits folder c.args.spans.now line))))
+    (g.R.LineReader.format c.args.reader.now) (lines_of c.args.format) c.in-Ok.picker.readings (readings_of c.args.format) c.in-Ok.picker.ready.plan c.args.plan c.requires.reads c.in-Ok.ensures.readings c.in-Ok.ensures.plan c.write_spans.ensures.placed
 
 pub returns-clause-too_many : goal.returns-clause-too_many
 returns-clause-too_many g c =
@@ -67,8 +75,8 @@ returns-clause-too_many g c =
 
 pub returns-clause-took : goal.returns-clause-took
 returns-clause-took g c =
-    let Of : Format → Type 0 = λ format. OnOk c.write_spans.result (c.args.waits ≡ true → Told (g.L.LogSource.folder c.write_spans.new.logs) (λ folder. AreKept format true c.args.spans.now folder
-    → c.write_spans.new.took ≡ c.args.took.now ++ map (took_of format folder) c.args.spans.now)) in
+    let Of : Format → Type 0 = λ format. OnOk c.write_spans.result (Told (g.L.LogSource.folder c.write_spans.new.logs) (λ folder. AreKept format c.args.waits c.args.spans.now folder
+    → c.write_spans.new.took ≡ c.args.took.now ++ map (took_of format c.args.waits folder) c.args.spans.now)) in
     subst Of c.requires.reads c.write_spans.ensures.took
 
 pub returns-in_default-clause-ahead : goal.returns-in_default-clause-ahead

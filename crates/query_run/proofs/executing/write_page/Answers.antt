@@ -1,21 +1,23 @@
-use Rattle.std.proofs.Common.{◌≡◌, ◌⊎◌, ℕ, List, length, Err, Option, IsSome, IfSome, inl, inr, refl, ap, sym, ◌∙◌, subst}
+use Rattle.std.proofs.Common.{◌≡◌, ◌⊎◌, [], ℕ, List, length, Err, Option, IsSome, IfSome, inl, refl, ap, sym, ◌∙◌, subst}
 use Rattle.std.proofs.lemmas.Result.{IfOk-weaker, IfErr-weaker, on_err_weaker}
 use Rattle.lp_model.specs.Outside.{Folder, Told}
 use Rattle.lp_model.proofs.Growing.{OnlyGrow-refl}
 use Rattle.lp_values.specs.declared.value.Value.{Value}
+use Rattle.log_reading.specs.Found.{Found}
 use Rattle.log_reading.specs.Page.{IsTooMany, IsWithin}
 use Rattle.log_reading.specs.Spans.{AreKept, BadLine, spans_found, spans_bad, spans_bad_lines}
 use Rattle.log_reading.proofs.Faults.{bad_line_so}
 use Rattle.text_output.specs.Output.{kind_of}
 use Rattle.row_output.specs.Asked.{left_of}
 use Rattle.row_output.specs.Kept.{asked_of}
-use Rattle.row_output.specs.Rows.{Holds, IsRefused, IsRefusedEarly, Stops}
+use Rattle.row_output.specs.Rows.{Holds, IsRefused, Stops}
 use Rattle.row_output.specs.declared.fault.Refused.{Refused}
 use Rattle.query_run.specs.Faults.{OnBad, OnRefusedOutput}
+use Rattle.query_run.specs.InTurn.{BadInTurn, RefusedInTurn}
 use Rattle.query_run.specs.Rows.{picked}
 use Rattle.query_run.specs.declared.fault.WriteFault.TheVariants as W
 use Rattle.query_run.proofs.Reasons.{bad_in, bad_so, logs_in, refused_in, refused_so}
-use Rattle.query_run.proofs.WholeRun.{told_all, told_map, stop_there, stops_in, refused_in_spans, early_in_spans, ends_with, rows_taken, bad_taken, bad_within}
+use Rattle.query_run.proofs.WholeRun.{told_all, told_both, stop_there, stops_in, refused_in_spans, turned_in_spans, placed_in_spans, last_in_turn, ends_with, rows_taken, bad_taken, bad_within}
 use Rattle.query_run.proofs.ReadAhead.{goes_ahead}
 use Rattle.query_run.proofs.executing.write_page.Goals as goal
 
@@ -48,16 +50,28 @@ returns-clause-refused g c = λ output picker first s.
     (refused_in_spans (kind_of g.G.Stage.state g.G.Stage.ended) output picker first g.P.Picker.picks format c.args.waits told c.args.spans.now
     c.args.page.now c.take_spans.new.page c.args.stage.now c.take_spans.new.out s c.in-Err.ensures.stops)))
 
-pub returns-clause-early : goal.returns-clause-early
-returns-clause-early g c = λ output picker first s.
+pub returns-clause-in_turn : goal.returns-clause-in_turn
+returns-clause-in_turn g c = λ output picker first s.
+    let page = c.args.page.now in
     let format = g.R.LineReader.format c.args.reader.now in
     let told = g.L.LogSource.folder c.take_spans.new.logs in
-    let Else : Folder → Type 0 = λ folder. IsWithin c.args.page.now.most_bad (length (spans_bad format c.args.waits folder c.args.spans.now)) in
-    let Q : Refused → Type 0 = λ why. Told told (λ folder. AreKept format c.args.waits c.args.spans.now folder → IsRefusedEarly (asked_of output) why ⊎ Else folder) in
+    let Q : Refused → Type 0 = λ why. Told told (λ folder. AreKept format c.args.waits c.args.spans.now folder → RefusedInTurn (asked_of output) (picked (g.P.Picker.picks picker)) page.most_bad 0 format c.args.waits folder c.args.spans.now why) in
     subst (OnRefusedOutput Q) (sym c.stopped_in.ensures) (refused_in c.in-Err.fault c.replace.result Q
     (subst (λ (o : Option Refused). IfSome o Q) (sym c.replace.ensures.value)
-    (early_in_spans (kind_of g.G.Stage.state g.G.Stage.ended) output picker first g.P.Picker.picks format c.args.waits told c.args.spans.now
-    c.args.page.now c.take_spans.new.page c.args.stage.now c.take_spans.new.out Else s c.in-Err.ensures.stops)))
+    (turned_in_spans (kind_of g.G.Stage.state g.G.Stage.ended) output picker first g.P.Picker.picks format c.args.waits told c.args.spans.now
+    page c.take_spans.new.page c.args.stage.now c.take_spans.new.out c.requires.bad s c.in-Err.ensures.in_turn)))
+
+pub returns-clause-placed : goal.returns-clause-placed
+returns-clause-placed g c = λ output picker first s named.
+    let page = c.args.page.now in
+    let format = g.R.LineReader.format c.args.reader.now in
+    let told = g.L.LogSource.folder c.take_spans.new.logs in
+    let Of : BadLine → Type 0 = λ line. Told told (λ folder. AreKept format c.args.waits c.args.spans.now folder → BadInTurn (asked_of output) (picked (g.P.Picker.picks picker)) page.most_bad 0 format c.args.waits folder c.args.spans.now line) in
+    subst (OnBad Of) (sym c.stopped_in.ensures) (bad_in c.in-Err.fault c.replace.result Of
+    (bad_line_so _ _ Of
+    (λ line took. placed_in_spans (kind_of g.G.Stage.state g.G.Stage.ended) output picker first g.P.Picker.picks format c.args.waits told c.args.spans.now
+    page c.take_spans.new.page c.args.stage.now c.take_spans.new.out line c.requires.bad s named took)
+    c.in-Err.ensures.behind))
 
 pub returns-clause-too_many : goal.returns-clause-too_many
 returns-clause-too_many g c =
@@ -115,18 +129,33 @@ returns-in-Ok-take_spans-clause-refused g c =
     c.args.page.now c.take_spans.new.page c.args.stage.now c.take_spans.new.out (λ asked rows. IsRefused asked rows why) s
     c.in-Ok-take_spans.ensures.takes (is first)) refused) c.end_page.ensures.refused
 
-pub returns-in-Ok-take_spans-clause-early : goal.returns-in-Ok-take_spans-clause-early
-returns-in-Ok-take_spans-clause-early g c =
+pub returns-in-Ok-take_spans-clause-in_turn : goal.returns-in-Ok-take_spans-clause-in_turn
+returns-in-Ok-take_spans-clause-in_turn g c =
     let page = c.args.page.now in
+    let kind = kind_of g.G.Stage.state g.G.Stage.ended in
     let format = g.R.LineReader.format c.args.reader.now in
     let told = g.L.LogSource.folder c.take_spans.new.logs in
     let within : IsWithin page.most_bad c.take_spans.new.page.bad = subst (λ (most : Option ℕ). IsWithin most c.take_spans.new.page.bad) c.take_spans.ensures.most c.in-Ok-take_spans.ensures.within in
-    let Within : Folder → Type 0 = λ folder. IsWithin page.most_bad (length (spans_bad format c.args.waits folder c.args.spans.now)) in
-    let all : Told told (λ folder. AreKept format c.args.waits c.args.spans.now folder → Within folder) =
+    let Within : Folder → Type 0 = λ folder. AreKept format c.args.waits c.args.spans.now folder → IsWithin page.most_bad (length (spans_bad format c.args.waits folder c.args.spans.now)) in
+    let all : Told told Within =
     bad_within _ format c.args.waits told c.args.spans.now page c.take_spans.new.page c.args.stage.now c.take_spans.new.out page.most_bad within c.requires.bad c.in-Ok-take_spans.ensures.takes in
     IfErr-weaker c.end_page.result _ _ (λ fault refused output picker first s. refused_so fault _ _ (λ why is.
-    told_map told (λ folder. AreKept format c.args.waits c.args.spans.now folder → Within folder) (λ folder. AreKept format c.args.waits c.args.spans.now folder → IsRefusedEarly (asked_of output) why ⊎ Within folder)
-    (λ folder all kept. inr (all kept)) all) refused) c.end_page.ensures.refused
+    let rows : List Found → List (List Value) = picked (g.P.Picker.picks picker) in
+    told_both told (λ folder. AreKept format c.args.waits c.args.spans.now folder → IsRefused (asked_of output) (rows (spans_found format c.args.waits folder c.args.spans.now)) why) Within
+    (λ folder. AreKept format c.args.waits c.args.spans.now folder → RefusedInTurn (asked_of output) rows page.most_bad 0 format c.args.waits folder c.args.spans.now why)
+    (λ folder refused few kept. last_in_turn (asked_of output) rows page.most_bad format c.args.waits folder c.args.spans.now why (refused kept) (few kept))
+    (ends_with kind output picker first g.P.Picker.picks format c.args.waits told c.args.spans.now
+    page c.take_spans.new.page c.args.stage.now c.take_spans.new.out (λ asked rows. IsRefused asked rows why) s
+    c.in-Ok-take_spans.ensures.takes (is first)) all) refused) c.end_page.ensures.refused
+
+pub returns-in-Ok-take_spans-clause-placed : goal.returns-in-Ok-take_spans-clause-placed
+returns-in-Ok-take_spans-clause-placed g c =
+    let page = c.args.page.now in
+    let format = g.R.LineReader.format c.args.reader.now in
+    let told = g.L.LogSource.folder c.take_spans.new.logs in
+    IfErr-weaker c.end_page.result _ _ (λ fault good output picker first s named. bad_so fault (λ line. ⊥)
+    (λ line. Told told (λ folder. AreKept format c.args.waits c.args.spans.now folder → BadInTurn (asked_of output) (picked (g.P.Picker.picks picker)) page.most_bad 0 format c.args.waits folder c.args.spans.now line))
+    (λ line none. absurd none) good) c.end_page.ensures.good
 
 pub returns-in-Ok-take_spans-clause-too_many : goal.returns-in-Ok-take_spans-clause-too_many
 returns-in-Ok-take_spans-clause-too_many g c =

@@ -12,7 +12,7 @@ use Rattle.query_types.specs.Meanings.{Answers, all_meant, case_ended, case_mean
 use Rattle.query_types.specs.Terms.{Term, term_of}
 use Rattle.query_types.proofs.Answering.{faulty, hands_on}
 use Rattle.query_types.proofs.Lists.{called_tree}
-use Rattle.query_types.proofs.Meant.{call_known, call_given, argument_step, argument_more, all_known, case_parts, case_last, ended}
+use Rattle.query_types.proofs.ExpressionsMeant.{call_known, call_given, argument_step, argument_more, all_known, case_parts, case_last, ended}
 use Rattle.query_types.proofs.expressions.+meanings.Goals as goal
 
 pub call_meant-returns-in_err-callee : goal.call_meant-returns-in_err-callee

@@ -5,7 +5,7 @@ use Rattle.query_tree.specs.declared.expression.Expr.{Expr}
 use Rattle.query_types.specs.Terms.{Term}
 use Rattle.query_types.specs.Meanings.{Answers, all_meant}
 use Rattle.query_types.proofs.Answering.{faulty, hands_on}
-use Rattle.query_types.proofs.Meant.{argument_step}
+use Rattle.query_types.proofs.ExpressionsMeant.{argument_step}
 use Rattle.query_types.proofs.ordering.order_meant.Goals as goal
 
 pub returns-in_err-meaning : goal.returns-in_err-meaning

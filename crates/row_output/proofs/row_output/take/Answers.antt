@@ -2,10 +2,11 @@ use Rattle.std.proofs.Common.{◌<◌, ◌^◌, ◌∷◌, ◌++◌, [], refl, s
 use Rattle.order_top.specs.Finish.{Row}
 use Rattle.text_output.specs.Output.{kind_of}
 use Rattle.row_output.specs.Few.{places_in}
+use Rattle.row_output.specs.Kept.{GoesPast, IsKnown}
 use Rattle.row_output.specs.declared.kept.Kept.{Kept}
 use Rattle.row_output.specs.declared.kept.Kept.TheVariants as K
 use Rattle.row_output.proofs.Early.{plain_early}
-use Rattle.row_output.proofs.KeptCalls.{plain_has, plain_little, plain_stops, plain_refuses, ordered_takes, places_taken, ordered_apart}
+use Rattle.row_output.proofs.KeptCalls.{plain_has, plain_little, plain_stops, plain_refuses, ordered_takes, places_taken, ordered_apart, lets_go, never_err}
 use Rattle.row_output.proofs.Stopping.{kept_stops}
 use Rattle.row_output.proofs.row_output.take.Goals as goal
 
@@ -30,6 +31,28 @@ returns-in-All-clause-refused g c =
 
 pub returns-in-All-clause-early : goal.returns-in-All-clause-early
 returns-in-All-clause-early g c = plain_early (kind_of g.G.Stage.state g.G.Stage.ended) c.args.kept.now c.args.order.now c.args.sink.now c.args.stage.now c.put.result c.in-All.is
+
+pub returns-in-All-clause-past : goal.returns-in-All-clause-past
+returns-in-All-clause-past g c = λ goes. absurd (subst (λ (k : Kept). GoesPast k c.args.row.now) c.in-All.is goes)
+
+pub returns-in-All-clause-known : goal.returns-in-All-clause-known
+returns-in-All-clause-known g c = λ is. absurd (subst (λ (k : Kept). IsKnown k c.args.row.now) c.in-All.is is)
+
+pub returns-in-Ok-clause-past : goal.returns-in-Ok-clause-past
+returns-in-Ok-clause-past g c = λ goes.
+    lets_go c.args.kept.now c.in-Ordered.orderer c.keep.new.orderer (λ (k : Kept). GoesPast k c.args.row.now) _ c.in-Ordered.is (λ past. c.in-Ok.ensures.past past) goes
+
+pub returns-in-Ok-clause-known : goal.returns-in-Ok-clause-known
+returns-in-Ok-clause-known g c = λ is.
+    lets_go c.args.kept.now c.in-Ordered.orderer c.keep.new.orderer (λ (k : Kept). IsKnown k c.args.row.now) _ c.in-Ordered.is (λ known. c.in-Ok.ensures.known known.0 known.1) is
+
+pub returns-in-Err-clause-past : goal.returns-in-Err-clause-past
+returns-in-Err-clause-past g c = λ goes. absurd (never_err (c.in-Err.ensures.past (subst (λ (k : Kept). GoesPast k c.args.row.now) c.in-Ordered.is goes)).0)
+
+pub returns-in-Err-clause-known : goal.returns-in-Err-clause-known
+returns-in-Err-clause-known g c = λ is.
+    let known = subst (λ (k : Kept). IsKnown k c.args.row.now) c.in-Ordered.is is in
+    absurd (never_err (c.in-Err.ensures.known known.0 known.1).0)
 
 pub returns-in-Ok-clause-places : goal.returns-in-Ok-clause-places
 returns-in-Ok-clause-places g c = places_taken c.args.kept.now c.in-Ordered.orderer c.keep.new.orderer c.in-Ordered.is c.keep.ensures.places

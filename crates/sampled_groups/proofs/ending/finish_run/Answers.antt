@@ -5,7 +5,8 @@ use Rattle.sampled_run.specs.Ran.{IsOfEnd}
 use Rattle.sampled_groups.specs.Kinds.{run_rules}
 use Rattle.sampled_groups.specs.Ran.{IsStoppedBy}
 use Rattle.sampled_groups.proofs.Puts.{end_stopped, stop_is, written_is}
-use Rattle.sampled_groups.proofs.Ran.{output_end, stop_end}
+use Rattle.sampled_run.proofs.Faults.{output_end}
+use Rattle.sampled_groups.proofs.Ran.{stop_end}
 use Rattle.sampled_groups.proofs.ending.finish_run.Goals as goal
 
 pub put_groups-finished-requires : goal.put_groups-finished-requires

@@ -4,7 +4,8 @@ use Rattle.sampled_run.specs.declared.fault.SampleFault.{SampleFault}
 use Rattle.sampled_run.specs.Kinds.{run_rules}
 use Rattle.sampled_run.specs.Ran.{IsOfEnd, IsStoppedBy}
 use Rattle.sampled_run.proofs.Puts.{end_stopped, stop_is, written_is}
-use Rattle.sampled_run.proofs.Ran.{output_end, stop_end}
+use Rattle.sampled_run.proofs.Faults.{output_end}
+use Rattle.sampled_run.proofs.Ran.{stop_end}
 use Rattle.sampled_run.proofs.ending.finish_run.Goals as goal
 
 pub returns-in-Ok-finished-clause-written : goal.returns-in-Ok-finished-clause-written

@@ -1,25 +1,24 @@
-use Rattle.std.proofs.Common.{subst, IfOk, IfErr, OnOk, ◌≡◌, ◌⊎◌, ◌++◌, length, true, map}
+use Rattle.std.proofs.Common.{subst, IfOk, IfErr, OnOk, ◌≡◌, ◌++◌, true, map}
 use Rattle.any_format.specs.Wanted.{wanted_text}
 use Rattle.row_output.specs.Sinks.{files_for}
 use Rattle.sampled_run.specs.Finishes.{asked_by}
-use Rattle.lp_model.specs.Outside.{Folder, Told}
+use Rattle.lp_model.specs.Outside.{Told}
 use Rattle.query_tree.specs.Views.{query_of}
-use Rattle.log_reading.specs.Page.{IsTooMany, IsWithin}
-use Rattle.log_reading.specs.Spans.{AreKept, spans_bad, spans_bad_lines, took_of}
+use Rattle.log_reading.specs.Page.{IsTooMany}
+use Rattle.log_reading.specs.Spans.{AreKept, spans_bad_lines, took_of}
 use Rattle.delimited_input.specs.declared.options.DelimitedOptions.{DelimitedOptions}
 use Rattle.delimited_input.specs.Lines.{delimited_lines}
 use Rattle.text_output.specs.Output.{kind_of}
-use Rattle.row_output.specs.declared.fault.Refused.{Refused}
 use Rattle.query_run.specs.declared.executing.Written.{Written}
 use Rattle.sampled_run.specs.declared.fault.SampleFault.{SampleFault}
 use Rattle.sampled_run.specs.Rules.{Rules, rules_of}
+use Rattle.column_kinds.specs.Past.{nothing}
 use Rattle.column_kinds.specs.Spans.{past_behind, past_of}
-use Rattle.sampled_run.specs.Ran.{IsSampled, IsStoppedBy, IsUnplacedEarly, OnBadOne, OnRefusedOne}
+use Rattle.sampled_run.specs.Ran.{IsSampled, IsStoppedBy, OnBadOne}
+use Rattle.sampled_run.specs.InTurn.{ComesInTurn}
 use Rattle.column_kinds.proofs.Answered.{if_ok, if_err}
 use Rattle.column_kinds.proofs.Delimited.{delimited_sets_once}
-use Rattle.sampled_run.proofs.Early.{refused_so}
-use Rattle.sampled_run.proofs.Fresh.{nothing}
-use Rattle.sampled_run.proofs.Ran.{early_told, ran_told, stopped_told}
+use Rattle.sampled_run.proofs.Ran.{ran_told, stopped_told, turn_by_spans}
 use Rattle.sampled_run.proofs.formats.run_sampled.Goals as goal
 
 pub returns-clause-ran : goal.returns-clause-ran
@@ -64,25 +63,28 @@ returns-clause-too_many g c =
     → IsTooMany c.args.most_bad 0 (spans_bad_lines (delimited_lines options) c.args.waits folder spans) line))) in
     subst Of c.in-Ok.ensures.ok c.sample_reader.ensures.too_many
 
-pub returns-clause-early : goal.returns-clause-early
-returns-clause-early g c =
+pub returns-clause-in_turn : goal.returns-clause-in_turn
+returns-clause-in_turn g c =
     let told = g.L.LogSource.folder c.sample_reader.new.logs in
+    let u = c.args.stage.now in
+    let v = c.sample_reader.new.stage in
     let spans = c.args.spans.now in
+    let most_bad = c.args.most_bad in
     let rules : Rules = rules_of c.args.limit c.args.pattern.now c.args.moment.seconds (query_of c.args.query.now) (asked_by (files_for c.args.into) (wanted_text c.args.wanted c.args.moment.seconds) (query_of c.args.query.now)) in
-    let Else : DelimitedOptions → Folder → Type 0 = λ options folder. IsWithin c.args.most_bad (length (spans_bad (delimited_lines options) c.args.waits folder spans)) in
-    let Behind : DelimitedOptions → Refused → Type 0 = λ options why. Told told (λ folder. AreKept (delimited_lines options) c.args.waits spans folder
-    → IsUnplacedEarly rules (past_behind (delimited_lines options) c.args.waits folder nothing spans) why ⊎ Else options folder) in
-    let Of : Refused → Type 0 = λ why. Told told (λ folder. AreKept (delimited_lines c.args.options) c.args.waits spans folder
-    → IsUnplacedEarly rules (past_of (delimited_lines c.args.options) c.args.waits folder spans) why ⊎ Else c.args.options folder) in
-    let given = subst (λ (options : DelimitedOptions). IfErr c.sample_reader.result (λ fault. OnRefusedOne fault (Behind options))) c.in-Ok.ensures.ok c.sample_reader.ensures.early in
-    if_err (λ (fault : SampleFault). OnRefusedOne fault (Behind c.args.options)) (λ (fault : SampleFault). OnRefusedOne fault Of) c.sample_reader.result
-    (λ fault. refused_so fault (Behind c.args.options) Of (early_told rules (delimited_lines c.args.options) c.args.waits (delimited_sets_once c.args.options) told spans (Else c.args.options)))
+    let Behind : DelimitedOptions → SampleFault → Type 0 = λ options fault. Told told (λ folder. AreKept (delimited_lines options) c.args.waits spans folder
+    → ComesInTurn rules u (past_behind (delimited_lines options) c.args.waits folder nothing spans) most_bad (delimited_lines options) c.args.waits folder spans fault v) in
+    let given = subst (λ (options : DelimitedOptions). IfErr c.sample_reader.result (Behind options)) c.in-Ok.ensures.ok c.sample_reader.ensures.in_turn in
+    if_err (Behind c.args.options)
+    (λ (fault : SampleFault). Told told (λ folder. AreKept (delimited_lines c.args.options) c.args.waits spans folder
+    → ComesInTurn rules u (past_of (delimited_lines c.args.options) c.args.waits folder spans) most_bad (delimited_lines c.args.options) c.args.waits folder spans fault v))
+    c.sample_reader.result
+    (λ fault. turn_by_spans rules (delimited_lines c.args.options) c.args.waits (delimited_sets_once c.args.options) told spans u v most_bad fault)
     given
 
 pub returns-clause-took : goal.returns-clause-took
 returns-clause-took g c =
     let told = g.L.LogSource.folder c.sample_reader.new.logs in
     let spans = c.args.spans.now in
-    let Of : DelimitedOptions → Type 0 = λ options. OnOk c.sample_reader.result (c.args.waits ≡ true → Told told (λ folder. AreKept (delimited_lines options) true spans folder
-    → c.sample_reader.new.took ≡ c.args.took.now ++ map (took_of (delimited_lines options) folder) spans)) in
+    let Of : DelimitedOptions → Type 0 = λ options. OnOk c.sample_reader.result (Told told (λ folder. AreKept (delimited_lines options) c.args.waits spans folder
+    → c.sample_reader.new.took ≡ c.args.took.now ++ map (took_of (delimited_lines options) c.args.waits folder) spans)) in
     subst Of c.in-Ok.ensures.ok c.sample_reader.ensures.took

@@ -16,3 +16,6 @@ returns-clause-stops g c =
 
 pub returns-clause-named : goal.returns-clause-named
 returns-clause-named g c = on_ok_weaker c.pass_on.result (λ taken. c.in_ok-open.ensures.named) c.pass_on.ensures.takes
+
+pub returns-clause-opened : goal.returns-clause-opened
+returns-clause-opened g c = on_ok_weaker c.pass_on.result (λ handed. handed.opened c.in_ok-open.ensures.opened) c.pass_on.ensures.takes

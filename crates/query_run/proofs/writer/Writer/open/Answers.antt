@@ -1,12 +1,19 @@
-use Rattle.std.proofs.Common.{◌≡◌, [], Err, ap, sym, ◌∙◌, refl}
+use Rattle.std.proofs.Common.{◌≡◌, [], Err, ap, sym, ◌∙◌, refl, subst}
 use Rattle.log_reading.specs.declared.taker.TakeFault.TheVariants as T
 use Rattle.text_output.specs.Output.{kind_of}
+use Rattle.row_output.specs.Asked.{Asked}
+use Rattle.row_output.specs.Rows.{IsRefused}
+use Rattle.query_run.specs.Writing.{puts_none}
 use Rattle.query_run.proofs.Puts.{opens_as, stops_as}
 use Rattle.query_run.proofs.Reasons.{take_failed, take_stopped}
 use Rattle.query_run.proofs.writer.Writer.open.Goals as goal
 
+pub returns-then-self-clause-takes : goal.returns-then-self-clause-takes
+returns-then-self-clause-takes g c = puts_none (kind_of g.G.Stage.state g.G.Stage.ended) c.args.self.now c.args.stage.now
+
 pub returns-in-Ok-clause-takes : goal.returns-in-Ok-clause-takes
-returns-in-Ok-clause-takes g c = opens_as (kind_of g.G.Stage.state g.G.Stage.ended) c.args.self.now _ c.args.stage.now c.open.new.stage c.in-Ok.ensures.has c.open.ensures.asked refl refl
+returns-in-Ok-clause-takes g c = opens_as (kind_of g.G.Stage.state g.G.Stage.ended) c.args.self.now _ c.args.stage.now c.open.new.stage c.in-Ok.ensures.has c.open.ensures.asked refl refl (λ is_open. refl)
+    (λ start rows has named is_open why refused. c.in-Ok.ensures.named start rows has why (subst (λ (asked : Asked). IsRefused asked [] why) c.open.ensures.asked refused))
 
 pub returns-in-Err-clause-stops : goal.returns-in-Err-clause-stops
 returns-in-Err-clause-stops g c = stops_as (kind_of g.G.Stage.state g.G.Stage.ended) [] c.args.self.now _ c.args.stage.now c.open.new.stage c.in-Err.fault c.in-Err.ensures.stop c.in-Err.ensures.refused c.in-Err.ensures.early c.told.ensures.refused
@@ -22,4 +29,4 @@ returns-in-Err-clause-stopped g c = λ e.
     take_stopped c.args.self.now.refused c.in-Err.fault c.told.new.refused c.told.ensures.refused (sym c.told.ensures.fault ∙ is)
 
 pub returns-in-Ok-clause-named : goal.returns-in-Ok-clause-named
-returns-in-Ok-clause-named g c = λ closed. c.in-Ok.ensures.named
+returns-in-Ok-clause-named g c = λ closed start has. c.in-Ok.ensures.named start [] has

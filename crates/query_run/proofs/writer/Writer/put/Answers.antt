@@ -1,12 +1,21 @@
-use Rattle.std.proofs.Common.{◌≡◌, [], ◌∷◌, Err, ap, sym, ◌∙◌, refl}
+use Rattle.std.proofs.Common.{◌≡◌, [], ◌∷◌, Err, ap, sym, ◌∙◌, refl, subst}
 use Rattle.log_reading.specs.declared.taker.TakeFault.TheVariants as T
 use Rattle.text_output.specs.Output.{kind_of}
+use Rattle.row_output.specs.Asked.{Asked}
+use Rattle.row_output.specs.Rows.{IsRefused}
 use Rattle.query_run.proofs.Puts.{stops_as}
 use Rattle.query_run.proofs.Reasons.{take_failed, take_stopped}
 use Rattle.query_run.proofs.writer.Writer.put.Goals as goal
 
 pub returns-in-Ok-clause-takes : goal.returns-in-Ok-clause-takes
-returns-in-Ok-clause-takes g c = record { has = c.in-Ok.ensures.has; asked = c.put.ensures.asked; picker = refl; refused = refl }
+returns-in-Ok-clause-takes g c = record {
+  has = c.in-Ok.ensures.has;
+  asked = c.put.ensures.asked;
+  picker = refl;
+  refused = refl;
+  opened = λ is_open. is_open;
+  named = λ start rows has named is_open why refused. named is_open why (subst (λ (asked : Asked). IsRefused asked [] why) c.put.ensures.asked refused);
+}
 
 pub returns-in-Err-clause-stops : goal.returns-in-Err-clause-stops
 returns-in-Err-clause-stops g c = stops_as (kind_of g.G.Stage.state g.G.Stage.ended) (c.args.self.now.row ∷ []) c.args.self.now _ c.args.stage.now c.put.new.stage c.in-Err.fault c.in-Err.ensures.stop c.in-Err.ensures.refused c.in-Err.ensures.early c.told.ensures.refused

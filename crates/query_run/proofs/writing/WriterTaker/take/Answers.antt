@@ -13,7 +13,7 @@ returns-in_err-open-clause-stops g c = on_err _ c.from_residual.result
 pub returns-in-Ok-clause-takes : goal.returns-in-Ok-clause-takes
 returns-in-Ok-clause-takes g c =
     let kind = kind_of g.G.Stage.state g.G.Stage.ended in
-    writes_behind kind g.P.Picker.picks c.args.self.now c.open.new.self _ c.args.stage.now c.open.new.stage _ _ c.in_ok-open.ensures.takes c.in-Ok.ensures.takes
+    writes_behind kind g.P.Picker.picks c.args.self.now c.open.new.self _ c.args.stage.now c.open.new.stage _ _ c.in_ok-open.ensures.opened c.in_ok-open.ensures.takes c.in-Ok.ensures.takes
 
 pub returns-in-Err-clause-stops : goal.returns-in-Err-clause-stops
 returns-in-Err-clause-stops g c =
@@ -23,22 +23,22 @@ returns-in-Err-clause-stops g c =
 pub returns-in-Err-picked-clause-stops : goal.returns-in-Err-picked-clause-stops
 returns-in-Err-picked-clause-stops g c =
     let kind = kind_of g.G.Stage.state g.G.Stage.ended in
-    halts_there kind g.P.Picker.picks c.args.self.now _ c.args.stage.now _ _ (puts_as kind _ c.args.self.now c.open.new.self _ c.args.stage.now c.open.new.stage refl refl refl c.in_ok-open.ensures.takes)
+    halts_there kind g.P.Picker.picks c.args.self.now _ c.args.stage.now _ _ (puts_as kind _ c.args.self.now c.open.new.self _ c.args.stage.now c.open.new.stage refl refl refl refl c.in_ok-open.ensures.takes)
 
 pub returns-in-Ok-false-clause-takes : goal.returns-in-Ok-false-clause-takes
 returns-in-Ok-false-clause-takes g c =
     let kind = kind_of g.G.Stage.state g.G.Stage.ended in
-    writes_no_row kind g.P.Picker.picks c.args.self.now _ c.args.stage.now c.open.new.stage _ (rw c.in-Ok-false.field-0-test at c.in-Ok-false.ensures)
-    (puts_as kind _ c.args.self.now c.open.new.self _ c.args.stage.now c.open.new.stage refl refl refl c.in_ok-open.ensures.takes)
+    writes_no_row kind g.P.Picker.picks c.args.self.now _ c.args.stage.now c.open.new.stage _ (rw c.in-Ok-false.field-0-test at c.in-Ok-false.ensures) c.in_ok-open.ensures.opened
+    (puts_as kind _ c.args.self.now c.open.new.self _ c.args.stage.now c.open.new.stage refl refl refl refl c.in_ok-open.ensures.takes)
 
 pub returns-in-Ok-true-clause-takes : goal.returns-in-Ok-true-clause-takes
 returns-in-Ok-true-clause-takes g c =
     let kind = kind_of g.G.Stage.state g.G.Stage.ended in
-    on_ok_weaker c.put.result (λ puts. writes_row kind g.P.Picker.picks c.args.self.now _ c.put.new.self c.args.stage.now c.open.new.stage c.put.new.stage _ c.pick-picked.new.row (rw c.in-Ok-true.field-0-test at c.in-Ok-true.ensures)
-    (puts_as kind _ c.args.self.now c.open.new.self _ c.args.stage.now c.open.new.stage refl refl refl c.in_ok-open.ensures.takes) puts) c.put.ensures.takes
+    on_ok_weaker c.put.result (λ puts. writes_row kind g.P.Picker.picks c.args.self.now _ c.put.new.self c.args.stage.now c.open.new.stage c.put.new.stage _ c.pick-picked.new.row (rw c.in-Ok-true.field-0-test at c.in-Ok-true.ensures) c.in_ok-open.ensures.opened
+    (puts_as kind _ c.args.self.now c.open.new.self _ c.args.stage.now c.open.new.stage refl refl refl refl c.in_ok-open.ensures.takes) puts) c.put.ensures.takes
 
 pub returns-in-Ok-true-clause-stops : goal.returns-in-Ok-true-clause-stops
 returns-in-Ok-true-clause-stops g c =
     let kind = kind_of g.G.Stage.state g.G.Stage.ended in
     on_err_weaker c.put.result (λ stops. halts_row kind g.P.Picker.picks c.args.self.now _ c.put.new.self c.args.stage.now c.open.new.stage c.put.new.stage _ c.pick-picked.new.row (rw c.in-Ok-true.field-0-test at c.in-Ok-true.ensures)
-    (puts_as kind _ c.args.self.now c.open.new.self _ c.args.stage.now c.open.new.stage refl refl refl c.in_ok-open.ensures.takes) stops) c.put.ensures.stops
+    (puts_as kind _ c.args.self.now c.open.new.self _ c.args.stage.now c.open.new.stage refl refl refl refl c.in_ok-open.ensures.takes) stops) c.put.ensures.stops

@@ -8,7 +8,7 @@ use Rattle.row_output.specs.Orders.{IsPlain}
 use Rattle.row_output.specs.Rows.{IsRefused, IsRefusedAt, IsRefusedEarly}
 use Rattle.row_output.specs.Sinks.{Purpose, files_in}
 use Rattle.row_output.proofs.Early.{put_early}
-use Rattle.row_output.proofs.KeptCalls.{asked_for, rows_have, rows_little, rows_stop_at, rows_refused, one_more}
+use Rattle.row_output.proofs.KeptCalls.{asked_for, rows_have, rows_little, rows_stop_at, rows_refused, one_more, never_err}
 use Rattle.row_output.proofs.SinkCalls.{refused_on}
 use Rattle.row_output.proofs.kept.RowOutput.put.Goals as goal
 
@@ -44,6 +44,18 @@ returns-in_err-take-clause-early g c =
 
 pub returns-in_err-take-clause-uncounted : goal.returns-in_err-take-clause-uncounted
 returns-in_err-take-clause-uncounted g c = on_err _ c.from_residual.result refl
+
+pub returns-in_err-take-clause-past : goal.returns-in_err-take-clause-past
+returns-in_err-take-clause-past g c = λ goes. absurd (never_err (c.in_err-take.ensures.past goes).0)
+
+pub returns-in_err-take-clause-known : goal.returns-in_err-take-clause-known
+returns-in_err-take-clause-known g c = λ is. absurd (never_err (c.in_err-take.ensures.known is).0)
+
+pub returns-clause-past : goal.returns-clause-past
+returns-clause-past g c = λ goes. (refl, (c.in_ok-take.ensures.past goes).1)
+
+pub returns-clause-known : goal.returns-clause-known
+returns-clause-known g c = λ is. (refl, (c.in_ok-take.ensures.known is).1)
 
 pub returns-clause-asked : goal.returns-clause-asked
 returns-clause-asked g c = ap (λ (p : Purpose). asked_for p c.args.self.now.order) c.take.ensures.purpose
