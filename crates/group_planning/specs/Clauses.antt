@@ -1,6 +1,6 @@
 -- What the clauses of a query mean, in their order, or the first fault in them.
 use Rattle.std.specs.Prelude.{ℕ, Bool, true, false, not, List, [], ◌∷◌, ◌++◌, map, Option, Some, None, Result, Ok}
-use Rattle.grammar.specs.Trees.{Tree, Item, Parts}
+use Rattle.grammar.specs.Trees.{Tree, Trees, Test, Item, Parts}
 use Rattle.grammar.specs.Trees.{trees_of as listed}
 use Rattle.lp_values.specs.declared.value.Value.{Value}
 use Rattle.query_types.specs.declared.fault.TypeFault.{TypeFault}
@@ -47,20 +47,16 @@ using_named table moment parts = with_all_named table moment [] parts.aliases
 abbrev pub all_named : TableColumns → Value → Parts → List Named
 all_named table moment parts = with_all_named table moment (using_named table moment parts) parts.items
 
+-- a condition, and the values behind it: WHERE and GROUP BY, or HAVING and ORDER BY
+abbrev pub checked_list : Bool → TableColumns → Value → List Named → Option Test → Trees → Result (Option Check × List Sense) TypeFault
+checked_list wide table moment all condition values = followed (maybe_checked wide table moment all condition) (λ check.
+    followed (all_sensed wide table moment all values) (λ senses. Ok (check, senses)))
+
 module _ (table : TableColumns) (moment : Value) (parts : Parts) (all : List Named) where
-  -- WHERE and GROUP BY
-  abbrev pub sourced_clauses : Result (Option Check × List Sense) TypeFault
-  sourced_clauses = followed (maybe_checked false table moment all parts.condition) (λ condition.
-      followed (all_sensed false table moment all (listed parts.keys)) (λ keys. Ok (condition, keys)))
-
-  -- HAVING and ORDER BY
-  abbrev pub ended_clauses : Result (Option Check × List Sense) TypeFault
-  ended_clauses = followed (maybe_checked true table moment all parts.having) (λ having.
-      followed (all_sensed true table moment all (listed parts.order)) (λ order. Ok (having, order)))
-
   -- all from WHERE on, with what those before mean
   abbrev pub clauses_behind : List Sense → List Sense → Result Clauses TypeFault
-  clauses_behind aliased items = followed sourced_clauses (λ w. followed ended_clauses (λ e.
+  clauses_behind aliased items = followed (checked_list false table moment all parts.condition (listed parts.keys)) (λ w.
+      followed (checked_list true table moment all parts.having (listed parts.order)) (λ e.
       Ok (record { using = aliased; items = items; condition = w.0; keys = w.1; having = e.0; order = e.1 })))
 
 module _ (table : TableColumns) (moment : Value) (parts : Parts) (using all : List Named) where

@@ -1,16 +1,18 @@
 // What the clauses of a query mean.
 ghost use Rattle.std.specs.Prelude.{◌≡◌, ◌≤◌, false, [], length, map, option_map, take};
+ghost use Rattle.grammar.specs.Trees.{trees_of as listed};
+ghost use Rattle.query_tree.specs.Views.{test_of, trees_of};
 ghost use Rattle.query_types.specs.Meanings.{Answers};
 ghost use Rattle.query_types.specs.Parts.{parts_of};
 ghost use Rattle.senses.specs.Senses.{listed_senses};
 ghost use Rattle.sensing.specs.Sensing.{named_of};
 ghost use Rattle.senses.specs.Checks.{check_of};
 ghost use Rattle.senses.specs.Clauses.{clauses_of};
-ghost use Rattle.group_planning.specs.Clauses.{clauses_behind, clauses_sensed, ended_clauses, items_sensed, list_sensed, selected_clauses, sourced_clauses, with_all_named};
+ghost use Rattle.group_planning.specs.Clauses.{checked_list, clauses_behind, clauses_sensed, items_sensed, list_sensed, selected_clauses, with_all_named};
 
 use crate::selecting::{all_sensed, columns_sensed, front, items_sensed};
 use lp_values::Value;
-use query_tree::Query;
+use query_tree::{Cond, ExprList, Query};
 use query_types::{TableColumns, TypeFault};
 use senses::{SenseCheck, SenseClauses, SenseList};
 use sensing::{SenseAlias, maybe_checked};
@@ -74,34 +76,26 @@ fn selected_clauses(
     Ok((using, items))
 }
 
-// What WHERE and GROUP BY mean.
-fn sourced_clauses(
+// What a condition means, and the values behind it.
+fn checked_list(
     alloc: Global,
+    wide: bool,
     table: &TableColumns,
     moment: &Value,
     all: &[SenseAlias],
-    query: &Query,
+    condition: &Option<Cond>,
+    values: &ExprList,
 ) -> Result<(Option<SenseCheck>, SenseList), TypeFault>
-    ensures { Answers (λ found. (option_map check_of found.0, listed_senses found.1)) result (sourced_clauses table.now moment.now (parts_of query.now) (map named_of all.now)) }
+    ensures { Answers (λ found. (option_map check_of found.0, listed_senses found.1)) result (checked_list wide table.now moment.now (map named_of all.now) (option_map test_of condition.now) (listed (trees_of values.now))) }
 {
-    let condition = maybe_checked(alloc, false, table, moment, all, &query.condition)?;
-    let keys = all_sensed(alloc, false, table, moment, all, &query.keys)?;
-    Ok((condition, keys))
-}
-
-// What HAVING and ORDER BY mean.
-fn ended_clauses(
-    alloc: Global,
-    table: &TableColumns,
-    moment: &Value,
-    all: &[SenseAlias],
-    query: &Query,
-) -> Result<(Option<SenseCheck>, SenseList), TypeFault>
-    ensures { Answers (λ found. (option_map check_of found.0, listed_senses found.1)) result (ended_clauses table.now moment.now (parts_of query.now) (map named_of all.now)) }
-{
-    let having = maybe_checked(alloc, true, table, moment, all, &query.having)?;
-    let order = all_sensed(alloc, true, table, moment, all, &query.order)?;
-    Ok((having, order))
+    let check = maybe_checked(alloc, wide, table, moment, all, condition)?;
+    match all_sensed(alloc, wide, table, moment, all, values) {
+        Ok(senses) => Ok((check, senses)),
+        Err(fault) => {
+            drop(check);
+            Err(fault)
+        }
+    }
 }
 
 // What the clauses behind SELECT mean, with what those before mean.
@@ -116,16 +110,40 @@ fn clauses_behind(
 ) -> Result<SenseClauses, TypeFault>
     ensures { Answers clauses_of result (clauses_behind table.now moment.now (parts_of query.now) (map named_of all.now) (listed_senses using) (listed_senses items)) }
 {
-    let (condition, keys) = sourced_clauses(alloc, table, moment, all, query)?;
-    let (having, order) = ended_clauses(alloc, table, moment, all, query)?;
-    Ok(SenseClauses {
-        using,
-        items,
-        condition,
-        keys,
-        having,
-        order,
-    })
+    match checked_list(
+        alloc,
+        false,
+        table,
+        moment,
+        all,
+        &query.condition,
+        &query.keys,
+    ) {
+        Ok((condition, keys)) => {
+            match checked_list(alloc, true, table, moment, all, &query.having, &query.order) {
+                Ok((having, order)) => Ok(SenseClauses {
+                    using,
+                    items,
+                    condition,
+                    keys,
+                    having,
+                    order,
+                }),
+                Err(fault) => {
+                    drop(using);
+                    drop(items);
+                    drop(condition);
+                    drop(keys);
+                    Err(fault)
+                }
+            }
+        }
+        Err(fault) => {
+            drop(using);
+            drop(items);
+            Err(fault)
+        }
+    }
 }
 
 /// What the clauses of a query mean, of all of whose aliases so many are those of USING.

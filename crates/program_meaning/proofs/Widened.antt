@@ -22,7 +22,7 @@ use Rattle.query_types.specs.Planned.{Planned, filter_and_order, plan_behind, pl
 use Rattle.query_types.specs.Terms.{Term}
 use Rattle.group_planning.specs.Asked.{is_grouped, maybe_has, test_has}
 use Rattle.group_planning.specs.Checked.{checked, contained_sense, maybe_checked}
-use Rattle.group_planning.specs.Clauses.{Clauses, all_named, clauses_behind, clauses_sensed, ended_clauses, sourced_clauses, using_named}
+use Rattle.group_planning.specs.Clauses.{Clauses, all_named, clauses_behind, clauses_sensed, using_named}
 use Rattle.group_planning.specs.Groups.{Grouped, group_plan_of, groups_behind, groups_of_parts}
 use Rattle.group_planning.specs.Senses.{Sense, kind_sensed}
 use Rattle.group_planning.specs.Sensing.{Named}
