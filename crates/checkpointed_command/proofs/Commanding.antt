@@ -12,7 +12,7 @@ use Rattle.reports.specs.declared.status.Status.{Status}
 use Rattle.requests.specs.Texts.{HoldsQuery}
 use Rattle.run_model.specs.Steps.{well}
 use Rattle.checkpointed_command.specs.Counted.{IsCounted, IsWhole}
-use Rattle.checkpointed_command.specs.Refusals.{IsRefused, IsRefusedBehind, IsSettledBy, IsSettledSince, IsUnread, IsUnsettled, IsUnsuited}
+use Rattle.checkpointed_command.specs.Refusals.{IsCallRefused, IsRefusedBehind, IsSettledBy, IsSettledSince, IsUnread, IsUnsettled, IsUnsuited}
 use Rattle.checkpointed_command.specs.Steps.{ending_by}
 use Rattle.checkpointed_command.proofs.Answering.{IsMild, mild_unasked, mild_unfit, unsettled_not_well}
 use Rattle.checkpointed_command.proofs.Files.{Nears, near_as, fits_as, keeps_as}
@@ -44,12 +44,12 @@ module _ {D : Type 0} (state : D → DiskState) (old settled : D) (ledger stage 
   asking_behind before now spec moment status (inr unsuited) = inr (inl unsuited)
 
   pub refused_asking : (before now : Option Folder) (spec : Spec) (moment : ℤ) (status : Status) → IsSettledBy (state old) (state settled) ledger stage → IsUnread before now spec status ⊎ IsUnsuited before now spec status
-      → IsRefused state old ledger stage before now spec moment status
+      → IsCallRefused state old ledger stage before now spec moment status
   refused_asking before now spec moment status by why = inr (record { settled = settled; settles = by; refused = asking_behind before now spec moment status why })
 
   pub refused_settled : (before mid now : Option Folder) (spec : Spec) (moment : ℤ) (text : List ℕ) (q : Query) (result : Result Counts Status) → IsSettledBy (state old) (state settled) ledger stage → OnlyGrow before mid → HoldsQuery before mid spec.query text q
       → IfErr result (λ status. (since : Option Folder) → OnlyGrow since mid → HoldsQuery since mid spec.query text q → IsRefusedBehind state (state settled) ledger stage since now spec moment status)
-      → IfErr result (IsRefused state old ledger stage before now spec moment)
+      → IfErr result (IsCallRefused state old ledger stage before now spec moment)
   refused_settled before mid now spec moment text q (Ok counts) by grow holds refused = tt
   refused_settled before mid now spec moment text q (Err status) by grow holds refused = inr (record { settled = settled; settles = by; refused = refused before grow holds })
 

@@ -103,6 +103,6 @@ pub record IsRefusedThen {D : Type 0} (state : D → DiskState) (old : D) (ledge
   pub refused : IsRefusedBehind state (state settled) ledger stage before now spec moment status
 
 -- why a run with a checkpoint comes to no counts
-abbrev pub IsRefused : {D : Type 0} → (D → DiskState) → D → List ℕ → List ℕ → Option Folder → Option Folder → Spec → ℤ → Status → Type 0
-IsRefused state old ledger stage before now spec moment status =
+abbrev pub IsCallRefused : {D : Type 0} → (D → DiskState) → D → List ℕ → List ℕ → Option Folder → Option Folder → Spec → ℤ → Status → Type 0
+IsCallRefused state old ledger stage before now spec moment status =
     IsUnsettled (state old) ledger stage status ⊎ IsRefusedThen state old ledger stage before now spec moment status

@@ -24,7 +24,7 @@ ghost use Rattle.checkpointed_run.specs.Staged.{request_of};
 ghost use Rattle.checkpointed_command.specs.Asked.{IsFit};
 ghost use Rattle.checkpointed_command.specs.Counted.{IsCounted, IsWhole};
 ghost use Rattle.checkpointed_command.specs.Given.{ReadsBehind, ReadsKept};
-ghost use Rattle.checkpointed_command.specs.Refusals.{IsCountless, IsRefused, IsRefusedBehind};
+ghost use Rattle.checkpointed_command.specs.Refusals.{IsCountless, IsCallRefused, IsRefusedBehind};
 ghost use Rattle.checkpointed_command.specs.Steps.{TakesStepWith, TakesSteps};
 
 use crate::asking::ask_query;
@@ -161,7 +161,7 @@ pub fn run_with_checkpoint<L: Logs, D: Disk>(
     ensures grows { OnlyGrow (L.folder logs.old) (L.folder logs.new) }
     ensures step { TakesSteps spec.now ledger.now (ledger.now ++ codes ".stage") moment (L.folder logs.old) (L.folder logs.new) (D.state disk.old) (D.state disk.new) result }
     ensures whole { IfOk result (IsWhole D.state disk.old ledger.now (ledger.now ++ codes ".stage") (L.folder logs.old) (L.folder logs.new) spec.now moment) }
-    ensures refused { IfErr result (IsRefused D.state disk.old ledger.now (ledger.now ++ codes ".stage") (L.folder logs.old) (L.folder logs.new) spec.now moment) }
+    ensures refused { IfErr result (IsCallRefused D.state disk.old ledger.now (ledger.now ++ codes ".stage") (L.folder logs.old) (L.folder logs.new) spec.now moment) }
     ensures given { ReadsKept D.state disk.old ledger.now (ledger.now ++ codes ".stage") (L.folder logs.old) (L.folder logs.new) spec.now (L.given logs.old) (L.given logs.new) }
     ensures later_logs { L.faults logs.old ≤ L.faults logs.new }
     ensures later { D.faults disk.old ≤ D.faults disk.new }

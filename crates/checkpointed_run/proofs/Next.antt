@@ -34,7 +34,7 @@ use Rattle.multiplex.proofs.Splits.{names_differ}
 use Rattle.multiplex.specs.Splitting.{OutputRows, output_names, rows_named, split}
 use Rattle.query_run.specs.declared.executing.Counts.{Counts}
 use Rattle.recovery_model.specs.Recovered.{AreApart, IsOther}
-use Rattle.row_output.specs.Asked.{Asked, Files, OutputText, left_of, text_in}
+use Rattle.row_output.specs.Asked.{Asked, Files, OutputText, left_of, asked_text}
 use Rattle.row_output.specs.Files.{FilesHold}
 use Rattle.row_output.specs.Rows.{Holds, HoldsAt}
 use Rattle.run_model.specs.Logs.{Written}
@@ -142,9 +142,9 @@ first_two a b more = (
 )
 
 -- the rows that were put are those of files
-opened : {S : Type 0} (kind : StageKind S) (files : Files) (asked : Asked) (start now : S) (rows : List (List Value)) (outputs : List Output) → asked.files ≡ Some files → Holds kind asked start rows outputs now → FilesHold kind files (text_in asked) start (left_of asked rows) outputs now
+opened : {S : Type 0} (kind : StageKind S) (files : Files) (asked : Asked) (start now : S) (rows : List (List Value)) (outputs : List Output) → asked.files ≡ Some files → Holds kind asked start rows outputs now → FilesHold kind files (asked_text asked) start (left_of asked rows) outputs now
 unfolding Holds
-opened kind files asked start now rows outputs is holds = subst (λ (f : Option Files). HoldsAt f kind (text_in asked) start (left_of asked rows) outputs now) is holds
+opened kind files asked start now rows outputs is holds = subst (λ (f : Option Files). HoldsAt f kind (asked_text asked) start (left_of asked rows) outputs now) is holds
 
 module _ {D : Type 0} (state : D → DiskState) (ended : Commit D → List ℕ → ℕ → Mark → Type 0) (words : List (List ℕ)) (request : Request) (template : Sections) (into : Placed) (written : Written) (folder : Folder)
     (spans : List Span) (started now : Commit D) (took : List Took) (outputs : List Output) (counts : Counts) (entries : List Entry) (before : Contents)
@@ -194,7 +194,7 @@ module _ {D : Type 0} (state : D → DiskState) (ended : Commit D → List ℕ �
   asked_by_logs logs = asked_for (Some (files_by logs)) (run_text request.spec template request.moment request.q) request.q is_met.plan
 
   abbrev pub text : OutputText
-  text = text_in (asked_by_logs [])
+  text = asked_text (asked_by_logs [])
 
   abbrev pub left : List (List Value)
   left = left_of (asked_by_logs []) rows

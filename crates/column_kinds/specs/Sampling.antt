@@ -88,7 +88,7 @@ pub record Holds {M T O : Type 0} (kind : SampleKind M T O) (rules : Rules M) (s
   pub phase : PhaseHolds kind rules start past sampled.phase now
 
 -- no taker is made for the columns, by this fault, and nothing has come out
-pub record IsRefused {M T O : Type 0} (kind : SampleKind M T O) (rules : Rules M) (start : O) (past : Past) (fault : TypeFault) (now : O) : Type 0 where
+pub record IsUnmade {M T O : Type 0} (kind : SampleKind M T O) (rules : Rules M) (start : O) (past : Past) (fault : TypeFault) (now : O) : Type 0 where
   pub refused : kind.refuses rules.maker (told_by rules past) fault
   pub nothing : now ≡ start
 
@@ -111,11 +111,11 @@ IsFront kind rules start past now = (now ≡ start) ⊎ IsWithin kind rules star
 abbrev pub PhaseStopped : {M T O : Type 0} → SampleKind M T O → Rules M → O → Past → Phase M T → O → Type 0
 PhaseStopped kind rules start past (P.Gathering gathering) now = IsFront kind rules start past now
 PhaseStopped kind rules start past (P.Taking taker) now = StopsAs kind rules start past taker now
-PhaseStopped kind rules start past (P.Refused fault) now = IsRefused kind rules start past fault now
+PhaseStopped kind rules start past (P.Refused fault) now = IsUnmade kind rules start past fault now
 PhaseStopped kind rules start past P.Lost now = IsFront kind rules start past now
 
 abbrev pub IsStop : {M T O : Type 0} → SampleKind M T O → Rules M → O → Past → Stop T → O → Type 0
-IsStop kind rules start past (S.Refused fault) now = IsRefused kind rules start past fault now
+IsStop kind rules start past (S.Refused fault) now = IsUnmade kind rules start past fault now
 IsStop kind rules start past (S.Stopped taker) now = StopsAs kind rules start past taker now
 IsStop kind rules start past S.Failed now = IsFront kind rules start past now
 IsStop kind rules start past S.Memory now = IsFront kind rules start past now

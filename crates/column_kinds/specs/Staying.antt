@@ -5,7 +5,7 @@ use Rattle.std.specs.List.{range_with_len}
 use Rattle.lp_time.specs.declared.piece.Piece.{Piece}
 use Rattle.lp_values.specs.declared.kind.Kind.{Kind}
 use Rattle.log_reading.specs.Found.{Found}
-use Rattle.delimited_input.specs.Kinds.{Row, column_kind, kind_of_texts, kinds_of, text_in}
+use Rattle.delimited_input.specs.Kinds.{Row, column_kind, kind_of_texts, kinds_of, column_text}
 use Rattle.column_kinds.specs.declared.judging.Judged.{Judged}
 use Rattle.column_kinds.specs.declared.kept.FirstLog.{FirstLog}
 use Rattle.column_kinds.specs.Fields.{texts_under}
@@ -23,7 +23,7 @@ kind_stays pattern limit rows more column some enough =
     let size = length-append rows more in
     let here : (length rows == 0) ≡ false = some_there (length rows) some in
     let there : (length (rows ++ more) == 0) ≡ false = some_there (length (rows ++ more)) (Prim.omega arith) in
-    Prim.rw (here, there) (ap (λ (shown : List Row). kind_of_texts pattern (map (text_in column) shown)) (take-append-le limit rows more enough))
+    Prim.rw (here, there) (ap (λ (shown : List Row). kind_of_texts pattern (map (column_text column) shown)) (take-append-le limit rows more enough))
 
 pub kinds_stay : (columns : ℕ) (pattern : List Piece) (limit : ℕ) (rows more : List Row) → 0 < length rows → limit ≤ length rows → kinds_of columns pattern limit (rows ++ more) ≡ kinds_of columns pattern limit rows
 unfolding kinds_of

@@ -23,7 +23,7 @@ pub struct Judged {
 }
 
 // The text of a record in a column.
-fn text_in(
+fn text_under(
     alloc: Global,
     is_of_first: bool,
     row: &KeptRow,
@@ -44,7 +44,7 @@ fn texts_under(alloc: Global, first: &FirstLog, row: &KeptRow) -> Result<TextLis
     let mut texts = TextList::new(alloc);
     let mut at = 0;
     for column in first.columns.as_slice() {
-        let text = text_in(alloc, is_of_first, row, at, column.name())?;
+        let text = text_under(alloc, is_of_first, row, at, column.name())?;
         texts.push(text)?;
         at += 1;
     }

@@ -3,7 +3,7 @@ use Rattle.std.proofs.Common.{◌≡◌, ◌<◌, ℕ, List, Option, Some, None,
 use Rattle.std.proofs.lemmas.Bool.{cases_lt}
 use Rattle.command_words.specs.declared.usage.UsageKind.{UsageKind}
 use Rattle.command_words.specs.declared.usage.UsageFault.{UsageFault}
-use Rattle.command_words.specs.Usage.{fault_at, IsFirstFault, lack_of, AreFine, IsRefused, fault_of}
+use Rattle.command_words.specs.Usage.{fault_at, IsFirstFault, lack_of, AreFine, IsUsageFault, fault_of}
 
 some_none : {X : Type 0} (x : X) (o : Option X) → o ≡ None → o ≡ Some x → ⊥
 some_none x o none some = cc
@@ -31,13 +31,13 @@ same_first words f g first second =
     ap (fault_of f.kind) place ∙ ap (λ (k : UsageKind). fault_of k g.word) kind
 
 -- two refusals of the same words are one
-pub same_refusal : (words : List (List ℕ)) (f g : UsageFault) → IsRefused words f → IsRefused words g → f ≡ g
+pub same_refusal : (words : List (List ℕ)) (f g : UsageFault) → IsUsageFault words f → IsUsageFault words g → f ≡ g
 same_refusal words f g (inl first) (inl second) = same_first words f g first second
 same_refusal words f g (inl first) (inr second) = absurd (some_none f.kind (fault_at words f.word) (second.0 f.word) first.here)
 same_refusal words f g (inr first) (inl second) = absurd (some_none g.kind (fault_at words g.word) (first.0 g.word) second.here)
 same_refusal words f g (inr first) (inr second) = some_same f g (lack_of words) first.1 second.1
 
 -- words that are fine have none
-pub never_both : (words : List (List ℕ)) (f : UsageFault) → AreFine words → IsRefused words f → ⊥
+pub never_both : (words : List (List ℕ)) (f : UsageFault) → AreFine words → IsUsageFault words f → ⊥
 never_both words f fine (inl first) = some_none f.kind (fault_at words f.word) (fine.each f.word) first.here
 never_both words f fine (inr second) = some_none f (lack_of words) fine.whole second.1

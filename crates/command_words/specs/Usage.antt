@@ -77,8 +77,8 @@ pub record AreFine (words : List (List ℕ)) : Type 0 where
   pub whole : lack_of words ≡ None
 
 -- words that are refused by this fault: that of the first word that has one, and else what they lack as a whole
-abbrev pub IsRefused : List (List ℕ) → UsageFault → Type 0
-IsRefused words fault = IsFirstFault words fault ⊎ (EachFits words × (lack_of words ≡ Some fault))
+abbrev pub IsUsageFault : List (List ℕ) → UsageFault → Type 0
+IsUsageFault words fault = IsFirstFault words fault ⊎ (EachFits words × (lack_of words ≡ Some fault))
 
 -- what holds of the fault, where the words are refused
 abbrev pub IfUsage : Result Spec SpecFault → (UsageFault → Type 0) → Type 0

@@ -1,6 +1,6 @@
 // What the words ask for.
 ghost use Rattle.std.specs.Prelude.{◌≡◌, IfOk, OnOk, MatchOption};
-ghost use Rattle.command_words.specs.Usage.{AreFine, IsRefused};
+ghost use Rattle.command_words.specs.Usage.{AreFine, IsUsageFault};
 
 use crate::lacks::lack_of;
 use crate::table::{
@@ -66,7 +66,7 @@ impl From<AllocError> for SpecFault {
 
 // What the words are refused by.
 fn refusal_of(words: &[Text]) -> Option<UsageFault>
-    ensures { MatchOption result (AreFine words.now) (IsRefused words.now) }
+    ensures { MatchOption result (AreFine words.now) (IsUsageFault words.now) }
 {
     match first_fault(words) {
         Some(fault) => Some(fault),
@@ -83,7 +83,7 @@ impl Spec {
         ensures ok { IfOk result (IsAsked words.now) }
         ensures in_range { IfOk result IsInRange }
         ensures fine { OnOk result (AreFine words.now) }
-        ensures usage { IfUsage result (IsRefused words.now) }
+        ensures usage { IfUsage result (IsUsageFault words.now) }
     {
         let words = words.as_slice();
         match refusal_of(words) {

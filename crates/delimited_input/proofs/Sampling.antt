@@ -8,7 +8,7 @@ use Rattle.std.proofs.lemmas.List.Folds.{list_all-append}
 use Rattle.lp_time.specs.declared.piece.Piece.{Piece}
 use Rattle.lp_values.specs.declared.kind.Kind.{Kind}
 use Rattle.delimited_input.specs.declared.tally.Tally.{Tally}
-use Rattle.delimited_input.specs.Kinds.{Row, is_integer, is_number, is_time, is_missing, filled_of, kind_of_texts, text_in, sample_of, column_kind, kinds_of}
+use Rattle.delimited_input.specs.Kinds.{Row, is_integer, is_number, is_time, is_missing, filled_of, kind_of_texts, column_text, sample_of, column_kind, kinds_of}
 use Rattle.delimited_input.specs.Sampled.{tally_of, new_tally, tally_with, kind_told, kind_seen, Sampled, StandsFor}
 
 -- ---- one text more
@@ -90,20 +90,20 @@ stands_new limit columns pattern tallies size e = record {
 }
   where
     no_sample : (k : ℕ) → tally_of pattern (sample_of limit [] k) ≡ new_tally
-    no_sample k = ap (λ (rows : List Row). tally_of pattern (map (text_in k) rows)) (take_all limit [] (omega arith))
+    no_sample k = ap (λ (rows : List Row). tally_of pattern (map (column_text k) rows)) (take_all limit [] (omega arith))
 
 -- ---- one row more
 
 -- a row that still tells
-sample_more : (limit : ℕ) (rows : List Row) (row : Row) (k : ℕ) → length rows < limit → sample_of limit (rows ++ row ∷ []) k ≡ sample_of limit rows k ++ text_in k row ∷ []
+sample_more : (limit : ℕ) (rows : List Row) (row : Row) (k : ℕ) → length rows < limit → sample_of limit (rows ++ row ∷ []) k ≡ sample_of limit rows k ++ column_text k row ∷ []
 sample_more limit rows row k room =
     let size = length_push rows row in
-    ap (map (text_in k)) (take_all limit (rows ++ row ∷ []) (omega arith))
-    ∙ (map-append (text_in k) rows (row ∷ [])
-    ∙ ap (λ (shown : List Row). map (text_in k) shown ++ text_in k row ∷ []) (sym (take_all limit rows (omega arith))))
+    ap (map (column_text k)) (take_all limit (rows ++ row ∷ []) (omega arith))
+    ∙ (map-append (column_text k) rows (row ∷ [])
+    ∙ ap (λ (shown : List Row). map (column_text k) shown ++ column_text k row ∷ []) (sym (take_all limit rows (omega arith))))
 
 pub stands_taken : (old new : Sampled) (row : Row) → 0 < old.left → new.columns ≡ old.columns → new.limit ≡ old.limit → new.pattern ≡ old.pattern → new.met ≡ true → new.left ≡ old.left - 1
-    → new.tallies ≡ map (λ column. tally_with old.pattern column.1 (text_in column.0 row)) (enumerate_from 0 old.tallies)
+    → new.tallies ≡ map (λ column. tally_with old.pattern column.1 (column_text column.0 row)) (enumerate_from 0 old.tallies)
     → (rows : List Row) → StandsFor old rows → StandsFor new (rows ++ row ∷ [])
 stands_taken old new row room columns limit pattern met left tallies rows stands =
     let size = length_push rows row in
@@ -112,10 +112,10 @@ stands_taken old new row room columns limit pattern met left tallies rows stands
       met = met ∙ sym (some_row rows row);
       left = omega (arith, left, limit, stands.left);
       tallies = tallies
-          ∙ (ap (λ (told : List Tally). map (λ column. tally_with old.pattern column.1 (text_in column.0 row)) (enumerate_from 0 told)) stands.tallies
-          ∙ (numbered (λ column. tally_with old.pattern column.1 (text_in column.0 row)) (λ k. tally_of old.pattern (sample_of old.limit rows k)) 0 old.columns
-          ∙ (map_same (λ k. tally_with old.pattern (tally_of old.pattern (sample_of old.limit rows k)) (text_in k row)) (λ k. tally_of new.pattern (sample_of new.limit (rows ++ row ∷ []) k))
-          (λ k. tally_more old.pattern (sample_of old.limit rows k) (text_in k row)
+          ∙ (ap (λ (told : List Tally). map (λ column. tally_with old.pattern column.1 (column_text column.0 row)) (enumerate_from 0 told)) stands.tallies
+          ∙ (numbered (λ column. tally_with old.pattern column.1 (column_text column.0 row)) (λ k. tally_of old.pattern (sample_of old.limit rows k)) 0 old.columns
+          ∙ (map_same (λ k. tally_with old.pattern (tally_of old.pattern (sample_of old.limit rows k)) (column_text k row)) (λ k. tally_of new.pattern (sample_of new.limit (rows ++ row ∷ []) k))
+          (λ k. tally_more old.pattern (sample_of old.limit rows k) (column_text k row)
           ∙ (ap (tally_of old.pattern) (sym (sample_more old.limit rows row k tells))
           ∙ (ap (λ (n : ℕ). tally_of old.pattern (sample_of n (rows ++ row ∷ []) k)) (sym limit)
           ∙ ap (λ (p : List Piece). tally_of p (sample_of new.limit (rows ++ row ∷ []) k)) (sym pattern)))) (range_with_len 0 old.columns)
@@ -137,7 +137,7 @@ stands_past old new row full columns limit pattern met left tallies rows stands 
       tallies = tallies
           ∙ (stands.tallies
           ∙ (map_same (λ k. tally_of old.pattern (sample_of old.limit rows k)) (λ k. tally_of new.pattern (sample_of new.limit (rows ++ row ∷ []) k))
-          (λ k. ap (λ (shown : List Row). tally_of old.pattern (map (text_in k) shown)) (sym (take-append-le old.limit rows (row ∷ []) enough))
+          (λ k. ap (λ (shown : List Row). tally_of old.pattern (map (column_text k) shown)) (sym (take-append-le old.limit rows (row ∷ []) enough))
           ∙ (ap (λ (n : ℕ). tally_of old.pattern (sample_of n (rows ++ row ∷ []) k)) (sym limit)
           ∙ ap (λ (p : List Piece). tally_of p (sample_of new.limit (rows ++ row ∷ []) k)) (sym pattern))) (range_with_len 0 old.columns)
           ∙ ap (λ n. map (λ (k : ℕ). tally_of new.pattern (sample_of new.limit (rows ++ row ∷ []) k)) (range_with_len 0 n)) (sym columns)));

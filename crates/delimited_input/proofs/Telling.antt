@@ -6,12 +6,12 @@ use Rattle.std.proofs.lemmas.List.FromFn.{length-enumerate_from, get_or-enumerat
 use Rattle.std.proofs.Math.Seq.{drop-cons}
 use Rattle.lp_time.specs.declared.piece.Piece.{Piece}
 use Rattle.delimited_input.specs.declared.tally.Tally.{Tally}
-use Rattle.delimited_input.specs.Kinds.{Row, text_in}
+use Rattle.delimited_input.specs.Kinds.{Row, column_text}
 use Rattle.delimited_input.specs.Sampled.{tally_with}
 
 -- what a row tells of a column
 abbrev pub told_of : List Piece → Row → ℕ × Tally → Tally
-told_of pattern row column = tally_with pattern column.1 (text_in column.0 row)
+told_of pattern row column = tally_with pattern column.1 (column_text column.0 row)
 
 pub record ToldUpTo (pattern : List Piece) (row : Row) (old : List Tally) (place : ℕ) (new : List Tally) : Type 0 where
   pub size : length new ≡ length old
@@ -22,7 +22,7 @@ pub told_none : (pattern : List Piece) (row : Row) (old : List Tally) → ToldUp
 told_none pattern row old = record { size = refl; told = refl; rest = refl }
 
 pub told_more : (pattern : List Piece) (row : Row) (old new : List Tally) (place : ℕ) (tally d : Tally) → ToldUpTo pattern row old place new → place < length new
-    → tally ≡ tally_with pattern (get_or new place d) (text_in place row) → ToldUpTo pattern row old (place + 1) (set new place tally)
+    → tally ≡ tally_with pattern (get_or new place d) (column_text place row) → ToldUpTo pattern row old (place + 1) (set new place tally)
 told_more pattern row old new place tally d told more e =
     let within : place < length old = omega (arith, told.size) in
     let listed : place < length (enumerate_from 0 old) = omega (arith, length-enumerate_from 0 old) in
@@ -35,7 +35,7 @@ told_more pattern row old new place tally d told more e =
       size = length-set new place tally ∙ told.size;
       told = take_more_set new place tally more
           ∙ (ap (λ (front : List Tally). front ++ tally ∷ []) told.told
-          ∙ (ap (λ (t : Tally). map (told_of pattern row) (take place (enumerate_from 0 old)) ++ t ∷ []) (e ∙ ap (λ (t : Tally). tally_with pattern t (text_in place row)) same)
+          ∙ (ap (λ (t : Tally). map (told_of pattern row) (take place (enumerate_from 0 old)) ++ t ∷ []) (e ∙ ap (λ (t : Tally). tally_with pattern t (column_text place row)) same)
           ∙ (ap (λ (column : ℕ × Tally). map (told_of pattern row) (take place (enumerate_from 0 old)) ++ told_of pattern row column ∷ [])
           (sym (get_or-enumerate_from 0 old place (0, d) within ∙ ap (λ (n : ℕ). (n, get_or old place d)) zero_sum))
           ∙ (sym (map-append (told_of pattern row) (take place (enumerate_from 0 old)) (get_or (enumerate_from 0 old) place (0, d) ∷ []))

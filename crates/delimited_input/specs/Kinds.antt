@@ -39,12 +39,12 @@ abbrev pub kind_of_texts : List Piece → List (List ℕ) → Kind
 kind_of_texts pattern texts = if length (filled_of texts) == 0 then Text else kind_by pattern (filled_of texts)
 
 -- a row's text in a column
-abbrev pub text_in : ℕ → Row → List ℕ
-text_in column row = slice_index_or row column []
+abbrev pub column_text : ℕ → Row → List ℕ
+column_text column row = slice_index_or row column []
 
 -- the texts of a column in the first rows
 abbrev pub sample_of : ℕ → List Row → ℕ → List (List ℕ)
-sample_of limit rows column = map (text_in column) (take limit rows)
+sample_of limit rows column = map (column_text column) (take limit rows)
 
 -- the kind of a column, which is any where there is no row
 abbrev pub column_kind : List Piece → ℕ → List Row → ℕ → Kind

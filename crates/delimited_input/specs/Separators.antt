@@ -2,5 +2,5 @@
 use Rattle.std.specs.Prelude.{◌≡◌, ◌<◌, ◌⊎◌, ℕ}
 
 -- CR, LF, a quote, or over 0x7E
-abbrev pub IsRefused : ℕ → Type 0
-IsRefused separator = (separator ≡ 13) ⊎ (separator ≡ 10) ⊎ (separator ≡ 34) ⊎ (0x7E < separator)
+abbrev pub IsNoSeparator : ℕ → Type 0
+IsNoSeparator separator = (separator ≡ 13) ⊎ (separator ≡ 10) ⊎ (separator ≡ 34) ⊎ (0x7E < separator)

@@ -1,7 +1,7 @@
 -- The value of a field in a column of a kind.
 use Rattle.std.specs.Prelude.{ℕ, List, ℤ, pos, ◌*ℤ◌, Option, Some, None}
 use Rattle.std.specs.Str.Lossy.{utf8_lossy}
-use Rattle.lp_time.specs.Readings.{part_of, seconds_in}
+use Rattle.lp_time.specs.Readings.{pattern_part, seconds_in}
 use Rattle.lp_time.specs.declared.piece.Piece.{Piece}
 use Rattle.lp_values.specs.Arithmetic.{kept, real_of}
 use Rattle.lp_values.specs.Readings.{integer_in, real_in}
@@ -25,7 +25,7 @@ abbrev pub number_value : List ℕ → Value
 number_value text = number_or (integer_in text) (or_null Real (real_in text))
 
 abbrev pub stamp_value : List Piece → List ℕ → Value
-stamp_value pattern text = or_null (stamp_of (part_of pattern)) (seconds_in pattern text)
+stamp_value pattern text = or_null (stamp_of (pattern_part pattern)) (seconds_in pattern text)
 
 -- the value of a text; one that doesn't read in its column's kind is NULL
 abbrev pub text_value : Kind → List Piece → List ℕ → Value

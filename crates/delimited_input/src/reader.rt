@@ -5,7 +5,7 @@ ghost use Rattle.lp_model.specs.Reading.{passed, bad, rows};
 ghost use Rattle.delimited_input.specs.Kept.{texts_of};
 ghost use Rattle.delimited_input.specs.Lines.{fields_in, is_broken, first_reading, filled_reading, delimited_lines};
 ghost use Rattle.delimited_input.specs.Names.{made_names, header_names};
-ghost use Rattle.delimited_input.specs.Separators.{IsRefused};
+ghost use Rattle.delimited_input.specs.Separators.{IsNoSeparator};
 ghost use Rattle.delimited_input.specs.Setting.{first_columns, filled_columns};
 ghost use Rattle.delimited_input.specs.Stepping.{columns_step, steps_look_back};
 
@@ -35,7 +35,7 @@ impl Model for Delimited {
 impl Delimited {
     pub fn new(options: DelimitedOptions) -> Result<Delimited, BadOption>
         ensures ok { IfOk result (λ reader. reader ≡ options) }
-        ensures refused { IsErr result ↔ IsRefused options.separator }
+        ensures refused { IsErr result ↔ IsNoSeparator options.separator }
     {
         match options.separator {
             b'\r' | b'\n' | b'"' => Err(BadOption),

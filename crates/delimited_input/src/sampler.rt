@@ -1,7 +1,7 @@
 // The kinds of columns, judged from the first rows.
 ghost use Rattle.std.specs.Prelude.{◌≡◌, ◌∷◌, ◌++◌, [], List, IfOk, OnOk, OnErr, map, replicate};
 ghost use Rattle.std.specs.List.{enumerate_from};
-ghost use Rattle.delimited_input.specs.Kinds.{Row, text_in, kinds_of};
+ghost use Rattle.delimited_input.specs.Kinds.{Row, column_text, kinds_of};
 ghost use Rattle.delimited_input.specs.Sampled.{new_tally, tally_with, kind_seen, StandsFor};
 
 use crate::tally::Tally;
@@ -43,8 +43,8 @@ fn new_tallies(alloc: Global, columns: usize) -> Result<Vec<Tally>, AllocError>
 }
 
 // A row's text in a column.
-fn text_in(row: &TextList, column: usize) -> &str
-    ensures { result.now ≡ text_in column row.now }
+fn column_text(row: &TextList, column: usize) -> &str
+    ensures { result.now ≡ column_text column row.now }
 {
     match row.get(column) {
         Some(text) => text.as_str(),
@@ -54,10 +54,10 @@ fn text_in(row: &TextList, column: usize) -> &str
 
 // Takes a row into the tallies.
 fn take_row(tallies: &mut [Tally], pattern: &Pattern, row: &TextList)
-    ensures { tallies.new ≡ map (λ column. tally_with pattern.now column.1 (text_in column.0 row.now)) (enumerate_from 0 tallies.old) }
+    ensures { tallies.new ≡ map (λ column. tally_with pattern.now column.1 (column_text column.0 row.now)) (enumerate_from 0 tallies.old) }
 {
     for column in 0..tallies.len() {
-        tallies[column] = tallies[column].with(pattern, text_in(row, column));
+        tallies[column] = tallies[column].with(pattern, column_text(row, column));
     }
 }
 

@@ -26,7 +26,7 @@ use Rattle.query_types.specs.declared.alias.Alias.{Alias}
 use Rattle.query_types.specs.declared.fault.TypeFault.{TypeFault}
 use Rattle.query_types.specs.declared.fault.TypeFault.TheVariants as F
 use Rattle.query_types.specs.declared.table.TableColumns.{TableColumns}
-use Rattle.row_output.specs.Asked.{Files, columns_for, text_in}
+use Rattle.row_output.specs.Asked.{Files, columns_for, asked_text}
 use Rattle.row_output.specs.Orders.{IsPlain}
 use Rattle.sampled_run.specs.Finishes.{finish_of}
 use Rattle.execution.specs.Outputs.{asked_in, files_named, files_of, forbidden_by, is_standard, is_stdout, log_names}
@@ -81,7 +81,7 @@ same_asked spec first second moment q spans others standard once =
     (no_files spec q spans standard ∙ sym (no_files spec q others standard)) (same_text spec (output_of spec q) first second moment once)
 
 pub asked_begins : (spec : Spec) (template : Sections) (moment : ℤ) (q : model.Query) (spans : List Span) (plan : PlannedQuery) (rows more : List Row) → IsAtOnce (output_of spec q)
-    → Begins (text_in (asked_in spec template moment q spans plan) true rows) (text_in (asked_in spec template moment q spans plan) true (rows ++ more))
+    → Begins (asked_text (asked_in spec template moment q spans plan) true rows) (asked_text (asked_in spec template moment q spans plan) true (rows ++ more))
 asked_begins spec template moment q spans plan rows more once =
     text_begins spec (output_of spec q) template moment true (asked_in spec template moment q spans plan).columns rows more once
 

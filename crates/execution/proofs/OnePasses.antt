@@ -17,7 +17,7 @@ use Rattle.query_run.proofs.OnePass.{in_one_pass}
 use Rattle.query_run.proofs.WholeRun.{told_map}
 use Rattle.query_types.specs.Planned.{Planned, plan_of}
 use Rattle.query_types.specs.declared.table.TableColumns.{TableColumns}
-use Rattle.row_output.specs.Asked.{Asked, text_in}
+use Rattle.row_output.specs.Asked.{Asked, asked_text}
 use Rattle.row_output.specs.Orders.{IsPlain}
 use Rattle.text_output.specs.Output.{StageKind}
 use Rattle.tpl_output.specs.Sections.{Sections}
@@ -54,10 +54,10 @@ module _ {S : Type 0} (kind : StageKind S) (goes : S → S → Type 0) (keeps : 
   made plan folder front span place = table_rows format (of_rows plan) (rows_met (spans_met (lines_of format) waits folder front ++ rows_up_to (lines_of format) folder span place))
 
   -- the text by a template is that by none
-  as_standard : (plan : Planned) (rows : List Row) → text_in (asked (of_rows plan)) true rows ≡ standard_text spec moment q plan rows
-  as_standard plan rows = ap (λ (a : PlannedQuery → Asked). text_in (a (of_rows plan)) true rows) (same_asked spec template no_sections moment q spans [] passes.standard passes.output)
+  as_standard : (plan : Planned) (rows : List Row) → asked_text (asked (of_rows plan)) true rows ≡ standard_text spec moment q plan rows
+  as_standard plan rows = ap (λ (a : PlannedQuery → Asked). asked_text (a (of_rows plan)) true rows) (same_asked spec template no_sections moment q spans [] passes.standard passes.output)
 
-  ahead_of : (plan : Planned) → query_plan (table_of format) moment q ≡ Ok (of_rows plan) → IsPassed kind goes (text_in (asked (of_rows plan))) (table_picks format plan) (lines_of format) waits told spans before now start end
+  ahead_of : (plan : Planned) → query_plan (table_of format) moment q ≡ Ok (of_rows plan) → IsPassed kind goes (asked_text (asked (of_rows plan))) (table_picks format plan) (lines_of format) waits told spans before now start end
       → IsAheadOf spec moment q format waits told spans (kind.state start).taken (kind.state end).taken before now
   ahead_of plan is_planned a = record {
     plan = plan;

@@ -30,7 +30,7 @@ use Rattle.execution.specs.Plans.{PlannedQuery, told_rows}
 use Rattle.execution.proofs.AtOnce.{ok_same}
 use Rattle.execution.proofs.Budgeting.{AreAll, told_beside}
 use Rattle.execution.proofs.InTurns.{most_all, within_all}
-use Rattle.execution.specs.Telling.{IsFront, IsRefused, IsTold, Telling, TellsInTurn, plan_at, telling}
+use Rattle.execution.specs.Telling.{IsFront, IsUntypedRun, IsTold, Telling, TellsInTurn, plan_at, telling}
 use Rattle.execution.specs.Telling.{IsUnplacedAt as IsRefusedAt}
 use Rattle.execution.specs.Telling.{IsUnplaced as IsRefusedOutput}
 
@@ -130,7 +130,7 @@ module _ {S : Type 0} (kind : StageKind S) (told : Option Folder) (start now : S
   -- ---- no plan was made, and nothing written
 
   abbrev Refuses : Option Folder → List Span → TypeFault → Type 0
-  Refuses told spans fault = Told told (λ folder. Kept options waits spans folder → IsRefused (rules_with limit spec moment q asked) start (past_of (delimited_lines options) waits folder spans) fault now)
+  Refuses told spans fault = Told told (λ folder. Kept options waits spans folder → IsUntypedRun (rules_with limit spec moment q asked) start (past_of (delimited_lines options) waits folder spans) fault now)
 
   unplanned_all : (told : Option Folder) (spans : List Span) (fault : TypeFault) → Refuses told spans fault → IsUnplanned (F.Sampled options limit) waits told spec moment q spans fault
   unplanned_all None spans fault refused = tt

@@ -12,7 +12,7 @@ use Rattle.log_reading.specs.declared.span.Span.{Span}
 use Rattle.order_top.specs.Finish.{Row}
 use Rattle.query_types.specs.Built.{is_built}
 use Rattle.query_types.specs.Planned.{Planned}
-use Rattle.row_output.specs.Asked.{text_in}
+use Rattle.row_output.specs.Asked.{asked_text}
 use Rattle.execution.specs.declared.formats.LogFormat.TheVariants as F
 use Rattle.execution.specs.Formats.{log_format}
 use Rattle.execution.specs.Outputs.{asked_in, is_standard}
@@ -40,7 +40,7 @@ pub record GoesInPass (spec : Spec) (q : model.Query) (format : TableFormat) : T
 
 -- the text of a query's rows on standard output, by no template
 abbrev pub standard_text : Spec → ℤ → model.Query → Planned → List Row → List ℕ
-standard_text spec moment q plan rows = text_in (asked_in spec no_sections moment q [] (of_rows plan)) true rows
+standard_text spec moment q plan rows = asked_text (asked_in spec no_sections moment q [] (of_rows plan)) true rows
 
 -- How far spans of logs were read ahead of what a stage has taken
 

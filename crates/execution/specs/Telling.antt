@@ -44,7 +44,7 @@ abbrev pub rows_at : Telling → Past → PlannedQuery → List (List Value)
 rows_at rules past plan = told_rows rules.pattern (told_at rules.limit rules.pattern past) plan past.founds
 
 -- the query has no plan, by this fault, and nothing is written
-pub record IsRefused {S : Type 0} (rules : Telling) (start : S) (past : Past) (why : TypeFault) (now : S) : Type 0 where
+pub record IsUntypedRun {S : Type 0} (rules : Telling) (start : S) (past : Past) (why : TypeFault) (now : S) : Type 0 where
   pub fault : plan_at rules past ≡ Err why
   pub nothing : now ≡ start
 
@@ -98,7 +98,7 @@ pub record IsTold {S : Type 0} (kind : StageKind S) (rules : Telling) (start : S
 
 -- the query has no plan, an output is refused, or the rows were to be written
 abbrev pub IsStoppedBy : {S : Type 0} → StageKind S → Telling → S → Past → SampleFault → S → Type 0
-IsStoppedBy kind rules start past (F.Plan fault) now = IsRefused rules start past fault now
+IsStoppedBy kind rules start past (F.Plan fault) now = IsUntypedRun rules start past fault now
 IsStoppedBy kind rules start past (F.Refused why) now = IsUnplaced kind rules start past why now
 IsStoppedBy kind rules start past (F.Bad log row) now = IsFront kind rules start past now
 IsStoppedBy kind rules start past F.Logs now = IsFront kind rules start past now

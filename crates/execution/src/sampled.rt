@@ -2,7 +2,7 @@
 ghost use Rattle.std.specs.Prelude.{◌≡◌, ◌≤◌, ◌+◌, true, length, map, IfOk, OnErr, IsErrOf};
 ghost use Rattle.lp_model.specs.Outside.{Rose, OnlyGrow, Told};
 ghost use Rattle.delimited_input.specs.Lines.{delimited_lines};
-ghost use Rattle.delimited_input.specs.Separators.{IsRefused};
+ghost use Rattle.delimited_input.specs.Separators.{IsNoSeparator};
 ghost use Rattle.log_reading.specs.Page.{IsWithin};
 ghost use Rattle.log_reading.specs.Spans.{AllSpans, AreReadable, AreKept, IsSpan, spans_size, took_of};
 ghost use Rattle.any_format.specs.Wanted.{wanted_text};
@@ -48,7 +48,7 @@ pub(crate) fn execute_sampled<L: LogSource, G: Stage>(
     into: Into,
     stage: &mut G,
 ) -> Result<Ran, RunFault>
-    requires separator { ¬ IsRefused options.separator }
+    requires separator { ¬ IsNoSeparator options.separator }
     requires moment { IsMoment moment.seconds }
     requires budget { IsBudget spec.now.errors (given_bad (query_of query.now)) budget }
     requires none { IsUnplaced into }

@@ -4,7 +4,7 @@ ghost use Rattle.lp_model.specs.Outside.{Rose, OnlyGrow, Told};
 ghost use Rattle.log_reading.specs.Page.{IsTooMany, IsWithin};
 ghost use Rattle.log_reading.specs.Spans.{AllSpans, AreReadable, AreKept, IsSpan, spans_bad_lines, spans_size, took_of};
 ghost use Rattle.delimited_input.specs.Lines.{delimited_lines};
-ghost use Rattle.delimited_input.specs.Separators.{IsRefused};
+ghost use Rattle.delimited_input.specs.Separators.{IsNoSeparator};
 ghost use Rattle.any_format.specs.Wanted.{IsMoment, wanted_text};
 ghost use Rattle.text_output.specs.Output.{kind_of};
 ghost use Rattle.row_output.specs.Sinks.{IsUnplaced, files_for};
@@ -44,7 +44,7 @@ pub(crate) fn sample_query<'a, L: LogSource, G: Stage>(
     took: &mut TookList,
     stage: &mut G,
 ) -> Result<Written, SampleFault>
-    requires separator { ¬ IsRefused options.separator }
+    requires separator { ¬ IsNoSeparator options.separator }
     requires moment { IsMoment moment.seconds }
     requires none { IsUnplaced into }
     requires few { length spans.now ≤ 100000 }

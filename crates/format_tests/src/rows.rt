@@ -21,7 +21,7 @@ pub fn bytes_of(alloc: Global, text: &str) -> Result<Bytes, AllocError> {
     Ok(to)
 }
 
-fn text_in(alloc: Global, text: &str) -> Result<Text, AllocError> {
+fn text_from(alloc: Global, text: &str) -> Result<Text, AllocError> {
     let bytes = bytes_of(alloc, text)?;
     Text::read(alloc, bytes.as_slice())
 }
@@ -34,7 +34,7 @@ fn stamp_at(seconds: &str) -> Value {
 fn other_value(alloc: Global, text: &str) -> Result<Value, AllocError> {
     match text.strip_prefix('@') {
         Some(seconds) => Ok(stamp_at(seconds)),
-        None => Ok(Value::Text(text_in(alloc, text)?)),
+        None => Ok(Value::Text(text_from(alloc, text)?)),
     }
 }
 
@@ -61,7 +61,7 @@ fn row_of(alloc: Global, text: &str) -> Result<ValueList, AllocError> {
 }
 
 fn add_name(alloc: Global, names: &mut TextList, text: &str) -> Result<(), AllocError> {
-    names.push(text_in(alloc, text)?)
+    names.push(text_from(alloc, text)?)
 }
 
 fn names_of(alloc: Global, text: &str) -> Result<TextList, AllocError> {

@@ -141,17 +141,17 @@ abbrev pub placed : Token → Placed
 placed t = record { at = t.at; text = t.name }
 
 -- the text of an expression that is one
-abbrev pub text_in : Tree → Option Placed
-text_in (Integer at n) = None
-text_in (Real at n) = None
-text_in (Text at t) = Some (record { at = at; text = t })
-text_in (Null at) = None
-text_in (Timestamp at v p) = None
-text_in (Word at t) = None
-text_in (Call at t es) = None
-text_in (CountAll at) = None
-text_in (PropCountAll at) = None
-text_in (Case at e ws o) = None
+abbrev pub placed_text : Tree → Option Placed
+placed_text (Integer at n) = None
+placed_text (Real at n) = None
+placed_text (Text at t) = Some (record { at = at; text = t })
+placed_text (Null at) = None
+placed_text (Timestamp at v p) = None
+placed_text (Word at t) = None
+placed_text (Call at t es) = None
+placed_text (CountAll at) = None
+placed_text (PropCountAll at) = None
+placed_text (Case at e ws o) = None
 
 abbrev pub both_texts : Option Placed → Option Placed → Option (Placed × Placed)
 both_texts (Some v) (Some p) = Some (v, p)
@@ -162,7 +162,7 @@ both_texts None p = None
 abbrev pub two_texts : List Tree → Option (Placed × Placed)
 two_texts [] = None
 two_texts (e ∷ []) = None
-two_texts (e ∷ d ∷ []) = both_texts (text_in e) (text_in d)
+two_texts (e ∷ d ∷ []) = both_texts (placed_text e) (placed_text d)
 two_texts (e ∷ d ∷ b ∷ bs) = None
 
 abbrev pub stamp_or : Tree → ℕ → Option (Placed × Placed) → Tree

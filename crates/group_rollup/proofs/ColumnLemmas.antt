@@ -9,12 +9,12 @@ use Rattle.lp_values.specs.declared.value.Value.TheVariants.{Null, Int}
 use Rattle.lp_values.specs.declared.kind.Kind.TheVariants as K
 use Rattle.lp_values.specs.declared.group.AggKind.{AggKind}
 use Rattle.lp_values.specs.declared.group.AggKind.TheVariants.{CountAll, Count, Sum, Avg, Min, Max, PropCount}
-use Rattle.group_rollup.specs.declared.column.Column.{Column}
-use Rattle.group_rollup.specs.declared.column.Column.TheVariants.{Records, Values, Totals, Least, Greatest}
+use Rattle.group_rollup.specs.declared.column.AggregateColumn.{AggregateColumn}
+use Rattle.group_rollup.specs.declared.column.AggregateColumn.TheVariants.{Records, Values, Totals, Least, Greatest}
 use Rattle.group_rollup.specs.declared.column.Total.{Total}
 use Rattle.group_rollup.specs.declared.changes.Change.{Change}
 use Rattle.group_rollup.specs.declared.changes.Change.TheVariants as C
-use Rattle.group_rollup.specs.Groups.{first_of, rest_of, exact_sum, present, least, greatest, aggregate, aggregates, number_in, sum_in, part_of}
+use Rattle.group_rollup.specs.Groups.{first_of, rest_of, exact_sum, present, least, greatest, aggregate, aggregates, number_in, sum_in, quotient_or_null}
 use Rattle.group_rollup.specs.Columns.{Tally, tally, total_of, column_of, columns_of, no_column, begun, cut, groups_in, AllHave, is_lesser, is_greater, count_sum, total_sum, if_better, put_best, change_by, change_from, applied, changes_by, changes_from, all_applied, finished, all_finished}
 use Rattle.group_rollup.specs.Tables.{IsSmall, AreSmall}
 use Rattle.group_rollup.proofs.Places.{at_place, past_end, at_end, set_end}
@@ -35,57 +35,57 @@ take_more [] x (suc n) e = absurd (omega (arith, e))
 take_more (y ∷ xs) x zero e = absurd (omega (arith, e))
 take_more (y ∷ xs) x (suc n) e = ap (λ t. y ∷ t) (take_more xs x n (omega (arith, e)))
 
-cut_one : (column : Column) (n : ℕ) → groups_in column ≡ n → cut n column ≡ column
+cut_one : (column : AggregateColumn) (n : ℕ) → groups_in column ≡ n → cut n column ≡ column
 cut_one (Records counts) n e = ap Records (take_same counts n e)
 cut_one (Values counts) n e = ap Values (take_same counts n e)
 cut_one (Totals totals) n e = ap Totals (take_same totals n e)
 cut_one (Least values) n e = ap Least (take_same values n e)
 cut_one (Greatest values) n e = ap Greatest (take_same values n e)
 
-cut_begun : (column : Column) (n : ℕ) → groups_in column ≡ n → cut n (begun column) ≡ column
+cut_begun : (column : AggregateColumn) (n : ℕ) → groups_in column ≡ n → cut n (begun column) ≡ column
 cut_begun (Records counts) n e = ap Records (take_more counts _ n e)
 cut_begun (Values counts) n e = ap Values (take_more counts _ n e)
 cut_begun (Totals totals) n e = ap Totals (take_more totals _ n e)
 cut_begun (Least values) n e = ap Least (take_more values _ n e)
 cut_begun (Greatest values) n e = ap Greatest (take_more values _ n e)
 
-pub cut_same : (n : ℕ) (columns : List Column) → AllHave n columns → map (cut n) columns ≡ columns
+pub cut_same : (n : ℕ) (columns : List AggregateColumn) → AllHave n columns → map (cut n) columns ≡ columns
 cut_same n [] all = refl
 cut_same n (column ∷ columns) all = λ i. cut_one column n all.0 i ∷ cut_same n columns all.1 i
 
-pub cut_begun_all : (n : ℕ) (columns : List Column) → AllHave n columns → map (cut n) (map begun columns) ≡ columns
+pub cut_begun_all : (n : ℕ) (columns : List AggregateColumn) → AllHave n columns → map (cut n) (map begun columns) ≡ columns
 cut_begun_all n [] all = refl
 cut_begun_all n (column ∷ columns) all = λ i. cut_begun column n all.0 i ∷ cut_begun_all n columns all.1 i
 
 -- some of the first columns have a group more
-pub cut_grown : (n i : ℕ) (columns : List Column) → AllHave n columns → map (cut n) (map begun (take i columns) ++ drop i columns) ≡ columns
+pub cut_grown : (n i : ℕ) (columns : List AggregateColumn) → AllHave n columns → map (cut n) (map begun (take i columns) ++ drop i columns) ≡ columns
 cut_grown n zero columns all = cut_same n columns all
 cut_grown n (suc i) [] all = refl
 cut_grown n (suc i) (column ∷ columns) all = λ j. cut_begun column n all.0 j ∷ cut_grown n i columns all.1 j
 
-pub grown_more : (i : ℕ) (columns : List Column) (d : Column) → i < length columns
+pub grown_more : (i : ℕ) (columns : List AggregateColumn) (d : AggregateColumn) → i < length columns
     → slice_set (map begun (take i columns) ++ drop i columns) i (begun (get_or columns i d)) ≡ map begun (take (suc i) columns) ++ drop (suc i) columns
 grown_more i [] d h = absurd (omega (arith, h))
 grown_more zero (column ∷ columns) d h = refl
 grown_more (suc i) (column ∷ columns) d h = ap (λ t. begun column ∷ t) (grown_more i columns d (omega (arith, h)))
 
-pub grown_at : (i : ℕ) (columns : List Column) (d : Column) → get_or (map begun (take i columns) ++ drop i columns) i d ≡ get_or columns i d
+pub grown_at : (i : ℕ) (columns : List AggregateColumn) (d : AggregateColumn) → get_or (map begun (take i columns) ++ drop i columns) i d ≡ get_or columns i d
 grown_at zero columns d = refl
 grown_at (suc i) [] d = refl
 grown_at (suc i) (column ∷ columns) d = grown_at i columns d
 
 -- How many there are.
 
-pub length_changes : (columns : List Column) (index : ℕ) (values : List Value) → length (changes_by columns index values) ≡ length columns
+pub length_changes : (columns : List AggregateColumn) (index : ℕ) (values : List Value) → length (changes_by columns index values) ≡ length columns
 length_changes [] index values = refl
 length_changes (column ∷ columns) index values = ap suc (length_changes columns index (rest_of values))
 
-pub length_changes_from : (columns : List Column) (index : ℕ) (others : List Column) (at : ℕ) → length others ≡ length columns → length (changes_from columns index others at) ≡ length columns
+pub length_changes_from : (columns : List AggregateColumn) (index : ℕ) (others : List AggregateColumn) (at : ℕ) → length others ≡ length columns → length (changes_from columns index others at) ≡ length columns
 length_changes_from [] index others at e = refl
 length_changes_from (column ∷ columns) index [] at e = absurd (omega (arith, e))
 length_changes_from (column ∷ columns) index (other ∷ others) at e = ap suc (length_changes_from columns index others at (omega (arith, e)))
 
-pub length_applied : (columns : List Column) (index : ℕ) (changes : List Change) → length (all_applied columns index changes) ≡ length columns
+pub length_applied : (columns : List AggregateColumn) (index : ℕ) (changes : List Change) → length (all_applied columns index changes) ≡ length columns
 length_applied [] index changes = refl
 length_applied (column ∷ columns) index [] = refl
 length_applied (column ∷ columns) index (change ∷ changes) = ap suc (length_applied columns index changes)
@@ -94,7 +94,7 @@ length_best : (values : List Value) (index : ℕ) (best : Option Value) → leng
 length_best values index None = refl
 length_best values index (Some value) = length-set values index value
 
-have_applied : (column : Column) (index : ℕ) (change : Change) → groups_in (applied column index change) ≡ groups_in column
+have_applied : (column : AggregateColumn) (index : ℕ) (change : Change) → groups_in (applied column index change) ≡ groups_in column
 have_applied (Records counts) index (C.Count by) = length-set counts index _
 have_applied (Records counts) index (C.Sum by) = refl
 have_applied (Records counts) index (C.Best by) = refl
@@ -111,7 +111,7 @@ have_applied (Greatest values) index (C.Count by) = refl
 have_applied (Greatest values) index (C.Sum by) = refl
 have_applied (Greatest values) index (C.Best by) = length_best values index by
 
-pub all_have_applied : (n : ℕ) (columns : List Column) (index : ℕ) (changes : List Change) → AllHave n columns → AllHave n (all_applied columns index changes)
+pub all_have_applied : (n : ℕ) (columns : List AggregateColumn) (index : ℕ) (changes : List Change) → AllHave n columns → AllHave n (all_applied columns index changes)
 all_have_applied n [] index changes all = tt
 all_have_applied n (column ∷ columns) index [] all = all
 all_have_applied n (column ∷ columns) index (change ∷ changes) all = (have_applied column index change ∙ all.0, all_have_applied n columns index changes all.1)
@@ -119,14 +119,14 @@ all_have_applied n (column ∷ columns) index (change ∷ changes) all = (have_a
 one_more : {A : Type 0} (xs : List A) (x : A) (n : ℕ) → length xs ≡ n → length (xs ++ x ∷ []) ≡ n + 1
 one_more xs x n e = omega (arith, length-append xs (x ∷ []), e)
 
-have_begun : (column : Column) (n : ℕ) → groups_in column ≡ n → groups_in (begun column) ≡ n + 1
+have_begun : (column : AggregateColumn) (n : ℕ) → groups_in column ≡ n → groups_in (begun column) ≡ n + 1
 have_begun (Records counts) n e = one_more counts _ n e
 have_begun (Values counts) n e = one_more counts _ n e
 have_begun (Totals totals) n e = one_more totals _ n e
 have_begun (Least values) n e = one_more values _ n e
 have_begun (Greatest values) n e = one_more values _ n e
 
-pub all_have_begun : (n : ℕ) (columns : List Column) → AllHave n columns → AllHave (n + 1) (map begun columns)
+pub all_have_begun : (n : ℕ) (columns : List AggregateColumn) → AllHave n columns → AllHave (n + 1) (map begun columns)
 all_have_begun n [] all = tt
 all_have_begun n (column ∷ columns) all = (have_begun column n all.0, all_have_begun n columns all.1)
 
@@ -316,10 +316,10 @@ finished_is : (kind : AggKind) (all : ℕ) (groups : List (List Value)) (i : ℕ
 finished_is CountAll all groups i few less = ap (λ (n : ℕ). number_in K.Integer (pos n)) (get_or-map length groups i []) ∙ int_of _ few
 finished_is Count all groups i few less = ap (λ (n : ℕ). number_in K.Integer (pos n)) (get_or-map (λ values. length (present values)) groups i []) ∙ int_of _ less
 finished_is (Sum kind) all groups i few less = ap (λ (t : Total). sum_in kind t.sum t.values) (get_or-map total_of groups i [])
-finished_is (Avg kind) all groups i few less = ap (λ (t : Total). part_of kind t.sum t.values) (get_or-map total_of groups i [])
+finished_is (Avg kind) all groups i few less = ap (λ (t : Total). quotient_or_null kind t.sum t.values) (get_or-map total_of groups i [])
 finished_is Min all groups i few less = get_or-map least groups i []
 finished_is Max all groups i few less = get_or-map greatest groups i []
-finished_is PropCount all groups i few less = ap (λ (n : ℕ). part_of K.Real (pos (n * 1_000_000)) all) (get_or-map length groups i [])
+finished_is PropCount all groups i few less = ap (λ (n : ℕ). quotient_or_null K.Real (pos (n * 1_000_000)) all) (get_or-map length groups i [])
 
 pub all_finished_is : (kinds : List AggKind) (all : ℕ) (groups : List (List (List Value))) (i : ℕ) → RowsRoom (get_or groups i [])
     → all_finished kinds all (columns_of kinds groups) i ≡ aggregates kinds all (get_or groups i [])

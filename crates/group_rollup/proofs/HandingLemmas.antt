@@ -5,7 +5,7 @@ use Rattle.lp_values.specs.declared.value.Value.{Value}
 use Rattle.lp_values.specs.declared.value.Value.TheVariants.{Null}
 use Rattle.lp_values.specs.declared.group.AggKind.{AggKind}
 use Rattle.lp_values.specs.declared.group.GroupRow.{GroupRow}
-use Rattle.group_rollup.specs.declared.column.Column.{Column}
+use Rattle.group_rollup.specs.declared.column.AggregateColumn.{AggregateColumn}
 use Rattle.group_rollup.specs.Groups.{Record, firsts, keys_of, members, arguments, aggregates, group_of, groups_at, grouped, shorter}
 use Rattle.group_rollup.specs.Columns.{columns_of}
 use Rattle.group_rollup.specs.HandedOut.{row_of, rows_of, rows_or_one, handed}
@@ -18,7 +18,7 @@ use Rattle.group_rollup.proofs.TableLemmas.{Alike, append_nil, keys_known, rows_
 up : (i : ℕ) → suc i ≡ i + 1
 up i = omega arith
 
-pub rows_next : (dropped : ℕ) (kinds : List AggKind) (all : ℕ) (columns : List Column) (keys : List (List Value)) (i : ℕ) → i < length keys
+pub rows_next : (dropped : ℕ) (kinds : List AggKind) (all : ℕ) (columns : List AggregateColumn) (keys : List (List Value)) (i : ℕ) → i < length keys
     → rows_of dropped kinds all columns (drop i keys) i ≡ row_of dropped kinds all columns (get_or keys i []) i ∷ rows_of dropped kinds all columns (drop (i + 1) keys) (i + 1)
 rows_next dropped kinds all columns keys i low =
     ap (λ (ks : List (List Value)). rows_of dropped kinds all columns ks i) (drop-cons keys i [] low)
@@ -48,7 +48,7 @@ module _ (width n : ℕ) (kinds : List AggKind) (records : List Record) (small :
       let rest = rows_made all_keys keys (i + 1) (ap (λ (k : ℕ). drop k all_keys) (sym (up i)) ∙ rest_dropped all_keys i key keys e) in
       λ j. record { keys = key ++ replicate (width - n) Null; dropped = width - n; aggregates = values j } ∷ rest j
 
-  pub all_made : (keys : List (List Value)) (columns : List Column) → Keeps n kinds keys columns records
+  pub all_made : (keys : List (List Value)) (columns : List AggregateColumn) → Keeps n kinds keys columns records
       → rows_of (width - n) kinds (length records) columns keys 0 ≡ map (group_of width kinds records n) (keys_of n records)
   all_made keys columns keeps =
       (λ j. rows_of (width - n) kinds (length records) (keeps.same_columns j) (keeps.same_keys j) 0)
@@ -65,7 +65,7 @@ one_key r records = keys_known 0 [] (r ∷ []) records (no_keys records) (ap (λ
 no_room : RowsRoom []
 no_room = record { small = tt; few = omega arith }
 
-pub handed_is : (width n : ℕ) (kinds : List AggKind) (records : List Record) (keys : List (List Value)) (columns : List Column) → AllSmall records → length records < 2 ^ 63 → Keeps n kinds keys columns records
+pub handed_is : (width n : ℕ) (kinds : List AggKind) (records : List Record) (keys : List (List Value)) (columns : List AggregateColumn) → AllSmall records → length records < 2 ^ 63 → Keeps n kinds keys columns records
     → handed n (width - n) kinds (length records) columns keys ≡ groups_at width kinds records n
 unfolding firsts
 handed_is width (suc n) kinds records keys columns small few keeps = all_made width (suc n) kinds records small few keys columns keeps
@@ -92,7 +92,7 @@ shorter_none width kinds records zero h = refl
 shorter_none width kinds records (suc m) h = absurd (omega (arith, h))
 
 -- the rows of a level are its groups
-pub level_handed : (width n all : ℕ) (kinds : List AggKind) (records : List Record) (keys : List (List Value)) (columns : List Column) → AllSmall records → length records < 2 ^ 63 → all ≡ length records → Keeps n kinds keys columns records
+pub level_handed : (width n all : ℕ) (kinds : List AggKind) (records : List Record) (keys : List (List Value)) (columns : List AggregateColumn) → AllSmall records → length records < 2 ^ 63 → all ≡ length records → Keeps n kinds keys columns records
     → handed n (width - n) kinds all columns keys ≡ groups_at width kinds records n
 level_handed width n all kinds records keys columns small few count keeps =
     ap (λ (a : ℕ). handed n (width - n) kinds a columns keys) count ∙ handed_is width n kinds records keys columns small few keeps

@@ -7,8 +7,8 @@ use Rattle.lp_values.specs.declared.value.Value.{Value}
 use Rattle.lp_values.specs.declared.group.AggKind.{AggKind}
 use Rattle.lp_values.specs.declared.group.AggKind.TheVariants.{CountAll, Count, Sum, Avg, Min, Max, PropCount}
 use Rattle.group_rollup.specs.declared.changes.Change.{Change}
-use Rattle.group_rollup.specs.declared.column.Column.{Column}
-use Rattle.group_rollup.specs.declared.column.Column.TheVariants.{Records, Values, Totals, Least, Greatest}
+use Rattle.group_rollup.specs.declared.column.AggregateColumn.{AggregateColumn}
+use Rattle.group_rollup.specs.declared.column.AggregateColumn.TheVariants.{Records, Values, Totals, Least, Greatest}
 use Rattle.group_rollup.specs.Groups.{Record, is_same, firsts, keys_of, members, arguments, first_of, rest_of}
 use Rattle.group_rollup.specs.Columns.{Tally, tally, column_of, columns_of, changes_from}
 use Rattle.group_rollup.specs.Tables.{regrouped, AllSmall, groups_of, Keeps, Stands, IsAdded}
@@ -262,7 +262,7 @@ short_keys_regrouped n width records h =
     ∙ (ap (λ (ks : List (List Value)). firsts (map (take n) ks)) (keys_regrouped width records) ∙ sym (keys_shorter n width records h))
 
 -- a table of the first n keys that holds the records group by group is as good as one that holds the records
-pub keeps_alike : (n width : ℕ) (kinds : List AggKind) (keys : List (List Value)) (columns : List Column) (records : List Record) → n ≤ width
+pub keeps_alike : (n width : ℕ) (kinds : List AggKind) (keys : List (List Value)) (columns : List AggregateColumn) (records : List Record) → n ≤ width
     → Keeps n kinds keys columns (regrouped width (keys_of width records) records) → Keeps n kinds keys columns records
 keeps_alike n width kinds keys columns records h keeps =
     let all = regrouped width (keys_of width records) records in
@@ -299,7 +299,7 @@ small_regrouped width records (x ∷ keys) small =
 up : (i : ℕ) → suc i ≡ i + 1
 up i = omega arith
 
-pub level_more : (n width : ℕ) (kinds : List AggKind) (keys : List (List Value)) (columns : List Column) (all : ℕ) (records : List Record) (level_keys : List (List Value)) (level_columns : List Column) (more_keys : List (List Value)) (more_columns : List Column) (i : ℕ) (key : List Value)
+pub level_more : (n width : ℕ) (kinds : List AggKind) (keys : List (List Value)) (columns : List AggregateColumn) (all : ℕ) (records : List Record) (level_keys : List (List Value)) (level_columns : List AggregateColumn) (more_keys : List (List Value)) (more_columns : List AggregateColumn) (i : ℕ) (key : List Value)
     → n ≤ width → Stands width kinds keys columns all records → slice_get keys i ≡ Some key → Keeps n kinds level_keys level_columns (regrouped width (take i keys) records)
     → IsAdded level_keys level_columns (take n key) (λ j. changes_from level_columns j columns i) more_keys more_columns
     → Keeps n kinds more_keys more_columns (regrouped width (take (i + 1) keys) records)
@@ -316,15 +316,15 @@ level_more n width kinds keys columns all records level_keys level_columns more_
     let few : length (done ++ ms) < 2 ^ 63 = omega (arith, less, whole, ap length together, stands.few) in
     let small = small_append done ms (small_regrouped width records (take i keys) stands.small) (kept_small (λ (r : Record). is_same key (take width r.0)) records stands.small) in
     let here : get_or groups i [] ≡ arguments ms = get_found groups i [] (arguments ms) (get_map (λ k. arguments (members width k records)) (keys_of width records) i key at') in
-    let plain = subst (λ (cs : List Column). IsAdded (keys_of n done) cs (take n key) (λ (j : ℕ). changes_from cs j columns i) more_keys more_columns) keeps.same_columns
+    let plain = subst (λ (cs : List AggregateColumn). IsAdded (keys_of n done) cs (take n key) (λ (j : ℕ). changes_from cs j columns i) more_keys more_columns) keeps.same_columns
     (subst (λ (ks : List (List Value)). IsAdded ks level_columns (take n key) (λ (j : ℕ). changes_from level_columns j columns i) more_keys more_columns) keeps.same_keys added) in
     let brings : (λ (j : ℕ). changes_from (columns_of kinds level) j columns i) ≡ (λ (j : ℕ). brought kinds level j (arguments ms)) =
-    λ t j. (ap (λ (cs : List Column). changes_from (columns_of kinds level) j cs i) stands.keeps.same_columns ∙ (group_brings kinds level j groups i ∙ ap (brought kinds level j) here)) t in
+    λ t j. (ap (λ (cs : List AggregateColumn). changes_from (columns_of kinds level) j cs i) stands.keeps.same_columns ∙ (group_brings kinds level j groups i ∙ ap (brought kinds level j) here)) t in
     subst (λ (rs : List Record). Keeps n kinds more_keys more_columns rs) (sym together ∙ ap (λ (k : ℕ). regrouped width (take k keys) records) (up i))
     (keeps_added n (take n key) kinds done ms (members_prefix n width key records h) some small few more_keys more_columns
     (subst (λ (changes : ℕ → List Change). IsAdded (keys_of n done) (columns_of kinds level) (take n key) changes more_keys more_columns) brings plain))
 
-pub level_done : (n width : ℕ) (kinds : List AggKind) (keys : List (List Value)) (columns : List Column) (all : ℕ) (records : List Record) (level_keys : List (List Value)) (level_columns : List Column) (i : ℕ)
+pub level_done : (n width : ℕ) (kinds : List AggKind) (keys : List (List Value)) (columns : List AggregateColumn) (all : ℕ) (records : List Record) (level_keys : List (List Value)) (level_columns : List AggregateColumn) (i : ℕ)
     → n ≤ width → Stands width kinds keys columns all records → length keys ≤ i → Keeps n kinds level_keys level_columns (regrouped width (take i keys) records) → Keeps n kinds level_keys level_columns records
 level_done n width kinds keys columns all records level_keys level_columns i h stands low keeps =
     keeps_alike n width kinds level_keys level_columns records h

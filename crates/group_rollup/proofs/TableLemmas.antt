@@ -8,7 +8,7 @@ use Rattle.indexmap.specs.IndexSet.{insert_key}
 use Rattle.lp_values.specs.declared.value.Value.{Value}
 use Rattle.lp_values.specs.declared.group.AggKind.{AggKind}
 use Rattle.group_rollup.specs.declared.changes.Change.{Change}
-use Rattle.group_rollup.specs.declared.column.Column.{Column}
+use Rattle.group_rollup.specs.declared.column.AggregateColumn.{AggregateColumn}
 use Rattle.group_rollup.specs.Groups.{Record, is_same, firsts, keys_of, members, arguments}
 use Rattle.group_rollup.specs.Columns.{columns_of, AllHave, begun, all_applied, changes_by, no_column}
 use Rattle.group_rollup.specs.Tables.{Table, Holds, Keeps, IsAdded, AreSmall, AllSmall, groups_of}
@@ -95,7 +95,7 @@ module _ (n : ℕ) (key : List Value) where
       record { small = kept_small (λ (r : Record). is_same k (take n r.0)) records small; few = omega (arith, less, few, length-map (members n k records) (λ (r : Record). r.1)) }
 
   module _ (kinds : List AggKind) (records ms : List Record) (alike : Alike ms) (some : 0 < length ms) (small : AllSmall (records ++ ms)) (few : length (records ++ ms) < 2 ^ 63)
-      (more_keys : List (List Value)) (more_columns : List Column) where
+      (more_keys : List (List Value)) (more_columns : List AggregateColumn) where
     abbrev old_keys : List (List Value)
     old_keys = keys_of n records
 
@@ -141,11 +141,11 @@ module _ (n : ℕ) (key : List Value) where
     ]
 
 -- with a record more
-pub keeps_record : (n : ℕ) (kinds : List AggKind) (records : List Record) (key values : List Value) (keys : List (List Value)) (columns : List Column) (more_keys : List (List Value)) (more_columns : List Column)
+pub keeps_record : (n : ℕ) (kinds : List AggKind) (records : List Record) (key values : List Value) (keys : List (List Value)) (columns : List AggregateColumn) (more_keys : List (List Value)) (more_columns : List AggregateColumn)
     → take n key ≡ key → AllSmall (records ++ (key, values) ∷ []) → length (records ++ (key, values) ∷ []) < 2 ^ 63 → Keeps n kinds keys columns records
     → IsAdded keys columns key (λ i. changes_by columns i values) more_keys more_columns → Keeps n kinds more_keys more_columns (records ++ (key, values) ∷ [])
 keeps_record n kinds records key values keys columns more_keys more_columns whole small few keeps added =
-    let plain = subst (λ (cs : List Column). IsAdded (keys_of n records) cs key (λ i. changes_by cs i values) more_keys more_columns) keeps.same_columns
+    let plain = subst (λ (cs : List AggregateColumn). IsAdded (keys_of n records) cs key (λ i. changes_by cs i values) more_keys more_columns) keeps.same_columns
     (subst (λ (ks : List (List Value)). IsAdded ks columns key (λ i. changes_by columns i values) more_keys more_columns) keeps.same_keys added) in
     let last : List Record = (key, values) ∷ [] in
     let one : 0 < length last = omega arith in
@@ -176,7 +176,7 @@ holds_more width kinds rollup records key values old new h long small few added 
     few_of : old.records ≡ length records → old.records + 1 < 2 ^ 63 → length (records ++ (key, values) ∷ []) ≡ length records + 1 → length (records ++ (key, values) ∷ []) < 2 ^ 63
     few_of e f g = omega (arith, e, f, g)
 
-pub keeps_none : (n : ℕ) (kinds : List AggKind) (keys : List (List Value)) (columns : List Column) → keys ≡ [] → columns ≡ map no_column kinds → Keeps n kinds keys columns []
+pub keeps_none : (n : ℕ) (kinds : List AggKind) (keys : List (List Value)) (columns : List AggregateColumn) → keys ≡ [] → columns ≡ map no_column kinds → Keeps n kinds keys columns []
 unfolding firsts
 keeps_none n kinds keys columns p q = record { same_keys = p; same_columns = q ∙ columns_none kinds }
 
@@ -184,7 +184,7 @@ pub holds_none : (table : Table) → table.keys ≡ [] → table.columns ≡ map
 holds_none table p q r = record { wide = refl; asked = refl; rolls = refl; count = r; small = tt; keeps = keeps_none table.width table.kinds table.keys table.columns p q }
 
 -- each column has as many places as there are keys
-pub have_added : (keys : List (List Value)) (columns : List Column) (key : List Value) (changes : ℕ → List Change) (more_keys : List (List Value)) (more_columns : List Column)
+pub have_added : (keys : List (List Value)) (columns : List AggregateColumn) (key : List Value) (changes : ℕ → List Change) (more_keys : List (List Value)) (more_columns : List AggregateColumn)
     → AllHave (length keys) columns → IsAdded keys columns key changes more_keys more_columns → AllHave (length more_keys) more_columns × (length more_columns ≡ length columns)
 have_added keys columns key changes more_keys more_columns all added = elim (eq-or-lt_of_le added.place.within) [
   | inl e ↦ at_end (added.put.absent e).0 (added.put.absent e).1
@@ -194,12 +194,12 @@ have_added keys columns key changes more_keys more_columns all added = elim (eq-
     at_end : more_keys ≡ keys ++ key ∷ [] → more_columns ≡ all_applied (map begun columns) added.index (changes added.index) → AllHave (length more_keys) more_columns × (length more_columns ≡ length columns)
     at_end p q =
         let longer : length keys + 1 ≡ length more_keys = sym (ap length p ∙ length-append keys (key ∷ [])) in (
-          subst (λ (cs : List Column). AllHave (length more_keys) cs) (sym q) (all_have_applied (length more_keys) (map begun columns) added.index (changes added.index) (subst (λ (n : ℕ). AllHave n (map begun columns)) longer (all_have_begun (length keys) columns all))),
+          subst (λ (cs : List AggregateColumn). AllHave (length more_keys) cs) (sym q) (all_have_applied (length more_keys) (map begun columns) added.index (changes added.index) (subst (λ (n : ℕ). AllHave n (map begun columns)) longer (all_have_begun (length keys) columns all))),
           ap length q ∙ (length_applied (map begun columns) added.index (changes added.index) ∙ length-map columns begun),
         )
 
     in_place : more_keys ≡ keys → more_columns ≡ all_applied columns added.index (changes added.index) → AllHave (length more_keys) more_columns × (length more_columns ≡ length columns)
     in_place p q = (
-      subst (λ (cs : List Column). AllHave (length more_keys) cs) (sym q) (all_have_applied (length more_keys) columns added.index (changes added.index) (subst (λ (n : ℕ). AllHave n columns) (sym (ap length p)) all)),
+      subst (λ (cs : List AggregateColumn). AllHave (length more_keys) cs) (sym q) (all_have_applied (length more_keys) columns added.index (changes added.index) (subst (λ (n : ℕ). AllHave n columns) (sym (ap length p)) all)),
       ap length q ∙ length_applied columns added.index (changes added.index),
     )

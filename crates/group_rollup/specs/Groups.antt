@@ -77,9 +77,9 @@ number_in K.Real n = if is_in_64_bits n then real_of n else Null
 number_in kind n = Null
 
 -- a quotient of counts or sums; of nothing NULL
-abbrev pub part_of : Kind → ℤ → ℕ → Value
-part_of kind a zero = Null
-part_of kind a (suc b) = number_in kind (int_div a (pos (suc b)))
+abbrev pub quotient_or_null : Kind → ℤ → ℕ → Value
+quotient_or_null kind a zero = Null
+quotient_or_null kind a (suc b) = number_in kind (int_div a (pos (suc b)))
 
 -- the sum of what is there, of nothing NULL
 abbrev pub sum_in : Kind → ℤ → ℕ → Value
@@ -91,10 +91,10 @@ abbrev pub aggregate : AggKind → ℕ → List Value → Value
 aggregate CountAll all values = Int (pos (length values))
 aggregate Count all values = Int (pos (length (present values)))
 aggregate (Sum kind) all values = sum_in kind (exact_sum values) (length (present values))
-aggregate (Avg kind) all values = part_of kind (exact_sum values) (length (present values))
+aggregate (Avg kind) all values = quotient_or_null kind (exact_sum values) (length (present values))
 aggregate Min all values = least values
 aggregate Max all values = greatest values
-aggregate PropCount all values = part_of K.Real (pos (length values * 1_000_000)) all
+aggregate PropCount all values = quotient_or_null K.Real (pos (length values * 1_000_000)) all
 
 abbrev pub first_of : List Value → Value
 first_of [] = Null

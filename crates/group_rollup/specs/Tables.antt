@@ -4,7 +4,7 @@ use Rattle.std.specs.List.{list_any, AllByRecursion, IsDistinct}
 use Rattle.lp_values.specs.declared.value.Value.{Value}
 use Rattle.lp_values.specs.declared.group.AggKind.{AggKind}
 use Rattle.group_rollup.specs.declared.changes.Change.{Change}
-use Rattle.group_rollup.specs.declared.column.Column.{Column}
+use Rattle.group_rollup.specs.declared.column.AggregateColumn.{AggregateColumn}
 use Rattle.group_rollup.specs.Groups.{Record, is_same, number_of, keys_of, members, arguments}
 use Rattle.group_rollup.specs.Columns.{columns_of, begun, all_applied}
 
@@ -14,7 +14,7 @@ pub record Table : Type 0 where
   pub kinds : List AggKind
   pub rollup : Bool
   pub keys : List (List Value)
-  pub columns : List Column
+  pub columns : List AggregateColumn
   pub records : ℕ
 
 -- a number lies within 64 bits
@@ -32,7 +32,7 @@ abbrev pub groups_of : ℕ → List Record → List (List (List Value))
 groups_of n records = map (λ key. arguments (members n key records)) (keys_of n records)
 
 -- keys and columns are those of the groups of the first n keys
-pub record Keeps (n : ℕ) (kinds : List AggKind) (keys : List (List Value)) (columns : List Column) (records : List Record) : Type 0 where
+pub record Keeps (n : ℕ) (kinds : List AggKind) (keys : List (List Value)) (columns : List AggregateColumn) (records : List Record) : Type 0 where
   pub same_keys : keys ≡ keys_of n records
   pub same_columns : columns ≡ columns_of kinds (groups_of n records)
 
@@ -53,12 +53,12 @@ pub record IsPlace (keys : List (List Value)) (key : List Value) (index : ℕ) :
   pub distinct : IsDistinct is_same keys
 
 -- keys and columns after changes at a place
-pub record IsPut (keys : List (List Value)) (columns : List Column) (key : List Value) (index : ℕ) (changes : List Change) (more_keys : List (List Value)) (more_columns : List Column) : Type 0 where
+pub record IsPut (keys : List (List Value)) (columns : List AggregateColumn) (key : List Value) (index : ℕ) (changes : List Change) (more_keys : List (List Value)) (more_columns : List AggregateColumn) : Type 0 where
   pub known : index < length keys → (more_keys ≡ keys) × (more_columns ≡ all_applied columns index changes)
   pub absent : index ≡ length keys → (more_keys ≡ keys ++ key ∷ []) × (more_columns ≡ all_applied (map begun columns) index changes)
 
 -- keys and columns after a list of keys brought changes, which are known for each place
-pub record IsAdded (keys : List (List Value)) (columns : List Column) (key : List Value) (changes : ℕ → List Change) (more_keys : List (List Value)) (more_columns : List Column) : Type 0 where
+pub record IsAdded (keys : List (List Value)) (columns : List AggregateColumn) (key : List Value) (changes : ℕ → List Change) (more_keys : List (List Value)) (more_columns : List AggregateColumn) : Type 0 where
   pub index : ℕ
   pub place : IsPlace keys key index
   pub put : IsPut keys columns key index (changes index) more_keys more_columns
@@ -69,7 +69,7 @@ regrouped width [] records = []
 regrouped width (key ∷ keys) records = members width key records ++ regrouped width keys records
 
 -- keys and columns are those of the groups of so many records, each number of which lies within 64 bits
-pub record Stands (width : ℕ) (kinds : List AggKind) (keys : List (List Value)) (columns : List Column) (all : ℕ) (records : List Record) : Type 0 where
+pub record Stands (width : ℕ) (kinds : List AggKind) (keys : List (List Value)) (columns : List AggregateColumn) (all : ℕ) (records : List Record) : Type 0 where
   pub keeps : Keeps width kinds keys columns records
   pub small : AllSmall records
   pub count : all ≡ length records

@@ -1,12 +1,12 @@
 // The values of aggregates, and the rows of groups.
 ghost use Rattle.std.specs.Prelude.{◌≡◌, ◌<◌, ◌++◌, [], List, Some, slice_get, length, replicate, IfOk, OnOk};
-ghost use Rattle.group_rollup.specs.Groups.{number_in, sum_in, part_of};
+ghost use Rattle.group_rollup.specs.Groups.{number_in, sum_in, quotient_or_null};
 ghost use Rattle.group_rollup.specs.Columns.{finished, all_finished, value_at};
 ghost use Rattle.group_rollup.specs.HandedOut.{row_of, rows_of};
 ghost use Rattle.lp_values.specs.declared.value.Value.{Value as Seen};
 ghost use Rattle.lp_values.specs.declared.value.Value.TheVariants.{Null};
 
-use crate::column::Column;
+use crate::column::AggregateColumn;
 use crate::rows::Rows;
 use lp_values::{AggKind, GroupRow, GroupRows, Kind, Real, Value, ValueList, copy_values};
 use std::alloc::{AllocError, Global};
@@ -32,8 +32,8 @@ fn sum_in(kind: Kind, sum: i128, values: u64) -> Value
     }
 }
 
-fn part_of(kind: Kind, whole: i128, parts: u64) -> Value
-    ensures { result ≡ part_of kind whole parts }
+fn quotient_or_null(kind: Kind, whole: i128, parts: u64) -> Value
+    ensures { result ≡ quotient_or_null kind whole parts }
 {
     if parts == 0 {
         Value::Null
@@ -42,7 +42,7 @@ fn part_of(kind: Kind, whole: i128, parts: u64) -> Value
     }
 }
 
-impl Column {
+impl AggregateColumn {
     fn copy_at(&self, alloc: Global, index: usize) -> Result<Value, AllocError>
         ensures { IfOk result (λ value. value ≡ value_at self.now index) }
     {
@@ -72,12 +72,12 @@ impl Column {
             }
             AggKind::Avg(kind) => {
                 let total = self.total_at(index);
-                Ok(part_of(kind, total.sum, total.values))
+                Ok(quotient_or_null(kind, total.sum, total.values))
             }
             AggKind::Min | AggKind::Max => self.copy_at(alloc, index),
             AggKind::PropCount => {
                 let whole = i128::from(self.count_at(index)) * 1_000_000;
-                Ok(part_of(Kind::Real, whole, all))
+                Ok(quotient_or_null(Kind::Real, whole, all))
             }
         }
     }
@@ -87,7 +87,7 @@ fn aggregates(
     alloc: Global,
     kinds: &[AggKind],
     all: u64,
-    columns: &[Column],
+    columns: &[AggregateColumn],
     index: usize,
 ) -> Result<ValueList, AllocError>
     requires { length columns.now ≡ length kinds.now }

@@ -3,8 +3,8 @@ ghost use Rattle.std.specs.Prelude.{◌≡◌, IfOk, MatchOption};
 ghost use Rattle.group_rollup.specs.Columns.{applied, change_by, change_from, tally_one, if_better, count_at, total_at, value_at};
 
 use crate::column::{
-    Column, NO_TOTAL, Total, count_one, is_greater, is_lesser, item_or, put_at, raise, raise_total,
-    total_one,
+    AggregateColumn, NO_TOTAL, Total, count_one, is_greater, is_lesser, item_or, put_at, raise,
+    raise_total, total_one,
 };
 use lp_values::Value;
 use std::alloc::{AllocError, Global};
@@ -27,7 +27,7 @@ fn copy_if(alloc: Global, better: bool, value: &Value) -> Result<Change, AllocEr
     }
 }
 
-impl Column {
+impl AggregateColumn {
     /// What a record's argument brings to a group.
     pub fn change_by(
         &self,
@@ -38,11 +38,19 @@ impl Column {
         ensures { IfOk result (λ change. change ≡ change_by self.now index (tally_one value.now)) }
     {
         match self {
-            Column::Records(_) => Ok(Change::Count(1)),
-            Column::Values(_) => Ok(Change::Count(count_one(value))),
-            Column::Totals(_) => Ok(Change::Sum(total_one(value))),
-            Column::Least(values) => copy_if(alloc, is_lesser(values, index, value), value),
-            Column::Greatest(values) => copy_if(alloc, is_greater(values, index, value), value),
+            AggregateColumn::Records(_) => Ok(Change::Count(1)),
+            AggregateColumn::Values(_) => Ok(Change::Count(count_one(value))),
+            AggregateColumn::Totals(_) => Ok(Change::Sum(total_one(value))),
+            AggregateColumn::Least(values) => copy_if(
+                alloc,
+                is_lesser(values, index, value),
+                value,
+            ),
+            AggregateColumn::Greatest(values) => copy_if(
+                alloc,
+                is_greater(values, index, value),
+                value,
+            ),
         }
     }
 
@@ -50,8 +58,8 @@ impl Column {
         ensures { result ≡ count_at self.now index }
     {
         match self {
-            Column::Records(counts) => item_or(counts, index, 0),
-            Column::Values(counts) => item_or(counts, index, 0),
+            AggregateColumn::Records(counts) => item_or(counts, index, 0),
+            AggregateColumn::Values(counts) => item_or(counts, index, 0),
             _ => 0,
         }
     }
@@ -60,7 +68,7 @@ impl Column {
         ensures { result ≡ total_at self.now index }
     {
         match self {
-            Column::Totals(totals) => item_or(totals, index, NO_TOTAL),
+            AggregateColumn::Totals(totals) => item_or(totals, index, NO_TOTAL),
             _ => NO_TOTAL,
         }
     }
@@ -70,8 +78,8 @@ impl Column {
         ensures { MatchOption result (value_at self.now index ≡ Value.Null) (λ value. value_at self.now index ≡ value.now) }
     {
         match self {
-            Column::Least(values) => values.get(index),
-            Column::Greatest(values) => values.get(index),
+            AggregateColumn::Least(values) => values.get(index),
+            AggregateColumn::Greatest(values) => values.get(index),
             _ => None,
         }
     }
@@ -81,20 +89,20 @@ impl Column {
         &self,
         alloc: Global,
         index: usize,
-        other: &Column,
+        other: &AggregateColumn,
         at: usize,
     ) -> Result<Change, AllocError>
         ensures { IfOk result (λ change. change ≡ change_from self.now index other.now at) }
     {
         match self {
-            Column::Records(_) => Ok(Change::Count(other.count_at(at))),
-            Column::Values(_) => Ok(Change::Count(other.count_at(at))),
-            Column::Totals(_) => Ok(Change::Sum(other.total_at(at))),
-            Column::Least(values) => match other.value_at(at) {
+            AggregateColumn::Records(_) => Ok(Change::Count(other.count_at(at))),
+            AggregateColumn::Values(_) => Ok(Change::Count(other.count_at(at))),
+            AggregateColumn::Totals(_) => Ok(Change::Sum(other.total_at(at))),
+            AggregateColumn::Least(values) => match other.value_at(at) {
                 Some(value) => copy_if(alloc, is_lesser(values, index, value), value),
                 None => Ok(Change::Best(None)),
             },
-            Column::Greatest(values) => match other.value_at(at) {
+            AggregateColumn::Greatest(values) => match other.value_at(at) {
                 Some(value) => copy_if(alloc, is_greater(values, index, value), value),
                 None => Ok(Change::Best(None)),
             },
@@ -105,11 +113,15 @@ impl Column {
         ensures { self.new ≡ applied self.old index change }
     {
         match (self, change) {
-            (Column::Records(counts), Change::Count(by)) => raise(counts, index, by),
-            (Column::Values(counts), Change::Count(by)) => raise(counts, index, by),
-            (Column::Totals(totals), Change::Sum(by)) => raise_total(totals, index, by),
-            (Column::Least(values), Change::Best(Some(value))) => put_at(values, index, value),
-            (Column::Greatest(values), Change::Best(Some(value))) => put_at(values, index, value),
+            (AggregateColumn::Records(counts), Change::Count(by)) => raise(counts, index, by),
+            (AggregateColumn::Values(counts), Change::Count(by)) => raise(counts, index, by),
+            (AggregateColumn::Totals(totals), Change::Sum(by)) => raise_total(totals, index, by),
+            (AggregateColumn::Least(values), Change::Best(Some(value))) => put_at(
+                values, index, value,
+            ),
+            (AggregateColumn::Greatest(values), Change::Best(Some(value))) => put_at(
+                values, index, value,
+            ),
             _ => {}
         }
     }

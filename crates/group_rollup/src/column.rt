@@ -21,7 +21,7 @@ pub(crate) type TotalList = ListOf<Total>;
 
 /// A place for each group: its number of records, that of its values, their sum, the least or the greatest of them.
 #[derive(Debug, Drop)]
-pub(crate) enum Column {
+pub(crate) enum AggregateColumn {
     Records(Counts),
     Values(Counts),
     Totals(TotalList),
@@ -144,17 +144,17 @@ pub(crate) fn is_greater(values: &ValueList, index: usize, value: &Value) -> boo
     }
 }
 
-impl Column {
+impl AggregateColumn {
     /// A column for no groups.
-    pub fn new(alloc: Global, kind: AggKind) -> Column
+    pub fn new(alloc: Global, kind: AggKind) -> AggregateColumn
         ensures { result ≡ no_column kind }
     {
         match kind {
-            AggKind::CountAll | AggKind::PropCount => Column::Records(ListOf::new(alloc)),
-            AggKind::Count => Column::Values(ListOf::new(alloc)),
-            AggKind::Sum(_) | AggKind::Avg(_) => Column::Totals(ListOf::new(alloc)),
-            AggKind::Min => Column::Least(ListOf::new(alloc)),
-            AggKind::Max => Column::Greatest(ListOf::new(alloc)),
+            AggKind::CountAll | AggKind::PropCount => AggregateColumn::Records(ListOf::new(alloc)),
+            AggKind::Count => AggregateColumn::Values(ListOf::new(alloc)),
+            AggKind::Sum(_) | AggKind::Avg(_) => AggregateColumn::Totals(ListOf::new(alloc)),
+            AggKind::Min => AggregateColumn::Least(ListOf::new(alloc)),
+            AggKind::Max => AggregateColumn::Greatest(ListOf::new(alloc)),
         }
     }
 
@@ -164,11 +164,11 @@ impl Column {
         ensures err { OnErr result (self.new ≡ self.old) }
     {
         match self {
-            Column::Records(counts) => counts.push(0),
-            Column::Values(counts) => counts.push(0),
-            Column::Totals(totals) => totals.push(NO_TOTAL),
-            Column::Least(values) => values.push(Value::Null),
-            Column::Greatest(values) => values.push(Value::Null),
+            AggregateColumn::Records(counts) => counts.push(0),
+            AggregateColumn::Values(counts) => counts.push(0),
+            AggregateColumn::Totals(totals) => totals.push(NO_TOTAL),
+            AggregateColumn::Least(values) => values.push(Value::Null),
+            AggregateColumn::Greatest(values) => values.push(Value::Null),
         }
     }
 
@@ -177,11 +177,11 @@ impl Column {
         ensures { self.new ≡ cut length self.old }
     {
         match self {
-            Column::Records(counts) => cut_list(alloc, counts, length),
-            Column::Values(counts) => cut_list(alloc, counts, length),
-            Column::Totals(totals) => cut_list(alloc, totals, length),
-            Column::Least(values) => cut_list(alloc, values, length),
-            Column::Greatest(values) => cut_list(alloc, values, length),
+            AggregateColumn::Records(counts) => cut_list(alloc, counts, length),
+            AggregateColumn::Values(counts) => cut_list(alloc, counts, length),
+            AggregateColumn::Totals(totals) => cut_list(alloc, totals, length),
+            AggregateColumn::Least(values) => cut_list(alloc, values, length),
+            AggregateColumn::Greatest(values) => cut_list(alloc, values, length),
         }
     }
 }

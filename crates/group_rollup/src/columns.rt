@@ -3,22 +3,25 @@ ghost use Rattle.std.specs.Prelude.{◌≡◌, length, map, IfOk, OnOk, OnErr, �
 ghost use Rattle.group_rollup.specs.Columns.{no_column, begun, cut, AllHave, changes_by, changes_from, all_applied};
 
 use crate::changes::Change;
-use crate::column::Column;
+use crate::column::AggregateColumn;
 use lp_values::{AggKind, Value};
 use std::alloc::{AllocError, Global};
 use std::mem;
 
-pub(crate) fn new_columns(alloc: Global, kinds: &[AggKind]) -> Result<Vec<Column>, AllocError>
+pub(crate) fn new_columns(
+    alloc: Global,
+    kinds: &[AggKind],
+) -> Result<Vec<AggregateColumn>, AllocError>
     ensures { IfOk result (λ columns. columns.items ≡ map no_column kinds.now) }
 {
     let mut columns = Vec::with_capacity(alloc, kinds.len())?;
     for kind in kinds {
-        columns.push(Column::new(alloc, *kind))?;
+        columns.push(AggregateColumn::new(alloc, *kind))?;
     }
     Ok(columns)
 }
 
-pub(crate) fn cut_all(alloc: Global, columns: &mut Vec<Column>, count: usize)
+pub(crate) fn cut_all(alloc: Global, columns: &mut Vec<AggregateColumn>, count: usize)
     ensures { columns.new.items ≡ map (cut count) columns.old.items }
 {
     for index in 0..columns.len() {
@@ -27,7 +30,7 @@ pub(crate) fn cut_all(alloc: Global, columns: &mut Vec<Column>, count: usize)
 }
 
 /// Those before the one that is refused have a group more then.
-fn grow(columns: &mut Vec<Column>) -> Result<(), AllocError>
+fn grow(columns: &mut Vec<AggregateColumn>) -> Result<(), AllocError>
     ensures ok { OnOk result (columns.new.items ≡ map begun columns.old.items) }
     ensures err { OnErr result ((n : ℕ) → AllHave n columns.old.items → map (cut n) columns.new.items ≡ columns.old.items) }
 {
@@ -40,7 +43,7 @@ fn grow(columns: &mut Vec<Column>) -> Result<(), AllocError>
 /// Makes room for a group more in each column, or leaves them as they were.
 pub(crate) fn begin_all(
     alloc: Global,
-    columns: &mut Vec<Column>,
+    columns: &mut Vec<AggregateColumn>,
     count: usize,
 ) -> Result<(), AllocError>
     requires { AllHave count columns.old.items }
@@ -59,7 +62,7 @@ pub(crate) fn begin_all(
 /// What a record brings. All that may fail is done here, before anything is changed.
 pub(crate) fn all_changes(
     alloc: Global,
-    columns: &[Column],
+    columns: &[AggregateColumn],
     place: usize,
     values: &[Value],
     changes: &mut Vec<Change>,
@@ -77,9 +80,9 @@ pub(crate) fn all_changes(
 /// What a group of another table brings.
 pub(crate) fn all_changes_from(
     alloc: Global,
-    columns: &[Column],
+    columns: &[AggregateColumn],
     place: usize,
-    others: &[Column],
+    others: &[AggregateColumn],
     at: usize,
     changes: &mut Vec<Change>,
 ) -> Result<(), AllocError>
@@ -93,7 +96,7 @@ pub(crate) fn all_changes_from(
     Ok(())
 }
 
-pub(crate) fn apply_all(columns: &mut Vec<Column>, place: usize, changes: &mut Vec<Change>)
+pub(crate) fn apply_all(columns: &mut Vec<AggregateColumn>, place: usize, changes: &mut Vec<Change>)
     requires { length changes.old.items ≡ length columns.old.items }
     ensures { columns.new.items ≡ all_applied columns.old.items place changes.old.items }
 {

@@ -6,7 +6,7 @@ ghost use Rattle.group_rollup.specs.Groups.{is_same};
 ghost use Rattle.group_rollup.specs.Tables.{IsPlace, IsPut, IsAdded};
 
 use crate::changes::Change;
-use crate::column::Column;
+use crate::column::AggregateColumn;
 use crate::columns::{all_changes, all_changes_from, apply_all, begin_all, cut_all, new_columns};
 use indexmap::IndexSet;
 use lp_values::{AggKind, Value, ValueList, copy_values};
@@ -17,7 +17,7 @@ use std::alloc::{AllocError, Global};
 pub(crate) struct Rows {
     pub alloc: Global,
     pub keys: IndexSet<ValueList>,
-    pub columns: Vec<Column>,
+    pub columns: Vec<AggregateColumn>,
     changes: Vec<Change>,
 }
 
@@ -117,7 +117,7 @@ impl Rows {
     pub fn absorb(
         &mut self,
         keys: &ValueList,
-        others: &[Column],
+        others: &[AggregateColumn],
         at: usize,
     ) -> Result<(), AllocError>
         requires others { length others.now ≡ length self.old.columns.items }

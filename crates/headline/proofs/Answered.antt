@@ -6,7 +6,7 @@ use Rattle.command_words.specs.declared.spec.Spec.{Spec}
 use Rattle.command_words.specs.Usage.{AreFine}
 use Rattle.command_words.specs.declared.usage.UsageFault.{UsageFault}
 use Rattle.command_words.proofs.Refusals.{never_both}
-use Rattle.logparser_cli.specs.Refusals.{IsRefused}
+use Rattle.logparser_cli.specs.Refusals.{IsCallRefused}
 use Rattle.logparser_cli.specs.Steps.{TakesSteps}
 use Rattle.query_run.specs.declared.executing.Counts.{Counts}
 use Rattle.disk_model.specs.Disk.{DiskState}
@@ -112,12 +112,12 @@ module _ {D : Type 0} (state : D → DiskState) (words : List (List ℕ)) (momen
     (told : was.folder ≡ Some before.folder) (now : is.folder ≡ Some after.folder) (ledger_is : checkpoint_of words ≡ Some setting.ledger) (stage_is : setting.stage ≡ stage_beside setting.ledger) where
   -- why it came to no counts, in the words of the world
   refused_so : (spec : Spec) (ledger : List ℕ) (began ended : Option Folder) (result : Result Counts Status) → ledger ≡ setting.ledger → began ≡ Some before.folder → ended ≡ Some after.folder
-      → IfErr result (IsRefused state old ledger (stage_beside ledger) began ended spec moment) → IfErr result (IsRefused state old setting.ledger setting.stage (Some before.folder) (Some after.folder) spec moment)
+      → IfErr result (IsCallRefused state old ledger (stage_beside ledger) began ended spec moment) → IfErr result (IsCallRefused state old setting.ledger setting.stage (Some before.folder) (Some after.folder) spec moment)
   refused_so spec ledger began ended result same from to refused =
-      let named = subst (λ (l : List ℕ). IfErr result (IsRefused state old l (stage_beside l) began ended spec moment)) same refused in
-      let staged = subst (λ (s : List ℕ). IfErr result (IsRefused state old setting.ledger s began ended spec moment)) (sym stage_is) named in
-      let begun = subst (λ (f : Option Folder). IfErr result (IsRefused state old setting.ledger setting.stage f ended spec moment)) from staged in
-      subst (λ (f : Option Folder). IfErr result (IsRefused state old setting.ledger setting.stage (Some before.folder) f spec moment)) to begun
+      let named = subst (λ (l : List ℕ). IfErr result (IsCallRefused state old l (stage_beside l) began ended spec moment)) same refused in
+      let staged = subst (λ (s : List ℕ). IfErr result (IsCallRefused state old setting.ledger s began ended spec moment)) (sym stage_is) named in
+      let begun = subst (λ (f : Option Folder). IfErr result (IsCallRefused state old setting.ledger setting.stage f ended spec moment)) from staged in
+      subst (λ (f : Option Folder). IfErr result (IsCallRefused state old setting.ledger setting.stage (Some before.folder) f spec moment)) to begun
 
   kept_steps : AnswersKept state old new moment words was is status → CallSteps state setting words moment status before after old new
   kept_steps kept =

@@ -11,7 +11,7 @@ use Rattle.command_words.specs.Words.{options_in, query_in}
 use Rattle.command_words.specs.declared.modes.Rotation.TheVariants as R
 use Rattle.command_words.specs.declared.spec.Spec.{Spec}
 use Rattle.logparser_cli.specs.CheckpointedCommandAsked.{IsAskedBy}
-use Rattle.logparser_cli.specs.Refusals.{IsRefused}
+use Rattle.logparser_cli.specs.Refusals.{IsCallRefused}
 use Rattle.logparser_cli.specs.Steps.{TakesSteps}
 use Rattle.commit.specs.Faults.{FitsWhole}
 use Rattle.commit.specs.Keeping.{KeepsEntries}
@@ -215,7 +215,7 @@ keeps [] (inl (short, none)) = record { pairs = []; is = inl (omega arith, refl)
 keeps (pair ∷ pairs) (inl (short, none)) = absurd cc
 keeps pairs (inr held) = let long : 18 < 0 = held.long in absurd (omega arith)
 
-by_logs : (bytes : List ℕ) → IsRefused plain empty ledger (stage_beside ledger) (Some (table bytes)) (Some (table bytes)) spec (pos 0) S.LogsFault
+by_logs : (bytes : List ℕ) → IsCallRefused plain empty ledger (stage_beside ledger) (Some (table bytes)) (Some (table bytes)) spec (pos 0) S.LogsFault
 by_logs bytes = inr (record {
   settled = empty;
   settles = record { settles = settles; fits = λ told apart. fits; keeps = λ told apart. keeps; tells = λ told. told };

@@ -23,7 +23,7 @@ use Rattle.logparser_cli.specs.LedgerStop.{LedgerStop}
 use Rattle.logparser_cli.specs.LedgerStop.TheVariants as L
 use Rattle.logparser_cli.specs.RunStop.{RunStop}
 use Rattle.logparser_cli.specs.RunStop.TheVariants as B
-use Rattle.logparser_cli.specs.Refusals.{IsRefused, IsRefusedBehind}
+use Rattle.logparser_cli.specs.Refusals.{IsCallRefused, IsRefusedBehind}
 use Rattle.logparser_cli.specs.Statuses.{IsAnswerTo, IsBrokenOff, IsUngivenAs, stopped, ungiven, unloaded, unplaced, unsettled, unspanned}
 use Rattle.logparser_cli.specs.Steps.{ending_by}
 use Rattle.logparser_cli.proofs.CheckpointedCommandAnswering.{mild_unasked, mild_unfit, mild_untemplated, unsettled_not_well}
@@ -98,12 +98,12 @@ behind state disk ledger stage before now spec moment status (inr (inr (inl none
 behind state disk ledger stage before now spec moment status (inr (inr (inr (inl uncounted)))) = of_answer uncounted.countless.stop status uncounted.countless.answers
 behind state disk ledger stage before now spec moment status (inr (inr (inr (inr memory)))) = at S.Memory status memory (λ e. cc)
 
-refused_not_done : {D : Type 0} (state : D → DiskState) (old : D) (ledger stage : List ℕ) (before now : Option Folder) (spec : Spec) (moment : ℤ) (status : Status) → IsRefused state old ledger stage before now spec moment status → status ≢ S.Done
+refused_not_done : {D : Type 0} (state : D → DiskState) (old : D) (ledger stage : List ℕ) (before now : Option Folder) (spec : Spec) (moment : ℤ) (status : Status) → IsCallRefused state old ledger stage before now spec moment status → status ≢ S.Done
 refused_not_done state old ledger stage before now spec moment status (inl unsettled) = at _ status unsettled.status_is (of_phase unsettled.fault)
 refused_not_done state old ledger stage before now spec moment status (inr then) = behind state (state then.settled) ledger stage before now spec moment status then.refused
 
 -- so at `Done` there are counts
-pub done_counts : {D : Type 0} (state : D → DiskState) (old : D) (ledger stage : List ℕ) (before now : Option Folder) (spec : Spec) (moment : ℤ) (status : Status) (result : Result Counts Status) → status ≡ answer_of result → IfErr result (IsRefused state old ledger stage before now spec moment)
+pub done_counts : {D : Type 0} (state : D → DiskState) (old : D) (ledger stage : List ℕ) (before now : Option Folder) (spec : Spec) (moment : ℤ) (status : Status) (result : Result Counts Status) → status ≡ answer_of result → IfErr result (IsCallRefused state old ledger stage before now spec moment)
     → status ≡ S.Done → (counts : Counts) × (result ≡ Ok counts)
 done_counts state old ledger stage before now spec moment status (Ok counts) is refused done = (counts, refl)
 done_counts state old ledger stage before now spec moment status (Err other) is refused done = absurd (refused_not_done state old ledger stage before now spec moment other refused (sym is ∙ done))

@@ -6,7 +6,7 @@ use Rattle.command_words.specs.Usage.{AreFine}
 use Rattle.command_words.specs.Words.{options_in, query_in}
 use Rattle.command_words.specs.declared.spec.Spec.{Spec}
 use Rattle.logparser_cli.specs.CheckpointedCommandAsked.{IsAskedWhole}
-use Rattle.logparser_cli.specs.Refusals.{IsRefused}
+use Rattle.logparser_cli.specs.Refusals.{IsCallRefused}
 use Rattle.logparser_cli.specs.Steps.{ending_by, TakesSteps}
 use Rattle.disk_model.specs.Disk.{Files, DiskState}
 use Rattle.logparser_cli.specs.Executed.{IsMoment}
@@ -48,7 +48,7 @@ pub record CallSteps {D : Type 0} (state : D → DiskState) (setting : Setting) 
   pub result : Result Counts Status
   pub status_is : status ≡ answer_of result
   pub steps : TakesSteps spec setting.ledger setting.stage moment (Some before.folder) (Some after.folder) (state old) (state new) result
-  pub refused : IfErr result (IsRefused state old setting.ledger setting.stage (Some before.folder) (Some after.folder) spec moment)
+  pub refused : IfErr result (IsCallRefused state old setting.ledger setting.stage (Some before.folder) (Some after.folder) spec moment)
   pub done : status ≡ S.Done → (counts : Counts) × (result ≡ Ok counts)
 
 -- a call by words that are fine is refused before it reads them for its moment, as it is none, or as memory is wanted

@@ -10,7 +10,7 @@ use Rattle.std.specs.Cmp.Lexicographic.{pointwise}
 use Rattle.slot_reading.specs.Names.{is_same_name}
 use Rattle.slot_reading.proofs.NameLemmas.{same_spelling}
 use Rattle.lp_time.specs.Patterns.{pieces_from}
-use Rattle.iis_fields.specs.Table.{Field, iis_fields, logged_names, reading_of}
+use Rattle.iis_fields.specs.Table.{IisField, iis_fields, logged_names, column_reading}
 use Rattle.iis_fields.specs.Places.{place_of, reading_at, reading_by}
 
 pub length-logged_names : length logged_names ≡ 22
@@ -104,14 +104,14 @@ pub time_reading : reading_by (codes "hh:mm:ss") ≡ reading_at 3
 unfolding reading_at pieces_from
 time_reading = refl
 
-is_named : List ℕ → Field → Bool
+is_named : List ℕ → IisField → Bool
 is_named name field = is_same_name name field.name
 
-names_of : List Field → List (List ℕ)
-names_of fields = map (λ (field : Field). field.name) fields
+names_of : List IisField → List (List ℕ)
+names_of fields = map (λ (field : IisField). field.name) fields
 
 -- the first field of a name stands where the name does
-place_in : (name : List ℕ) (fields : List Field) → position_or_len (is_same_name name) (names_of fields) ≡ position_or_len (is_named name) fields
+place_in : (name : List ℕ) (fields : List IisField) → position_or_len (is_same_name name) (names_of fields) ≡ position_or_len (is_named name) fields
 unfolding names_of is_named
 place_in name [] = refl
 place_in name (field ∷ fields) =
@@ -127,12 +127,12 @@ found_place n size place e =
       | inr past ↦ absurd (let h : None ≡ Some place = rw past at e in cc)
     ]
 
-lost_place : (fields : List Field) (n : ℕ) → nat_lt n (length fields) ≡ false → slice_get fields n ≡ None
+lost_place : (fields : List IisField) (n : ℕ) → nat_lt n (length fields) ≡ false → slice_get fields n ≡ None
 lost_place [] n past = refl
 lost_place (field ∷ fields) zero past = absurd (let some : nat_lt 0 (length (field ∷ fields)) ≡ true = search (rules, tests) in let h : true ≡ false = sym some ∙ past in cc)
 lost_place (field ∷ fields) (suc n) past = lost_place fields n (search (rules, tests))
 
-nowhere : (fields : List Field) (n : ℕ) → cond (nat_lt n (length fields)) (Some n) None ≡ None → slice_get fields n ≡ None
+nowhere : (fields : List IisField) (n : ℕ) → cond (nat_lt n (length fields)) (Some n) None ≡ None → slice_get fields n ≡ None
 nowhere fields n e =
     elim (cases_Bool (nat_lt n (length fields))) [
       | inl within ↦ absurd (let h : Some n ≡ None = rw within at e in cc)
@@ -140,18 +140,18 @@ nowhere fields n e =
     ]
 
 -- how the field of a name is read, by the place of the name
-read_by_place : (name : List ℕ) → reading_of name ≡ reading_at (position_or_len (is_same_name name) (names_of iis_fields))
-unfolding reading_of reading_at is_named
-read_by_place name = ap (option_map (λ (field : Field). field.reading)) (find_at (is_named name) iis_fields ∙ ap (slice_get iis_fields) (sym (place_in name iis_fields)))
+read_by_place : (name : List ℕ) → column_reading name ≡ reading_at (position_or_len (is_same_name name) (names_of iis_fields))
+unfolding column_reading reading_at is_named
+read_by_place name = ap (option_map (λ (field : IisField). field.reading)) (find_at (is_named name) iis_fields ∙ ap (slice_get iis_fields) (sym (place_in name iis_fields)))
 
-pub reading_of-some : (name : List ℕ) (place : ℕ) → position (is_same_name name) (map (λ (field : Field). field.name) iis_fields) ≡ Some place → reading_at place ≡ reading_of name
+pub column_reading-some : (name : List ℕ) (place : ℕ) → position (is_same_name name) (map (λ (field : IisField). field.name) iis_fields) ≡ Some place → reading_at place ≡ column_reading name
 unfolding names_of
-reading_of-some name place e =
+column_reading-some name place e =
     let n = position_or_len (is_same_name name) (names_of iis_fields) in
     ap reading_at (sym (found_place n (length (names_of iis_fields)) place e)) ∙ sym (read_by_place name)
 
-pub reading_of-none : (name : List ℕ) → position (is_same_name name) (map (λ (field : Field). field.name) iis_fields) ≡ None → None ≡ reading_of name
+pub column_reading-none : (name : List ℕ) → position (is_same_name name) (map (λ (field : IisField). field.name) iis_fields) ≡ None → None ≡ column_reading name
 unfolding names_of reading_at
-reading_of-none name e =
+column_reading-none name e =
     let n = position_or_len (is_same_name name) (names_of iis_fields) in
-    ap (option_map (λ (field : Field). field.reading)) (sym (nowhere iis_fields n e)) ∙ sym (read_by_place name)
+    ap (option_map (λ (field : IisField). field.reading)) (sym (nowhere iis_fields n e)) ∙ sym (read_by_place name)

@@ -2,18 +2,18 @@
 ghost use Rattle.std.specs.Prelude.{◌≡◌, map};
 ghost use Rattle.std.specs.List.{position};
 ghost use Rattle.slot_reading.specs.Names.{is_same_name};
-ghost use Rattle.iis_fields.specs.Table.{Field, iis_fields, reading_of};
+ghost use Rattle.iis_fields.specs.Table.{IisField, iis_fields, column_reading};
 ghost use Rattle.iis_fields.specs.Places.{place_of, reading_at, reading_by};
 
 use lp_time::Pattern;
-use slot_reading::{Reading, is_same_name};
+use slot_reading::{SlotReading, is_same_name};
 
 /// The number of fields that a log may have.
 pub const LOGGED: usize = 22;
 
 /// The names of all fields of a row, in order.
 pub fn iis_names() -> [&'static str; 24]
-    ensures { map (λ s. s.now) result ≡ map (λ (field : Field). field.name) iis_fields }
+    ensures { map (λ s. s.now) result ≡ map (λ (field : IisField). field.name) iis_fields }
 {
     [
         "LogFilename",
@@ -66,27 +66,27 @@ pub(crate) fn place_of(name: &str) -> Option<usize>
 
 // How the field at a place of the whole row is read.
 #[tactic(auto, unfolding(crate::specs::Places::reading_at))]
-fn reading_at(place: usize) -> Option<Reading>
+fn reading_at(place: usize) -> Option<SlotReading>
     ensures { result ≡ reading_at place }
 {
     match place {
         2 => by("yyyy-MM-dd"),
         3 => by("hh:mm:ss"),
-        1 | 9 | 13 | 14 | 15 | 16 | 17 | 18 => Some(Reading::Integer),
-        0 | 4 | 5 | 6 | 7 | 8 | 10 | 11 | 12 | 19 | 20 | 21 | 22 | 23 => Some(Reading::Text),
+        1 | 9 | 13 | 14 | 15 | 16 | 17 | 18 => Some(SlotReading::Integer),
+        0 | 4 | 5 | 6 | 7 | 8 | 10 | 11 | 12 | 19 | 20 | 21 | 22 | 23 => Some(SlotReading::Text),
         _ => None,
     }
 }
 
-fn by(pattern: &str) -> Option<Reading>
+fn by(pattern: &str) -> Option<SlotReading>
     ensures { result ≡ reading_by pattern.now }
 {
-    Some(Reading::By(Pattern::read(pattern).ok()?))
+    Some(SlotReading::By(Pattern::read(pattern).ok()?))
 }
 
 /// How a field is read, by its name, whatever the name's case; `None` for a name that isn't in the table.
-pub fn iis_reading(name: &str) -> Option<Reading>
-    ensures { result ≡ reading_of name.now }
+pub fn iis_reading(name: &str) -> Option<SlotReading>
+    ensures { result ≡ column_reading name.now }
 {
     let place = place_among(name, &iis_names())?;
     reading_at(place)

@@ -2,13 +2,13 @@
 ghost use Rattle.std.specs.Prelude.{◌≡◌, IsOk};
 ghost use Rattle.lp_time.specs.Patterns.{pattern_in};
 ghost use Rattle.slot_reading.specs.Slots.{kind_of};
-ghost use Rattle.slot_reading.specs.declared.reading.Reading.TheVariants as R;
+ghost use Rattle.slot_reading.specs.declared.reading.SlotReading.TheVariants as R;
 ghost use Rattle.iis_fields.specs.Table.{pattern_of};
 ghost use Rattle.input_tables.specs.Known.{read_how};
 
 use lp_time::Pattern;
 use lp_values::Kind;
-use slot_reading::Reading;
+use slot_reading::SlotReading;
 
 /// How a field is read.
 #[derive(Clone, Copy)]
@@ -27,12 +27,12 @@ pub(crate) struct Known {
     pub(crate) how: How,
 }
 
-fn by(pattern: &str) -> Reading
+fn by(pattern: &str) -> SlotReading
     requires { IsOk (pattern_in pattern.now) }
     ensures { result ≡ R.By (pattern_of pattern.now) }
 {
     match Pattern::read(pattern) {
-        Ok(pattern) => Reading::By(pattern),
+        Ok(pattern) => SlotReading::By(pattern),
         Err(_) => unreachable!(),
     }
 }
@@ -50,15 +50,15 @@ impl How {
     }
 
     /// How the field is read.
-    pub(crate) fn reading(self) -> Reading
+    pub(crate) fn reading(self) -> SlotReading
         ensures { result ≡ read_how self }
     {
         match self {
-            How::Integer => Reading::Integer,
-            How::Text => Reading::Text,
+            How::Integer => SlotReading::Integer,
+            How::Text => SlotReading::Text,
             How::Day => by("yyyy-MM-dd"),
             How::Clock => by("hh:mm:ss"),
-            How::Clf => Reading::Clf,
+            How::Clf => SlotReading::Clf,
         }
     }
 }

@@ -8,7 +8,7 @@ use crate::field::{How, Known};
 use crate::known::{iis_known, ncsa_known, text_known};
 use lp_values::{ListOf, Text};
 use query_types::{NamedKind, NamedKinds, TableColumns};
-use slot_reading::Reading;
+use slot_reading::SlotReading;
 use std::alloc::{AllocError, Global};
 
 // The name of the number of a record.
@@ -41,7 +41,7 @@ fn add_columns(alloc: Global, columns: &mut NamedKinds, fields: &[Known]) -> Res
 }
 
 // Adds how fields are read.
-fn readings(alloc: Global, fields: &[Known]) -> Result<ListOf<Reading>, AllocError>
+fn readings(alloc: Global, fields: &[Known]) -> Result<ListOf<SlotReading>, AllocError>
     ensures { IfOk result (λ list. list ≡ map reading_in (map known fields.now)) }
 {
     let mut list = ListOf::new(alloc);
@@ -91,7 +91,7 @@ pub fn table_of(alloc: Global, format: TableFormat) -> Result<TableColumns, Allo
 }
 
 /// How the fields of a format's records are read.
-pub fn readings_of(alloc: Global, format: TableFormat) -> Result<ListOf<Reading>, AllocError>
+pub fn readings_of(alloc: Global, format: TableFormat) -> Result<ListOf<SlotReading>, AllocError>
     ensures { IfOk result (λ list. list ≡ readings_of format) }
 {
     match format {

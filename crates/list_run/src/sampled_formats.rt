@@ -4,7 +4,7 @@ ghost use Rattle.lp_model.specs.Outside.{Rose, OnlyGrow, Told};
 ghost use Rattle.log_reading.specs.Page.{IsTooMany, IsWithin};
 ghost use Rattle.log_reading.specs.Spans.{AllSpans, AreReadable, AreKept, IsSpan, spans_bad, spans_bad_lines, spans_size};
 ghost use Rattle.delimited_input.specs.Lines.{delimited_lines};
-ghost use Rattle.delimited_input.specs.Separators.{IsRefused};
+ghost use Rattle.delimited_input.specs.Separators.{IsNoSeparator};
 ghost use Rattle.query_tree.specs.Views.{query_of};
 ghost use Rattle.column_kinds.specs.Spans.{past_of};
 ghost use Rattle.list_run.specs.Faults.{OnBad, OnUnplanned};
@@ -33,7 +33,7 @@ pub fn gather_sampled<'a, L: LogSource>(
     spans: &[Span],
     most_bad: Option<u64>,
 ) -> Result<SampledValues, ListFault>
-    requires separator { ¬ IsRefused options.separator }
+    requires separator { ¬ IsNoSeparator options.separator }
     requires few { length spans.now ≤ 100000 }
     requires spans { AllSpans spans.now IsSpan }
     requires readable { AreReadable L.folder L.ready logs.old spans.now }

@@ -10,7 +10,7 @@ use Rattle.log_listing.specs.declared.fault.ListFault.{ListFault}
 use Rattle.log_listing.specs.declared.fault.ListFault.TheVariants as F
 use Rattle.log_listing.specs.declared.lengths.NameLength.{NameLength}
 use Rattle.log_listing.specs.Firsts.{joined}
-use Rattle.log_listing.specs.Listed.{Gives, Lists, Stops, IsRefused}
+use Rattle.log_listing.specs.Listed.{Gives, Lists, Stops, IsListFault}
 use Rattle.log_listing.specs.Lengths.{IsLength, IsLengthNow, AreLengths, IsGone}
 use Rattle.log_listing.proofs.FirstNames.{in_joined}
 
@@ -67,7 +67,7 @@ pub there_listed : (files : Folder) (texts names : List (List ℕ)) (name : List
 there_listed files texts names name l here = there_in files texts l.found name l.each (in_joined (joined l.found) name (subst (λ (ns : List (List ℕ)). Contains ns name) l.all here))
 
 -- the list is stopped at a text
-pub refused_stopped : (told : Option Folder) (texts : List (List ℕ)) (fault : ListFault) → Stops told texts fault → IsRefused told texts fault
+pub refused_stopped : (told : Option Folder) (texts : List (List ℕ)) (fault : ListFault) → Stops told texts fault → IsListFault told texts fault
 refused_stopped told texts (F.BadName fault) s = s
 refused_stopped told texts (F.NoSuchLog name) s = inl s
 refused_stopped told texts F.TooManyLogs s = s
@@ -79,7 +79,7 @@ none_there None e is = false≢true is
 none_there (Some bytes) e is = absurd (cc)
 
 -- a listed log is gone only where the logs don't tell their files
-pub refused_gone : (told : Option Folder) (texts names : List (List ℕ)) (fault : ListFault) → Lists told texts names → IsGone told names fault → IsRefused told texts fault
+pub refused_gone : (told : Option Folder) (texts names : List (List ℕ)) (fault : ListFault) → Lists told texts names → IsGone told names fault → IsListFault told texts fault
 refused_gone told texts names (F.BadName fault) l gone = absurd gone
 refused_gone None texts names (F.NoSuchLog name) l gone = inr (record { untold = refl; names = names; lists = l; listed = gone.0 })
 refused_gone (Some files) texts names (F.NoSuchLog name) l gone = absurd (none_there (files name) gone.1 (there_listed files texts names name l gone.0))

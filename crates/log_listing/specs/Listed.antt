@@ -78,9 +78,9 @@ pub record IsLost (told : Option Folder) (texts : List (List ℕ)) (name : List 
   pub listed : Contains names name
 
 -- why texts aren't listed: one of them stops the list, or a log is gone before its length is asked
-abbrev pub IsRefused : Option Folder → List (List ℕ) → ListFault → Type 0
-IsRefused told texts (F.BadName fault) = Stops told texts (F.BadName fault)
-IsRefused told texts (F.NoSuchLog name) = Stops told texts (F.NoSuchLog name) ⊎ IsLost told texts name
-IsRefused told texts F.TooManyLogs = Stops told texts F.TooManyLogs
-IsRefused told texts F.Logs = ⊤
-IsRefused told texts F.Memory = ⊤
+abbrev pub IsListFault : Option Folder → List (List ℕ) → ListFault → Type 0
+IsListFault told texts (F.BadName fault) = Stops told texts (F.BadName fault)
+IsListFault told texts (F.NoSuchLog name) = Stops told texts (F.NoSuchLog name) ⊎ IsLost told texts name
+IsListFault told texts F.TooManyLogs = Stops told texts F.TooManyLogs
+IsListFault told texts F.Logs = ⊤
+IsListFault told texts F.Memory = ⊤

@@ -3,7 +3,7 @@ ghost use Rattle.std.specs.Prelude.{◌≡◌, ◌≤◌, length, OnOk, IfOk, If
 ghost use Rattle.lp_model.specs.Outside.{OnlyGrow, Rose, Told};
 ghost use Rattle.lp_outside.specs.Matching.{AreMatches};
 ghost use Rattle.log_listing.specs.Firsts.{Knows};
-ghost use Rattle.log_listing.specs.Listed.{Adds, StopsAt, Lists, Stops, IsFailure, IsRefused};
+ghost use Rattle.log_listing.specs.Listed.{Adds, StopsAt, Lists, Stops, IsFailure, IsListFault};
 ghost use Rattle.log_listing.specs.Lengths.{IsLength, names_in};
 ghost use Rattle.log_listing.specs.declared.fault.ListFault.TheVariants as F;
 
@@ -93,7 +93,7 @@ pub fn list_logs<L: Logs>(
     ensures listed { IfOk result (λ found. Lists (L.folder logs.new) texts.now (names_in found)) }
     ensures few { IfOk result (λ found. length found ≤ 100000) }
     ensures lengths { IfOk result (All (IsLength (L.folder logs.old) (L.folder logs.new))) }
-    ensures refused { IfErr result (IsRefused (L.folder logs.new) texts.now) }
+    ensures refused { IfErr result (IsListFault (L.folder logs.new) texts.now) }
     ensures failed { IsErrOf result F.Logs → Rose (L.faults logs.old) (L.faults logs.new) }
 {
     let names = names_of(alloc, logs, texts)?;

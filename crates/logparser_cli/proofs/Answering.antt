@@ -35,7 +35,7 @@ use Rattle.log_listing.specs.declared.lengths.NameLength.{NameLength}
 use Rattle.reports.specs.declared.status.Status.{Status}
 use Rattle.reports.specs.declared.status.Status.TheVariants.{Done, Memory, Clock, Usage, Query, NoSuchLog, BadName, NameClash, TooManyOutputs, TooManyLogs, Template, InputTooLong, LogsFault, SourceFault, DiskFault, SinkFault, ParseErrors, LostLog, Shrunk, InputChanged, IntoNeeded, LedgerFault}
 use Rattle.reports.specs.Status.{OnRefused}
-use Rattle.requests.specs.Requests.{Asks, IsRefused}
+use Rattle.requests.specs.Requests.{Asks, IsRequestFault}
 use Rattle.requests.specs.declared.fault.RequestFault.{RequestFault}
 use Rattle.requests.specs.declared.fault.RequestFault.TheVariants as R
 use Rattle.requests.proofs.Growing.{asks_grown}
@@ -390,7 +390,7 @@ pub asked_answers : (mid new : World) (before : Option Folder) (faults : ℕ) (m
 asked_answers mid new before faults moment words spec q status now grow later grew asks answers =
     inr (now, inr (record { spec = spec; q = q; asks = asks_grown before mid.folder new.folder words spec q grew asks; answers = query_earlier mid new before faults spec moment q status grow later answers }))
 
-is_unasked : (old new : World) (words : List (List ℕ)) (fault : RequestFault) → IsRefused old.folder new.folder words fault → IsUnwritten old.held new.held → (fault ≡ R.Logs → Rose old.logs_faults new.logs_faults) → IsUnasked old new words (unasked fault)
+is_unasked : (old new : World) (words : List (List ℕ)) (fault : RequestFault) → IsRequestFault old.folder new.folder words fault → IsUnwritten old.held new.held → (fault ≡ R.Logs → Rose old.logs_faults new.logs_faults) → IsUnasked old new words (unasked fault)
 is_unasked old new words (R.Usage fault) refused same rose = (refused, same)
 is_unasked old new words (R.BadName fault) refused same rose = (refused, same)
 is_unasked old new words (R.NoSuchLog name) refused same rose = (refused, same)
@@ -399,7 +399,7 @@ is_unasked old new words R.Logs refused same rose = (rose refl, same)
 is_unasked old new words R.Memory refused same rose = same
 
 -- the words ask for nothing that can be done
-pub unasked_answers : (old new : World) (moment : ℤ) (words : List (List ℕ)) (fault : RequestFault) → IsMoment moment → IsRefused old.folder new.folder words fault → IsUnwritten old.held new.held → (fault ≡ R.Logs → Rose old.logs_faults new.logs_faults)
+pub unasked_answers : (old new : World) (moment : ℤ) (words : List (List ℕ)) (fault : RequestFault) → IsMoment moment → IsRequestFault old.folder new.folder words fault → IsUnwritten old.held new.held → (fault ≡ R.Logs → Rose old.logs_faults new.logs_faults)
     → AnswersPlainly moment words old new (unasked fault)
 unasked_answers old new moment words fault now refused same rose = inr (now, inl (is_unasked old new words fault refused same rose))
 

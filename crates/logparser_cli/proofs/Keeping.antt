@@ -16,7 +16,7 @@ use Rattle.query_run.specs.declared.executing.Counts.{Counts}
 use Rattle.reports.specs.declared.status.Status.{Status}
 use Rattle.reports.specs.declared.status.Status.TheVariants as S
 use Rattle.requests.specs.Files.{IsTextFault}
-use Rattle.requests.specs.Requests.{Asks, IsRefused, IsWordsFault}
+use Rattle.requests.specs.Requests.{Asks, IsRequestFault, IsWordsFault}
 use Rattle.requests.specs.Texts.{HoldsQuery}
 use Rattle.requests.specs.declared.fault.RequestFault.{RequestFault}
 use Rattle.requests.specs.declared.fault.RequestFault.TheVariants as R
@@ -52,7 +52,7 @@ asks_by before now words spec text q fine options holds =
     let here : HoldsQuery before now (query_in words) text q = subst (λ (word : List ℕ). HoldsQuery before now word text q) options.query holds in
     record { fine = fine; options = options; text = text; holds = here.holds; query = here.query; only = here.only }
 
-text_refused : (before now : Option Folder) (words : List (List ℕ)) (fault : RequestFault) → AreFine words → IsTextFault before now (query_in words) fault → IsRefused before now words fault
+text_refused : (before now : Option Folder) (words : List (List ℕ)) (fault : RequestFault) → AreFine words → IsTextFault before now (query_in words) fault → IsRequestFault before now words fault
 text_refused before now words (R.Usage fault) fine h = absurd h
 text_refused before now words (R.BadName fault) fine h = (h.0, record { fine = fine; file = h.1 }, h.2)
 text_refused before now words (R.NoSuchLog name) fine h = (record { fine = fine; file = h.0 }, h.1, h.2)
@@ -61,11 +61,11 @@ text_refused before now words R.Logs fine h = tt
 text_refused before now words R.Memory fine h = tt
 
 -- one that wasn't is why they ask for none
-pub refused_by : (before now : Option Folder) (words : List (List ℕ)) (spec : Spec) (fault : RequestFault) → AreFine words → IsAsked words spec → IsTextFault before now spec.query fault → IsRefused before now words fault
+pub refused_by : (before now : Option Folder) (words : List (List ℕ)) (spec : Spec) (fault : RequestFault) → AreFine words → IsAsked words spec → IsTextFault before now spec.query fault → IsRequestFault before now words fault
 refused_by before now words spec fault fine options h = text_refused before now words fault fine (subst (λ (word : List ℕ). IsTextFault before now word fault) options.query h)
 
 -- words that are refused are so whatever they ask for
-pub early_refused : {D : Type 0} (disk : D) (before now : Option Folder) (words : List (List ℕ)) (fault : RequestFault) → IsWordsFault words fault → IsPlain disk disk words (unasked fault) × IsRefused before now words fault
+pub early_refused : {D : Type 0} (disk : D) (before now : Option Folder) (words : List (List ℕ)) (fault : RequestFault) → IsWordsFault words fault → IsPlain disk disk words (unasked fault) × IsRequestFault before now words fault
 early_refused disk before now words (R.Usage fault) h = (inr (tt, refl), h)
 early_refused disk before now words (R.BadName fault) h = absurd h
 early_refused disk before now words (R.NoSuchLog name) h = absurd h

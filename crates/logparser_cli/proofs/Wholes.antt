@@ -9,7 +9,7 @@ use Rattle.log_listing.specs.declared.fault.ListFault.TheVariants as L
 use Rattle.log_listing.specs.declared.lengths.NameLength.{NameLength}
 use Rattle.log_listing.specs.Lengths.{IsLength}
 use Rattle.log_listing.specs.Lengths.{names_in as listed_names}
-use Rattle.log_listing.specs.Listed.{IsRefused}
+use Rattle.log_listing.specs.Listed.{IsListFault}
 use Rattle.log_listing.proofs.Grown.{lists_grown}
 use Rattle.log_listing.proofs.LengthLemmas.{length_later}
 use Rattle.log_reading.specs.declared.span.Span.{Span}
@@ -119,7 +119,7 @@ from_input before now q spans stdin wholes =
     let none : input_logs ≡ input_logs = refl in
     record { logs = input_logs; are_logs = subst (λ (b : Bool). AreLogsOf b before now q input_logs) (sym stdin) none; wholes = wholes }
 
-pub is_unlisted : (now : Option Folder) (q : model.Query) (fault : ListFault) → IsRefused now (from_names q) fault → IsUnlisted now q (unlisted fault)
+pub is_unlisted : (now : Option Folder) (q : model.Query) (fault : ListFault) → IsListFault now (from_names q) fault → IsUnlisted now q (unlisted fault)
 is_unlisted now q (L.BadName fault) refused = refused
 is_unlisted now q (L.NoSuchLog name) refused = refused
 is_unlisted now q L.TooManyLogs refused = refused

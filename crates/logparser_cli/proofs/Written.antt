@@ -10,7 +10,7 @@ use Rattle.log_reading.specs.declared.span.Span.{Span}
 use Rattle.lp_outside.specs.declared.stage.Mark.{Mark}
 use Rattle.lp_outside.specs.Streams.{stream_state}
 use Rattle.order_top.specs.Finish.{Row}
-use Rattle.row_output.specs.Asked.{AreGood, Asked, Files, OutputText, left_of, text_in}
+use Rattle.row_output.specs.Asked.{AreGood, Asked, Files, OutputText, left_of, asked_text}
 use Rattle.row_output.specs.Rows.{Holds, HoldsAt, Stops, StopsAt}
 use Rattle.text_output.specs.Output.{kind_of}
 use Rattle.text_output.specs.declared.target.Output.{Output}
@@ -42,7 +42,7 @@ out_at written ended start now (Some files) text rows outputs tells contents sta
 pub output_written : {S : Type 0} (written : S → Option (List ℕ)) (ended : S → List ℕ → ℕ → Mark → Type 0) (start now : S) (asked : Asked) (rows : List Row) (outputs : List Output) (tells : Type 0) (contents : Contents) → is_some asked.files ≡ false
     → Holds (kind_of (stream_state written) ended) asked start rows outputs now → HasWritten (held tells contents (written start)) (held tells contents (written now)) asked rows
 unfolding Holds HasWritten
-output_written written ended start now asked rows outputs tells contents standard holds = out_at written ended start now asked.files (text_in asked) (left_of asked rows) outputs tells contents standard holds
+output_written written ended start now asked rows outputs tells contents standard holds = out_at written ended start now asked.files (asked_text asked) (left_of asked rows) outputs tells contents standard holds
 
 cut_at : {S : Type 0} (written : S → Option (List ℕ)) (ended : S → List ℕ → ℕ → Mark → Type 0) (start now : S) (files : Option Files) (text : OutputText) (rows : List Row) (tells : Type 0) (contents : Contents) → is_some files ≡ false
     → StopsAt files (kind_of (stream_state written) ended) text start rows now → AreCut (held tells contents (written start)) (held tells contents (written now)) files text rows
@@ -53,7 +53,7 @@ cut_at written ended start now (Some files) text rows tells contents standard st
 pub output_cut : {S : Type 0} (written : S → Option (List ℕ)) (ended : S → List ℕ → ℕ → Mark → Type 0) (start now : S) (asked : Asked) (rows : List Row) (tells : Type 0) (contents : Contents) → is_some asked.files ≡ false
     → Stops (kind_of (stream_state written) ended) asked start rows now → HasFront (held tells contents (written start)) (held tells contents (written now)) asked rows
 unfolding Stops HasFront
-output_cut written ended start now asked rows tells contents standard stops = cut_at written ended start now asked.files (text_in asked) (left_of asked rows) tells contents standard stops
+output_cut written ended start now asked rows tells contents standard stops = cut_at written ended start now asked.files (asked_text asked) (left_of asked rows) tells contents standard stops
 
 files_at : {D : Type 0} (state : D → DiskState) (start now : FileStage D) (files : Option Files) (text : OutputText) (rows : List Row) (outputs : List Output) (out : Option (List ℕ)) → is_some files ≡ true
     → HoldsAt files (file_kind state) text start rows outputs now → AreOut (held (AlwaysTells state) (seen_by state start) out) (held (AlwaysTells state) (seen_by state now) out) files text rows
@@ -67,7 +67,7 @@ files_at state start now (Some files) text rows outputs out some holds = record 
 files_have : {D : Type 0} (state : D → DiskState) (start now : FileStage D) (asked : Asked) (rows : List Row) (outputs : List Output) (out : Option (List ℕ)) → is_some asked.files ≡ true
     → Holds (file_kind state) asked start rows outputs now → HasWritten (held (AlwaysTells state) (seen_by state start) out) (held (AlwaysTells state) (seen_by state now) out) asked rows
 unfolding Holds HasWritten
-files_have state start now asked rows outputs out some holds = files_at state start now asked.files (text_in asked) (left_of asked rows) outputs out some holds
+files_have state start now asked rows outputs out some holds = files_at state start now asked.files (asked_text asked) (left_of asked rows) outputs out some holds
 
 -- files have the texts of the rows
 pub files_written : {D : Type 0} (state : D → DiskState) (start now : FileStage D) (first last : D) (asked : Asked) (rows : List Row) (outputs : List Output) (out : Option (List ℕ)) → start.disk.now ≡ first → now.disk.now ≡ last → is_some asked.files ≡ true
@@ -84,7 +84,7 @@ left_at state start now (Some files) text rows out some stops = record { left = 
 files_changed : {D : Type 0} (state : D → DiskState) (start now : FileStage D) (asked : Asked) (rows : List Row) (out : Option (List ℕ)) → is_some asked.files ≡ true
     → Stops (file_kind state) asked start rows now → HasFront (held (AlwaysTells state) (seen_by state start) out) (held (AlwaysTells state) (seen_by state now) out) asked rows
 unfolding Stops HasFront
-files_changed state start now asked rows out some stops = left_at state start now asked.files (text_in asked) (left_of asked rows) out some stops
+files_changed state start now asked rows out some stops = left_at state start now asked.files (asked_text asked) (left_of asked rows) out some stops
 
 -- some of these may have changed
 pub files_cut : {D : Type 0} (state : D → DiskState) (start now : FileStage D) (first last : D) (asked : Asked) (rows : List Row) (out : Option (List ℕ)) → start.disk.now ≡ first → now.disk.now ≡ last → is_some asked.files ≡ true
@@ -100,7 +100,7 @@ front_at old new (Some files) text rows out = record { left = λ tells. written_
 -- what was written whole was written up to its end
 pub written_front : (old new : Held) (asked : Asked) (rows : List Row) → HasWritten old new asked rows → HasFront old new asked rows
 unfolding HasWritten HasFront
-written_front old new asked rows written = front_at old new asked.files (text_in asked) (left_of asked rows) written
+written_front old new asked rows written = front_at old new asked.files (asked_text asked) (left_of asked rows) written
 
 -- no call was made
 pub files_unwritten : {D : Type 0} (state : D → DiskState) (start now : FileStage D) (first last : D) (out : Option (List ℕ)) → start.disk.now ≡ first → now.disk.now ≡ last → now ≡ start

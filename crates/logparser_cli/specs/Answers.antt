@@ -13,7 +13,7 @@ use Rattle.query_text.specs.declared.fault.QueryFault.{QueryFault}
 use Rattle.query_text.specs.declared.fault.QueryFault.TheVariants as Q
 use Rattle.reports.specs.declared.status.Status.{Status}
 use Rattle.reports.specs.declared.status.Status.TheVariants.{Done, Memory, Clock, Usage, Query, NoSuchLog, BadName, NameClash, TooManyOutputs, TooManyLogs, Template, InputTooLong, LogsFault, SourceFault, DiskFault, SinkFault, ParseErrors, LostLog, Shrunk, InputChanged, IntoNeeded, LedgerFault}
-use Rattle.requests.specs.Requests.{Asks, IsRefused}
+use Rattle.requests.specs.Requests.{Asks, IsRequestFault}
 use Rattle.requests.specs.declared.fault.RequestFault.TheVariants as R
 use Rattle.row_output.specs.declared.fault.Refused.TheVariants as W
 use Rattle.tpl_output.specs.Sections.{Sections}
@@ -122,10 +122,10 @@ abbrev pub IsUnasked : World → World → List (List ℕ) → Status → Type 0
 IsUnasked old new words Done = ⊥
 IsUnasked old new words Memory = IsUnwritten old.held new.held
 IsUnasked old new words (Clock at) = ⊥
-IsUnasked old new words (Usage fault) = IsRefused old.folder new.folder words (R.Usage fault) × IsUnwritten old.held new.held
-IsUnasked old new words (Query fault) = IsRefused old.folder new.folder words (R.Query fault) × IsUnwritten old.held new.held
-IsUnasked old new words (NoSuchLog name) = IsRefused old.folder new.folder words (R.NoSuchLog name) × IsUnwritten old.held new.held
-IsUnasked old new words (BadName fault) = IsRefused old.folder new.folder words (R.BadName fault) × IsUnwritten old.held new.held
+IsUnasked old new words (Usage fault) = IsRequestFault old.folder new.folder words (R.Usage fault) × IsUnwritten old.held new.held
+IsUnasked old new words (Query fault) = IsRequestFault old.folder new.folder words (R.Query fault) × IsUnwritten old.held new.held
+IsUnasked old new words (NoSuchLog name) = IsRequestFault old.folder new.folder words (R.NoSuchLog name) × IsUnwritten old.held new.held
+IsUnasked old new words (BadName fault) = IsRequestFault old.folder new.folder words (R.BadName fault) × IsUnwritten old.held new.held
 IsUnasked old new words (NameClash name) = ⊥
 IsUnasked old new words TooManyOutputs = ⊥
 IsUnasked old new words TooManyLogs = ⊥

@@ -14,7 +14,7 @@ use Rattle.reports.specs.declared.status.Status.TheVariants as S
 use Rattle.requests.specs.Given.{ReadsOnce, query_files}
 use Rattle.checkpointed_command.specs.Counted.{IsWhole}
 use Rattle.checkpointed_command.specs.Given.{ReadsKept}
-use Rattle.checkpointed_command.specs.Refusals.{IsRefused}
+use Rattle.checkpointed_command.specs.Refusals.{IsCallRefused}
 use Rattle.checkpointed_command.specs.Steps.{TakesSteps}
 use Rattle.logparser_cli.specs.Answers.{AnswersPlainly}
 use Rattle.logparser_cli.specs.Outputs.{World}
@@ -36,7 +36,7 @@ pub record AnswersLedger {D : Type 0} (state : D → DiskState) (old new : D) (s
   pub status_is : status ≡ answer_of result
   pub step : TakesSteps spec ledger (stage_beside ledger) moment before now (state old) (state new) result
   pub whole : IfOk result (IsWhole state old ledger (stage_beside ledger) before now spec moment)
-  pub refused : IfErr result (IsRefused state old ledger (stage_beside ledger) before now spec moment)
+  pub refused : IfErr result (IsCallRefused state old ledger (stage_beside ledger) before now spec moment)
   pub told_counts : IfOk result (λ counts. Tells err told (told_statistics spec.stats counts) err_rose)
   pub logs : status ≡ S.LogsFault → logs_rose
   pub disk : status ≡ S.DiskFault → disk_rose

@@ -8,7 +8,7 @@ use Rattle.checkpointed_command.specs.Built.{reads_stdin}
 use Rattle.log_listing.specs.declared.lengths.NameLength.{NameLength}
 use Rattle.log_listing.specs.declared.fault.ListFault.{ListFault}
 use Rattle.log_listing.specs.declared.fault.ListFault.TheVariants as L
-use Rattle.log_listing.specs.Listed.{IsRefused}
+use Rattle.log_listing.specs.Listed.{IsListFault}
 use Rattle.log_reading.specs.declared.span.Span.{Span}
 use Rattle.query_text.specs.Stdin.{names_in}
 use Rattle.standard_input.specs.Streams.{input_logs}
@@ -36,11 +36,11 @@ IsUnlisted now q Memory = ⊤
 IsUnlisted now q (Clock at) = ⊥
 IsUnlisted now q (Usage fault) = ⊥
 IsUnlisted now q (Query fault) = ⊥
-IsUnlisted now q (NoSuchLog name) = IsRefused now (from_names q) (L.NoSuchLog name)
-IsUnlisted now q (BadName fault) = IsRefused now (from_names q) (L.BadName fault)
+IsUnlisted now q (NoSuchLog name) = IsListFault now (from_names q) (L.NoSuchLog name)
+IsUnlisted now q (BadName fault) = IsListFault now (from_names q) (L.BadName fault)
 IsUnlisted now q (NameClash name) = ⊥
 IsUnlisted now q TooManyOutputs = ⊥
-IsUnlisted now q TooManyLogs = IsRefused now (from_names q) L.TooManyLogs
+IsUnlisted now q TooManyLogs = IsListFault now (from_names q) L.TooManyLogs
 IsUnlisted now q (Template fault) = ⊥
 IsUnlisted now q InputTooLong = ⊥
 IsUnlisted now q LogsFault = ⊤

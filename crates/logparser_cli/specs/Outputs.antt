@@ -4,7 +4,7 @@ use Rattle.disk_model.specs.Disk.{Files as Contents}
 use Rattle.lp_model.specs.Outside.{Folder, Gains, GainsSome}
 use Rattle.multiplex.specs.Splitting.{output_names}
 use Rattle.order_top.specs.Finish.{Row}
-use Rattle.row_output.specs.Asked.{Asked, AreGood, Files, OutputText, left_of, text_in}
+use Rattle.row_output.specs.Asked.{Asked, AreGood, Files, OutputText, left_of, asked_text}
 use Rattle.standard_input.specs.Streams.{stream_files}
 use Rattle.logparser_cli.specs.Files.{AreLeft, AreWritten}
 
@@ -80,7 +80,7 @@ AreOut old new (Some files) text rows = AreInFiles old new files text rows
 
 -- what is left of the rows of a query was written
 unfoldable pub HasWritten : Held → Held → Asked → List Row → Type 0
-HasWritten old new asked rows = AreOut old new asked.files (text_in asked) (left_of asked rows)
+HasWritten old new asked rows = AreOut old new asked.files (asked_text asked) (left_of asked rows)
 
 -- Rows were to go to files, of which some may have changed.
 pub record AreCutFiles (old new : Held) (files : Files) (rows : List Row) : Type 0 where
@@ -98,7 +98,7 @@ AreCut old new (Some files) text rows = AreCutFiles old new files rows
 
 -- it was to be written
 unfoldable pub HasFront : Held → Held → Asked → List Row → Type 0
-HasFront old new asked rows = AreCut old new asked.files (text_in asked) (left_of asked rows)
+HasFront old new asked rows = AreCut old new asked.files (asked_text asked) (left_of asked rows)
 
 -- standard output failed, or the disk did
 abbrev pub OutputRose : Bool → Type 0 → Type 0 → Type 0

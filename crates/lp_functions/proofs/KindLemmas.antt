@@ -13,7 +13,7 @@ use Rattle.lp_values.specs.Readings.{integer_in, real_in}
 use Rattle.lp_values.specs.declared.real.Real as R
 use Rattle.lp_values.specs.declared.stamp.Stamp as S
 use Rattle.lp_time.specs.declared.piece.Piece.{Piece}
-use Rattle.lp_time.specs.Readings.{part_of, seconds_in}
+use Rattle.lp_time.specs.Readings.{pattern_part, seconds_in}
 use Rattle.std.specs.Char.{to_ascii_lowercase, to_ascii_uppercase}
 use Rattle.std.specs.Str.Lossy.{utf8_lossy}
 use Rattle.percent_encoding.specs.Percent.{percent_decode}
@@ -127,7 +127,7 @@ address true t = refl
 address false t = refl
 
 read : (pattern : Result (List Piece) ℕ) (t : List ℕ) → is_of K.Stamp (read_by pattern t) ≡ true
-read (Ok pattern) t = maybe K.Stamp (stamp_value (part_of pattern)) (stamp (part_of pattern)) (seconds_in pattern t)
+read (Ok pattern) t = maybe K.Stamp (stamp_value (pattern_part pattern)) (stamp (pattern_part pattern)) (seconds_in pattern t)
 read (Err at) t = refl
 
 wrote : (pattern : Result (List Piece) ℕ) (s : S.Stamp) → is_of K.Text (written_by pattern s) ≡ true

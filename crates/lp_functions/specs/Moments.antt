@@ -7,7 +7,7 @@ use Rattle.lp_values.specs.Moments.{second_of_day}
 use Rattle.lp_time.specs.declared.piece.Piece.{Piece}
 use Rattle.lp_time.specs.Days.{day_start, joined}
 use Rattle.lp_time.specs.Patterns.{pattern_in}
-use Rattle.lp_time.specs.Readings.{part_of, seconds_in}
+use Rattle.lp_time.specs.Readings.{pattern_part, seconds_in}
 use Rattle.slot_reading.specs.Slots.{or_null}
 use Rattle.slot_reading.specs.Stamps.{stamp_value}
 
@@ -22,7 +22,7 @@ to_time (Stamp stamp) = stamp_value Time (pos (second_of_day stamp.seconds))
 to_time value = Null
 
 abbrev pub read_by : Result (List Piece) ℕ → List ℕ → Value
-read_by (Ok pattern) text = or_null (stamp_value (part_of pattern)) (seconds_in pattern text)
+read_by (Ok pattern) text = or_null (stamp_value (pattern_part pattern)) (seconds_in pattern text)
 read_by (Err at) text = Null
 
 -- TO_TIMESTAMP

@@ -2,7 +2,7 @@
 ghost use Rattle.std.specs.Prelude.{◌≡◌, IfOk};
 ghost use Rattle.lp_functions.specs.Cutting.{trim_value, ltrim_value, rtrim_value, extract_filename_value, extract_path_value, extract_extension_value, rest_from_value, substr_value};
 
-use crate::texts::{part_of, text_of};
+use crate::texts::{text_of, text_or_null};
 use lp_values::Value;
 use std::alloc::{AllocError, Global};
 use text_functions::{
@@ -58,7 +58,7 @@ pub(crate) fn extract_extension_value(alloc: Global, a: &Value) -> Result<Value,
     ensures { IfOk result (λ value. value ≡ extract_extension_value a.now) }
 {
     match a {
-        Value::Text(text) => part_of(alloc, extract_extension(text.as_str())),
+        Value::Text(text) => text_or_null(alloc, extract_extension(text.as_str())),
         _ => Ok(Value::Null),
     }
 }
@@ -67,7 +67,10 @@ pub(crate) fn rest_from_value(alloc: Global, a: &Value, b: &Value) -> Result<Val
     ensures { IfOk result (λ value. value ≡ rest_from_value a.now b.now) }
 {
     match (a, b) {
-        (Value::Text(text), Value::Int(from)) => part_of(alloc, substr_from(text.as_str(), *from)),
+        (Value::Text(text), Value::Int(from)) => text_or_null(
+            alloc,
+            substr_from(text.as_str(), *from),
+        ),
         _ => Ok(Value::Null),
     }
 }
@@ -81,7 +84,7 @@ pub(crate) fn substr_value(
     ensures { IfOk result (λ value. value ≡ substr_value a.now b.now c.now) }
 {
     match (a, b, c) {
-        (Value::Text(text), Value::Int(from), Value::Int(most)) => part_of(
+        (Value::Text(text), Value::Int(from), Value::Int(most)) => text_or_null(
             alloc,
             substr(text.as_str(), *from, *most),
         ),

@@ -50,7 +50,7 @@ pub(crate) fn text_of(alloc: Global, text: &str) -> Result<Value, AllocError>
 }
 
 /// A copy of a part of a text, where there is one.
-pub(crate) fn part_of(alloc: Global, text: Option<&str>) -> Result<Value, AllocError>
+pub(crate) fn text_or_null(alloc: Global, text: Option<&str>) -> Result<Value, AllocError>
     ensures { IfOk result (λ value. value ≡ or_null text_value (option_copied text.entry)) }
 {
     match text {

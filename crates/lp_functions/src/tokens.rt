@@ -2,7 +2,7 @@
 ghost use Rattle.std.specs.Prelude.{◌≡◌, IfOk};
 ghost use Rattle.lp_functions.specs.Tokens.{token_of_list_value, extract_token_value, value_of_query_value, extract_value_value, extract_prefix_value, extract_suffix_value};
 
-use crate::texts::part_of;
+use crate::texts::text_or_null;
 use lp_values::Value;
 use std::alloc::{AllocError, Global};
 use text_functions::{extract_prefix, extract_suffix, extract_token, extract_value};
@@ -11,7 +11,7 @@ pub(crate) fn token_of_list_value(alloc: Global, a: &Value, b: &Value) -> Result
     ensures { IfOk result (λ value. value ≡ token_of_list_value a.now b.now) }
 {
     match (a, b) {
-        (Value::Text(text), Value::Int(index)) => part_of(
+        (Value::Text(text), Value::Int(index)) => text_or_null(
             alloc,
             extract_token(text.as_str(), *index, None),
         ),
@@ -28,7 +28,7 @@ pub(crate) fn extract_token_value(
     ensures { IfOk result (λ value. value ≡ extract_token_value a.now b.now c.now) }
 {
     match (a, b, c) {
-        (Value::Text(text), Value::Int(index), Value::Text(separator)) => part_of(
+        (Value::Text(text), Value::Int(index), Value::Text(separator)) => text_or_null(
             alloc,
             extract_token(text.as_str(), *index, Some(separator.as_str())),
         ),
@@ -40,7 +40,7 @@ pub(crate) fn value_of_query_value(alloc: Global, a: &Value, b: &Value) -> Resul
     ensures { IfOk result (λ value. value ≡ value_of_query_value a.now b.now) }
 {
     match (a, b) {
-        (Value::Text(text), Value::Text(name)) => part_of(
+        (Value::Text(text), Value::Text(name)) => text_or_null(
             alloc,
             extract_value(text.as_str(), name.as_str(), None),
         ),
@@ -57,7 +57,7 @@ pub(crate) fn extract_value_value(
     ensures { IfOk result (λ value. value ≡ extract_value_value a.now b.now c.now) }
 {
     match (a, b, c) {
-        (Value::Text(text), Value::Text(name), Value::Text(separator)) => part_of(
+        (Value::Text(text), Value::Text(name), Value::Text(separator)) => text_or_null(
             alloc,
             extract_value(text.as_str(), name.as_str(), Some(separator.as_str())),
         ),
@@ -74,7 +74,7 @@ pub(crate) fn extract_prefix_value(
     ensures { IfOk result (λ value. value ≡ extract_prefix_value a.now b.now c.now) }
 {
     match (a, b, c) {
-        (Value::Text(text), Value::Int(index), Value::Text(separator)) => part_of(
+        (Value::Text(text), Value::Int(index), Value::Text(separator)) => text_or_null(
             alloc,
             extract_prefix(text.as_str(), *index, separator.as_str()),
         ),
@@ -91,7 +91,7 @@ pub(crate) fn extract_suffix_value(
     ensures { IfOk result (λ value. value ≡ extract_suffix_value a.now b.now c.now) }
 {
     match (a, b, c) {
-        (Value::Text(text), Value::Int(index), Value::Text(separator)) => part_of(
+        (Value::Text(text), Value::Int(index), Value::Text(separator)) => text_or_null(
             alloc,
             extract_suffix(text.as_str(), *index, separator.as_str()),
         ),

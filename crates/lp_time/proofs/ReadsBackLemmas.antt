@@ -16,7 +16,7 @@ use Rattle.lp_time.specs.declared.field.Field.TheVariants as F
 use Rattle.lp_time.specs.declared.piece.Piece.{Piece}
 use Rattle.lp_time.specs.declared.piece.Piece.TheVariants.{Padded, Short, MonthName, Other}
 use Rattle.lp_time.specs.Patterns.{field_of, is_same_field, has_field}
-use Rattle.lp_time.specs.Readings.{with_field, with_piece, is_existing, part_of, has_date, has_time, missing_parts, unix_seconds, existing_seconds, seconds_in}
+use Rattle.lp_time.specs.Readings.{with_field, with_piece, is_existing, pattern_part, has_date, has_time, missing_parts, unix_seconds, existing_seconds, seconds_in}
 use Rattle.lp_time.specs.ReadsBack.{ReadsBack, has_all, has_whole_date, has_whole_time, is_clear}
 use Rattle.lp_time.specs.Writings.{number_of, written}
 use Rattle.lp_time.proofs.BackLemmas.{Fits, value_of, filled, pieces_back}
@@ -164,9 +164,9 @@ module _ (s : ℤ) (fits : Fits (civil_of s)) (there : Exists (civil_of s)) (bac
   clock : time_seconds civil ≡ second_of_day s
   clock = omega arith
 
-  finish : (part : Part) (v : Civil) → part_of pieces ≡ part → found ≡ v → existing_seconds part v ≡ Some s → seconds_in pieces (written pieces civil) ≡ Some s
+  finish : (part : Part) (v : Civil) → pattern_part pieces ≡ part → found ≡ v → existing_seconds part v ≡ Some s → seconds_in pieces (written pieces civil) ≡ Some s
   finish part v is same some =
-      ap (option_and_then (existing_seconds (part_of pieces))) (pieces_back civil fits pieces missing_parts clear)
+      ap (option_and_then (existing_seconds (pattern_part pieces))) (pieces_back civil fits pieces missing_parts clear)
       ∙ (ap (λ (p : Part). existing_seconds p found) is ∙ (ap (existing_seconds part) same ∙ some))
 
   module _ (h : has_whole_date pieces ≡ true) where
@@ -189,13 +189,13 @@ module _ (s : ℤ) (fits : Fits (civil_of s)) (there : Exists (civil_of s)) (bac
     second_set : has_field pieces F.Second ≡ true
     second_set = second_so (has_field pieces F.Hour && has_field pieces F.Minute) (has_field pieces F.Second) h
 
-  reads_both : part_of pieces ≡ Both → has_whole_date pieces ≡ true → has_whole_time pieces ≡ true → seconds_in pieces (written pieces civil) ≡ Some s
+  reads_both : pattern_part pieces ≡ Both → has_whole_date pieces ≡ true → has_whole_time pieces ≡ true → seconds_in pieces (written pieces civil) ≡ Some s
   reads_both is date time =
       finish Both civil is
       (same_civil found civil (set F.Year (year_set date)) (set F.Month (month_set date)) (set F.Day (day_set date)) (set F.Hour (hour_set time)) (set F.Minute (minute_set time)) (set F.Second (second_set time)))
       (existing_some Both civil s there back)
 
-  reads_date : part_of pieces ≡ Date → has_whole_date pieces ≡ true → second_of_day s ≡ 0 → seconds_in pieces (written pieces civil) ≡ Some s
+  reads_date : pattern_part pieces ≡ Date → has_whole_date pieces ≡ true → second_of_day s ≡ 0 → seconds_in pieces (written pieces civil) ≡ Some s
   reads_date is date whole =
       let none = date_alone (has_date pieces) (has_time pieces) is in
       let hours_minutes = left_false (has_field pieces F.Hour || has_field pieces F.Minute) (has_field pieces F.Second) none in
@@ -207,7 +207,7 @@ module _ (s : ℤ) (fits : Fits (civil_of s)) (there : Exists (civil_of s)) (bac
       (unset F.Second (right_false (has_field pieces F.Hour || has_field pieces F.Minute) (has_field pieces F.Second) none)))
       (existing_some Date (kept_date civil) s (record { first_year = there.first_year; last_year = there.last_year; first_month = there.first_month; last_month = there.last_month; first_day = there.first_day; last_day = there.last_day; hours = omega arith; minutes = omega arith; seconds = omega arith }) seconds)
 
-  reads_time : part_of pieces ≡ Time → has_whole_time pieces ≡ true → pos 0 ≤ℤ s → s <ℤ pos 86_400 → seconds_in pieces (written pieces civil) ≡ Some s
+  reads_time : pattern_part pieces ≡ Time → has_whole_time pieces ≡ true → pos 0 ≤ℤ s → s <ℤ pos 86_400 → seconds_in pieces (written pieces civil) ≡ Some s
   reads_time is time low high =
       let none = time_alone (has_date pieces) (has_time pieces) is in
       let years_months = left_false (has_field pieces F.Year || has_field pieces F.Month) (has_field pieces F.Day) none in
@@ -223,7 +223,7 @@ module _ (stamp : Stamp) (pieces : List Piece) where
   pub reads_back : (fits : Fits (civil_of stamp.seconds)) (there : Exists (civil_of stamp.seconds)) → day_seconds (civil_of stamp.seconds) +ℤ pos (time_seconds (civil_of stamp.seconds)) ≡ stamp.seconds → ReadsBack pieces stamp
   reads_back fits there back part all clear = by stamp.part refl part all
     where
-      by : (p : Part) → stamp.part ≡ p → part_of pieces ≡ p → has_all p pieces ≡ true → seconds_in pieces (written pieces (civil_of stamp.seconds)) ≡ Some stamp.seconds
+      by : (p : Part) → stamp.part ≡ p → pattern_part pieces ≡ p → has_all p pieces ≡ true → seconds_in pieces (written pieces (civil_of stamp.seconds)) ≡ Some stamp.seconds
       by Date e is h = reads_date stamp.seconds fits there back pieces clear is h (stamp.exists.whole_day e)
       by Time e is h = let first = stamp.exists.first_day e in reads_time stamp.seconds fits there back pieces clear is h first.0 first.1
       by Both e is h = reads_both stamp.seconds fits there back pieces clear is (first_so (has_whole_date pieces) (has_whole_time pieces) h) (second_so (has_whole_date pieces) (has_whole_time pieces) h)

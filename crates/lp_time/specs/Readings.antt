@@ -85,8 +85,8 @@ has_date pieces = has_field pieces F.Year || has_field pieces F.Month || has_fie
 abbrev pub has_time : List Piece → Bool
 has_time pieces = has_field pieces F.Hour || has_field pieces F.Minute || has_field pieces F.Second
 
-abbrev pub part_of : List Piece → Part
-part_of pieces = if has_date pieces then (if has_time pieces then Both else Date) else Time
+abbrev pub pattern_part : List Piece → Part
+pattern_part pieces = if has_date pieces then (if has_time pieces then Both else Date) else Time
 
 -- what stands where items are missing
 abbrev pub missing_parts : Civil
@@ -110,4 +110,4 @@ existing_seconds part civil = if is_existing civil then Some (unix_seconds part 
 
 -- the seconds of the stamp that a text is
 abbrev pub seconds_in : List Piece → List ℕ → Option ℤ
-seconds_in pieces text = option_and_then (existing_seconds (part_of pieces)) (read_onto missing_parts pieces text)
+seconds_in pieces text = option_and_then (existing_seconds (pattern_part pieces)) (read_onto missing_parts pieces text)

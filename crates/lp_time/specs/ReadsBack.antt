@@ -9,7 +9,7 @@ use Rattle.lp_time.specs.declared.field.Field.TheVariants as F
 use Rattle.lp_time.specs.declared.piece.Piece.{Piece}
 use Rattle.lp_time.specs.declared.piece.Piece.TheVariants.{Padded, Short, MonthName, Other}
 use Rattle.lp_time.specs.Patterns.{has_field}
-use Rattle.lp_time.specs.Readings.{part_of, seconds_in}
+use Rattle.lp_time.specs.Readings.{pattern_part, seconds_in}
 use Rattle.lp_time.specs.Writings.{written}
 
 abbrev pub has_whole_date : List Piece → Bool
@@ -47,4 +47,4 @@ is_clear (Other character ∷ pieces) = is_clear pieces
 
 -- a pattern with all items of the stamp's part and no others gives the stamp back
 abbrev pub ReadsBack : List Piece → Stamp → Type 0
-ReadsBack pieces stamp = part_of pieces ≡ stamp.part → has_all stamp.part pieces ≡ true → is_clear pieces ≡ true → seconds_in pieces (written pieces (civil_of stamp.seconds)) ≡ Some stamp.seconds
+ReadsBack pieces stamp = pattern_part pieces ≡ stamp.part → has_all stamp.part pieces ≡ true → is_clear pieces ≡ true → seconds_in pieces (written pieces (civil_of stamp.seconds)) ≡ Some stamp.seconds

@@ -30,7 +30,7 @@ impl Model for Pattern {
 }
 
 impl Pattern {
-    ghost use Rattle.lp_time.specs.Readings.{has_date, has_time, part_of};
+    ghost use Rattle.lp_time.specs.Readings.{has_date, has_time, pattern_part};
     ghost use Rattle.lp_time.specs.Patterns.{pattern_in, front_piece, front_size, has_field, has_items, is_new, takes};
 
     /// Reads a pattern. The fault is the first place of a run of letters that is no item, of a second item for one part,
@@ -108,7 +108,7 @@ impl Pattern {
 
     /// The part of the stamps that the pattern reads.
     pub fn part(&self) -> Part
-        ensures { result ≡ part_of self.now }
+        ensures { result ≡ pattern_part self.now }
     {
         if !self.has_date() {
             Part::Time

@@ -5,7 +5,7 @@ ghost use Rattle.lp_values.specs.Civil.{day_seconds, time_seconds};
 ghost use Rattle.lp_values.specs.Moments.{second_of_day};
 ghost use Rattle.lp_values.specs.Stamps.{IsInYears};
 ghost use Rattle.lp_time.specs.Patterns.{field_of};
-ghost use Rattle.lp_time.specs.Readings.{room_of, with_field, with_piece, read_onto, missing_parts, part_of, is_existing, existing_seconds, seconds_in};
+ghost use Rattle.lp_time.specs.Readings.{room_of, with_field, with_piece, read_onto, missing_parts, pattern_part, is_existing, existing_seconds, seconds_in};
 
 use crate::days::moment;
 use crate::taking::taken;
@@ -28,7 +28,7 @@ pub(crate) const MISSING_PARTS: Civil = Civil {
 /// are 1 January 2000 and midnight.
 pub fn read_stamp(pattern: &Pattern, text: &str) -> Option<Stamp>
     ensures seconds { option_map (λ s. s.seconds) result ≡ seconds_in pattern.now text.now }
-    ensures part { IfSome result (λ s. s.part ≡ part_of pattern.now) }
+    ensures part { IfSome result (λ s. s.part ≡ pattern_part pattern.now) }
 {
     let civil = read_onto(MISSING_PARTS, pattern.as_slice(), text.as_bytes())?;
     stamp_of(civil, pattern.part())

@@ -2,13 +2,13 @@
 use Rattle.std.specs.Prelude.{ℕ, List, [], ◌∷◌, codes, Option, option_map}
 use Rattle.std.specs.List.{find}
 use Rattle.slot_reading.specs.Names.{is_same_name}
-use Rattle.slot_reading.specs.declared.reading.Reading.{Reading}
-use Rattle.slot_reading.specs.declared.reading.Reading.TheVariants.{Integer, Text, Clf}
+use Rattle.slot_reading.specs.declared.reading.SlotReading.{SlotReading}
+use Rattle.slot_reading.specs.declared.reading.SlotReading.TheVariants.{Integer, Text, Clf}
 
 -- a field, and how it is read
 pub record NcsaField : Type 0 where
   pub name : List ℕ
-  pub reading : Reading
+  pub reading : SlotReading
 
 abbrev pub text_field : List ℕ → NcsaField
 text_field name = record { name = name; reading = Text }
@@ -37,5 +37,5 @@ ncsa_fields =
     ∷ []
 
 -- how the field of a name is read, whatever the name's case
-unfoldable pub field_reading : List ℕ → Option Reading
+unfoldable pub field_reading : List ℕ → Option SlotReading
 field_reading name = option_map (λ (field : NcsaField). field.reading) (find (λ (field : NcsaField). is_same_name name field.name) ncsa_fields)

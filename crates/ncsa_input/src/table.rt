@@ -2,7 +2,7 @@
 ghost use Rattle.std.specs.Prelude.{◌≡◌, map};
 ghost use Rattle.ncsa_input.specs.Table.{NcsaField, ncsa_fields, field_reading};
 
-use slot_reading::{Reading, is_same_name};
+use slot_reading::{SlotReading, is_same_name};
 
 /// The names of all fields of a row, in order.
 pub fn ncsa_names() -> [&'static str; 12]
@@ -26,33 +26,33 @@ pub fn ncsa_names() -> [&'static str; 12]
 
 /// How a field is read, by its name, whatever the name's case; `None` for a name that isn't in the table.
 #[tactic(auto, unfolding(crate::specs::Table::field_reading))]
-pub fn ncsa_reading(name: &str) -> Option<Reading>
+pub fn ncsa_reading(name: &str) -> Option<SlotReading>
     ensures { result ≡ field_reading name.now }
 {
     if is_same_name(name, "LogFilename") {
-        Some(Reading::Text)
+        Some(SlotReading::Text)
     } else if is_same_name(name, "LogRow") {
-        Some(Reading::Integer)
+        Some(SlotReading::Integer)
     } else if is_same_name(name, "RemoteHostName") {
-        Some(Reading::Text)
+        Some(SlotReading::Text)
     } else if is_same_name(name, "RemoteLogName") {
-        Some(Reading::Text)
+        Some(SlotReading::Text)
     } else if is_same_name(name, "UserName") {
-        Some(Reading::Text)
+        Some(SlotReading::Text)
     } else if is_same_name(name, "DateTime") {
-        Some(Reading::Clf)
+        Some(SlotReading::Clf)
     } else if is_same_name(name, "Request") {
-        Some(Reading::Text)
+        Some(SlotReading::Text)
     } else if is_same_name(name, "StatusCode") {
-        Some(Reading::Integer)
+        Some(SlotReading::Integer)
     } else if is_same_name(name, "BytesSent") {
-        Some(Reading::Integer)
+        Some(SlotReading::Integer)
     } else if is_same_name(name, "Referer") {
-        Some(Reading::Text)
+        Some(SlotReading::Text)
     } else if is_same_name(name, "User-Agent") {
-        Some(Reading::Text)
+        Some(SlotReading::Text)
     } else if is_same_name(name, "Cookie") {
-        Some(Reading::Text)
+        Some(SlotReading::Text)
     } else {
         None
     }

@@ -9,13 +9,13 @@ use Rattle.query_types.specs.Conditions.{Filter}
 use Rattle.query_types.specs.Planned.{is_mentioned}
 use Rattle.row_engine.specs.Rows.{keeps, selected_in}
 use Rattle.log_reading.specs.Found.{Found}
-use Rattle.slot_reading.specs.declared.reading.Reading.{Reading}
+use Rattle.slot_reading.specs.declared.reading.SlotReading.{SlotReading}
 use Rattle.plan_rows.specs.Picks.{Parted, Put, if_kept, is_among, table_row}
 use Rattle.row_engine.proofs.Agreeing.{Agree, keeps_same, selected_same}
 use Rattle.plan_rows.proofs.Fields.{fields_length}
 
 -- a row has the log's name, the number and a value for each reading
-pub row_length : (readings : List Reading) (found : Found) → length (table_row readings found) ≡ length readings + 2
+pub row_length : (readings : List SlotReading) (found : Found) → length (table_row readings found) ≡ length readings + 2
 row_length readings found = let size = fields_length readings found.row.slots 0 in omega arith
 
 -- two rows agree past their ends

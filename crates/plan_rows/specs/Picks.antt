@@ -5,7 +5,7 @@ use Rattle.lp_model.specs.Reading.{Slots}
 use Rattle.lp_values.specs.declared.value.Value.{Value}
 use Rattle.lp_values.specs.declared.value.Value.TheVariants.{Null, Int, Text}
 use Rattle.log_reading.specs.Found.{Found, slot_at}
-use Rattle.slot_reading.specs.declared.reading.Reading.{Reading}
+use Rattle.slot_reading.specs.declared.reading.SlotReading.{SlotReading}
 use Rattle.slot_reading.specs.Slots.{value_of}
 use Rattle.query_types.specs.Terms.{Term, any_has_column}
 use Rattle.query_types.specs.Conditions.{Filter}
@@ -13,12 +13,12 @@ use Rattle.query_types.specs.Planned.{is_mentioned}
 use Rattle.row_engine.specs.Rows.{keeps, selected_in}
 
 -- the values of a record's fields from a place on, each read as its column is; a field that the record lacks is NULL
-abbrev pub fields_read : List Reading → Slots → ℕ → List Value
+abbrev pub fields_read : List SlotReading → Slots → ℕ → List Value
 fields_read [] slots at = []
 fields_read (reading ∷ readings) slots at = value_of reading (slot_at slots at) ∷ fields_read readings slots (at + 1)
 
 -- the row of a record: its log, its number, and its fields
-abbrev pub table_row : List Reading → Found → List Value
+abbrev pub table_row : List SlotReading → Found → List Value
 table_row readings found = Text found.identity ∷ Int (pos found.row.number) ∷ fields_read readings found.row.slots 0
 
 abbrev pub if_kept : Bool → List Value → Option (List Value)
@@ -26,7 +26,7 @@ if_kept true row = Some row
 if_kept false row = None
 
 -- the output row of a record, if its condition is Yes
-abbrev pub plan_picks : List Reading → List Term → Option Filter → Found → Option (List Value)
+abbrev pub plan_picks : List SlotReading → List Term → Option Filter → Found → Option (List Value)
 plan_picks readings items condition found = let row = table_row readings found in if_kept (keeps condition row) (selected_in row items)
 
 -- whether a column is one of these

@@ -14,11 +14,11 @@ use lp_outside::Name;
 use lp_values::{ListOf, ValueList};
 use query_run::Picker;
 use query_types::Plan;
-use slot_reading::Reading;
+use slot_reading::SlotReading;
 use std::alloc::{AllocError, Global};
 
 /// How the fields of a format are read, in the order of its table behind the log's name and the number.
-pub type ReadingList = ListOf<Reading>;
+pub type ReadingList = ListOf<SlotReading>;
 
 /// Makes of each record the output row of a plan.
 #[derive(Drop)]

@@ -16,7 +16,7 @@ use Rattle.log_reading.specs.declared.span.Span.{Span}
 use Rattle.log_reading.specs.Spans.{IsKept, cut_of, last_end, span_end, span_found, spans_found, span_bad, spans_bad}
 use Rattle.run_model.specs.Logs.{Written}
 use Rattle.run_model.specs.Meanings.{Part}
-use Rattle.run_model.specs.Right.{part_of, parts_of, bad_of, bad_in, rows_in}
+use Rattle.run_model.specs.Right.{span_part, parts_of, bad_of, bad_in, rows_in}
 use Rattle.program_meaning.specs.Gives.{part_found, first_in, past_in}
 use Rattle.program_meaning.proofs.Ends.{last_end_is_last, standing_of_whole, records_of_whole, bad_of_whole}
 
@@ -37,7 +37,7 @@ module _ (format : Format) (written : Written) (folder : Folder) where
   end_is span kept = max-eq_right ((last_end_is_last (cut_of folder span)).last span.from kept.at_end)
 
   part_is : (span : Span) (kept : EntrySpan) → IsPartOf format written folder span kept
-      → part_of format written kept ≡ record { identity = span.identity; records = records_of format (cut_of folder span) true span.from (length (cut_of folder span)); columns = (standing_at format (cut_of folder span) true (length (cut_of folder span))).columns }
+      → span_part format written kept ≡ record { identity = span.identity; records = records_of format (cut_of folder span) true span.from (length (cut_of folder span)); columns = (standing_at format (cut_of folder span) true (length (cut_of folder span))).columns }
   part_is span kept is =
       let whole = bytes_in folder span.name in
       let end : ℕ = last_end (cut_of folder span) in
@@ -72,10 +72,10 @@ module _ (format : Format) (written : Written) (folder : Folder) where
   rows_are [] (k ∷ ks) are = absurd are
   rows_are (s ∷ ss) [] are = absurd are
   rows_are (s ∷ ss) (k ∷ ks) (is, more) =
-      let here : length (part_of format written k).records ≡ length (span_found format true folder s) = ap (λ (p : Part). length p.records) (part_is s k is) ∙ sym (found_size s.identity _) in
+      let here : length (span_part format written k).records ≡ length (span_found format true folder s) = ap (λ (p : Part). length p.records) (part_is s k is) ∙ sym (found_size s.identity _) in
       let rest = rows_are ss ks more in
       let size = length-append (span_found format true folder s) (spans_found format true folder ss) in
-      let more_rows : rows_in (parts_of format written (k ∷ ks)) ≡ length (part_of format written k).records + rows_in (parts_of format written ks) = sum_by-cons (λ (n : ℕ). n) (length (part_of format written k).records) (map (λ (p : Part). length p.records) (parts_of format written ks)) in
+      let more_rows : rows_in (parts_of format written (k ∷ ks)) ≡ length (span_part format written k).records + rows_in (parts_of format written ks) = sum_by-cons (λ (n : ℕ). n) (length (span_part format written k).records) (map (λ (p : Part). length p.records) (parts_of format written ks)) in
       omega (arith, here, rest, size, more_rows)
 
   bad_is : (span : Span) (kept : EntrySpan) → IsPartOf format written folder span kept → bad_of format written kept ≡ length (span_bad format true folder span)

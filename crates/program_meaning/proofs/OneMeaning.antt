@@ -25,7 +25,7 @@ use Rattle.subqueries.specs.Formats.{format_of, input_of, log_format}
 use Rattle.subqueries.specs.Outputs.{files_named}
 use Rattle.subqueries.specs.Plans.{PlannedQuery, asked_for, query_plan}
 use Rattle.subqueries.specs.Texts.{into_in, output_of, run_text, text_as}
-use Rattle.row_output.specs.Asked.{Asked as AskedRows, Files, RowsText, left_of, text_in}
+use Rattle.row_output.specs.Asked.{Asked as AskedRows, Files, RowsText, left_of, asked_text}
 use Rattle.run_model.specs.Meanings.{Asked, Part, Split, Given, IsOne}
 use Rattle.tpl_output.specs.Sections.{Sections, sections_of}
 use Rattle.program_meaning.specs.Asked.{HasOptions, Asks}
@@ -157,7 +157,7 @@ one_given asked past lists x y a b =
     let rows_asked : asked_for (Some a.files) (run_text a.spec a.template asked.moment a.q) a.q a.plan ≡ asked_for (Some b.files) (run_text b.spec b.template asked.moment b.q) b.q b.plan =
     λ i. asked_for (Some (files i)) (texts i) (queries i) (plans i) in
     let rows : rows_over (log_format a.spec a.q) a.spec.ts_format a.plan past ≡ rows_over (log_format b.spec b.q) b.spec.ts_format b.plan past = λ i. rows_over (formats i) (patterns i) (plans i) past in
-    let splits : x.splits ≡ y.splits = a.puts.splits ∙ ((λ i. splits_of (files i) (text_in (rows_asked i)) (left_of (rows_asked i) (rows i))) ∙ sym b.puts.splits) in
+    let splits : x.splits ≡ y.splits = a.puts.splits ∙ ((λ i. splits_of (files i) (asked_text (rows_asked i)) (left_of (rows_asked i) (rows i))) ∙ sym b.puts.splits) in
     let counts : x.rows ≡ y.rows = a.puts.rows_are ∙ ((λ i. Rattle.std.specs.Prelude.length (left_of (rows_asked i) (rows i))) ∙ sym b.puts.rows_are) in
     λ i. record { splits = splits i; rows = counts i }
 

@@ -20,7 +20,7 @@ use Rattle.input_tables.specs.Tables.{table_of}
 use Rattle.log_reading.specs.Found.{Found, found_of}
 use Rattle.multiplex.specs.Splitting.{OutputRows, split}
 use Rattle.query_types.specs.declared.table.TableColumns.{TableColumns}
-use Rattle.row_output.specs.Asked.{Asked as AskedRows, Files, OutputText, left_of, text_in}
+use Rattle.row_output.specs.Asked.{Asked as AskedRows, Files, OutputText, left_of, asked_text}
 use Rattle.run_model.specs.Meanings.{Asked, Part, Split, Given}
 use Rattle.tpl_output.specs.Sections.{Sections, fault_of, sections_of}
 use Rattle.subqueries.specs.Giving.{subqueries_of}
@@ -58,7 +58,7 @@ splits_of files text rows = map (split_of text) (split files.pattern rows)
 
 -- what is left of rows is put out
 pub record PutsOut (files : Files) (asked : AskedRows) (rows : List (List Value)) (given : Given) : Type 0 where
-  pub splits : given.splits ≡ splits_of files (text_in asked) (left_of asked rows)
+  pub splits : given.splits ≡ splits_of files (asked_text asked) (left_of asked rows)
   pub rows_are : given.rows ≡ length (left_of asked rows)
 
 -- the sections of the template's bytes, where the output is by one; else it has none

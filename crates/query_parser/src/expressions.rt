@@ -4,7 +4,7 @@ ghost use Rattle.grammar.specs.Classes.{is_a};
 ghost use Rattle.grammar.specs.declared.Class.TheVariants as class;
 ghost use Rattle.grammar.specs.Rules.{expr, exprs, literal, plain_word, counting_word, arguments, count_arguments, case', whens, when, case_end, is_integer};
 ghost use Rattle.grammar.specs.Trees.{Tree as tree};
-ghost use Rattle.grammar.specs.Trees.{call_of, count_of, listed, text_in, two_texts};
+ghost use Rattle.grammar.specs.Trees.{call_of, count_of, listed, placed_text, two_texts};
 ghost use Rattle.query_tree.specs.Tokens.{seen};
 ghost use Rattle.query_tree.specs.Views.{tree_of, trees_of, when_of, whens_of, placed_of};
 ghost use Rattle.query_parser.specs.Answers.{Gives, arguments_of, placed_pair};
@@ -19,8 +19,8 @@ use query_tree::{Expr, ExprList, Placed, When, WhenList};
 use std::alloc::{AllocError, Global};
 
 /// The place and the text of an expression that is a text.
-fn text_in(alloc: Global, value: &Expr) -> Result<Option<Placed>, AllocError>
-    ensures { IfOk result (λ text. option_map placed_of text ≡ text_in (tree_of value.now)) }
+fn placed_text(alloc: Global, value: &Expr) -> Result<Option<Placed>, AllocError>
+    ensures { IfOk result (λ text. option_map placed_of text ≡ placed_text (tree_of value.now)) }
 {
     match value {
         Expr::Text { at, value } => {
@@ -37,10 +37,10 @@ fn two_texts(alloc: Global, values: &ExprList) -> Result<Option<(Placed, Placed)
 {
     match values.items.as_slice() {
         [first, second] => {
-            let Some(value) = text_in(alloc, first)? else {
+            let Some(value) = placed_text(alloc, first)? else {
                 return Ok(None);
             };
-            let Some(pattern) = text_in(alloc, second)? else {
+            let Some(pattern) = placed_text(alloc, second)? else {
                 return Ok(None);
             };
             Ok(Some((value, pattern)))

@@ -2,7 +2,7 @@
 use Rattle.std.specs.Prelude.{◌≡◌, ℕ, zero, suc, ℤ, Bool, true, false, ◌||◌, List, [], ◌∷◌, ◌++◌, map, if◌then◌else◌, Option, Some, None, Result, Ok, Err, ⊤}
 use Rattle.std.specs.List.{find, position, slice_get}
 use Rattle.std.specs.Str.{str_eq_ignore_ascii_case}
-use Rattle.grammar.specs.Trees.{Tree, Trees, no_trees, more_trees, Whens, no_whens, more_whens, Otherwise, no_else, an_else, Placed, place_of, text_in}
+use Rattle.grammar.specs.Trees.{Tree, Trees, no_trees, more_trees, Whens, no_whens, more_whens, Otherwise, no_else, an_else, Placed, place_of, placed_text}
 use Rattle.grammar.specs.Trees.{Tree as tree}
 use Rattle.lp_values.specs.declared.kind.Kind.{Kind}
 use Rattle.lp_values.specs.declared.kind.Kind.TheVariants as K
@@ -13,7 +13,7 @@ use Rattle.lp_values.specs.declared.value.Value.TheVariants as V
 use Rattle.lp_values.specs.Kinds.{kind_of}
 use Rattle.lp_time.specs.declared.piece.Piece.{Piece}
 use Rattle.lp_time.specs.Patterns.{pattern_in}
-use Rattle.lp_time.specs.Readings.{part_of, seconds_in}
+use Rattle.lp_time.specs.Readings.{pattern_part, seconds_in}
 use Rattle.slot_reading.specs.Stamps.{stamp_value}
 use Rattle.lp_functions.specs.declared.function.Function.{Function}
 use Rattle.lp_functions.specs.declared.function.Function.TheVariants as f
@@ -132,7 +132,7 @@ pattern_of at (Some text) = pattern_read at (pattern_in text.text)
 -- the pattern that an argument is
 abbrev pub pattern_given : Option Tree → Result (Option (List Piece)) TypeFault
 pattern_given None = Ok None
-pattern_given (Some e) = followed (pattern_of (place_of e) (text_in e)) (λ pattern. Ok (Some pattern))
+pattern_given (Some e) = followed (pattern_of (place_of e) (placed_text e)) (λ pattern. Ok (Some pattern))
 
 -- the pattern among arguments of such kinds, where the function wants one
 abbrev pub pattern_among : Option ℕ → Trees → Result (Option (List Piece)) TypeFault
@@ -179,7 +179,7 @@ stamp_read value pattern part (Some seconds) = Ok (said (stamp_value part second
 
 -- TIMESTAMP
 abbrev pub stamp_means : Placed → Placed → Result Term TypeFault
-stamp_means value pattern = followed (pattern_of pattern.at (Some pattern)) (λ pieces. stamp_read value pattern (part_of pieces) (seconds_in pieces value.text))
+stamp_means value pattern = followed (pattern_of pattern.at (Some pattern)) (λ pieces. stamp_read value pattern (pattern_part pieces) (seconds_in pieces value.text))
 
 -- two kinds of THEN and ELSE agree where they are equal or one is Any
 abbrev pub agree : Kind → Kind → Bool

@@ -1,7 +1,7 @@
 // Stamps that a query names.
 ghost use Rattle.std.specs.Prelude.{◌≡◌, [], ◌∷◌, Some, IfOk};
 ghost use Rattle.query_tree.specs.Views.{placed_of};
-ghost use Rattle.lp_time.specs.Readings.{part_of, seconds_in};
+ghost use Rattle.lp_time.specs.Readings.{pattern_part, seconds_in};
 ghost use Rattle.slot_reading.specs.Stamps.{stamp_value};
 ghost use Rattle.lp_values.specs.declared.part.Part.TheVariants.{Both};
 ghost use Rattle.lp_values.specs.declared.value.Value.TheVariants as V;
@@ -64,7 +64,7 @@ fn stamp_read(
     text: &Placed,
     pattern: &Pattern,
 ) -> Result<Meaning, TypeFault>
-    ensures { Answers (λ meaning. meaning) result (stamp_read (placed_of value.now) (placed_of text.now) (part_of pattern.now) (seconds_in pattern.now value.now.text)) }
+    ensures { Answers (λ meaning. meaning) result (stamp_read (placed_of value.now) (placed_of text.now) (pattern_part pattern.now) (seconds_in pattern.now value.now.text)) }
 {
     match read_stamp(pattern, value.text.as_str()) {
         Some(stamp) => Ok(said_by_two(alloc, Value::Stamp(stamp), &value.text, &text.text)?),

@@ -7,7 +7,7 @@ use Rattle.lp_model.proofs.Pieces.{length_grown, take_grown}
 use Rattle.command_words.specs.declared.spec.Spec.{Spec}
 use Rattle.command_words.specs.Words.{query_in}
 use Rattle.requests.specs.Texts.{IsCut, IsTextOf, HoldsText, file_in}
-use Rattle.requests.specs.Requests.{Asks, IsRefused}
+use Rattle.requests.specs.Requests.{Asks, IsRequestFault}
 use Rattle.requests.specs.declared.fault.RequestFault.{RequestFault}
 use Rattle.requests.specs.declared.fault.RequestFault.TheVariants as F
 
@@ -46,7 +46,7 @@ asks_grown before now later words spec q grow a = record {
 }
 
 -- why words are refused, they are refused later
-pub refused_grown : (before now later : Option Folder) (words : List (List ℕ)) (fault : RequestFault) → OnlyGrow now later → IsRefused before now words fault → IsRefused before later words fault
+pub refused_grown : (before now later : Option Folder) (words : List (List ℕ)) (fault : RequestFault) → OnlyGrow now later → IsRequestFault before now words fault → IsRequestFault before later words fault
 refused_grown before now later words (F.Usage fault) grow h = h
 refused_grown before now later words (F.BadName fault) grow h = h
 refused_grown before now later words (F.NoSuchLog name) grow h = (h.0, h.1, gone_grown now later name grow h.2)

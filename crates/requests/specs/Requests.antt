@@ -6,7 +6,7 @@ use Rattle.lp_outside.specs.NameFault.{name_fault}
 use Rattle.command_words.specs.declared.spec.Spec.{Spec}
 use Rattle.command_words.specs.Table.{IsAsked}
 use Rattle.command_words.specs.Usage.{AreFine}
-use Rattle.command_words.specs.Usage.{IsRefused as AreRefused}
+use Rattle.command_words.specs.Usage.{IsUsageFault as AreRefused}
 use Rattle.command_words.specs.Words.{query_in}
 use Rattle.query_text.specs.Texts.{IsQuery, IsOnlyQuery, IsQueryFault}
 use Rattle.requests.specs.Texts.{file_in, HoldsText}
@@ -44,10 +44,10 @@ pub record HoldsFault (before now : Option Folder) (words : List (List ℕ)) (Is
   pub fault : IsFault text
 
 -- why the words are refused
-abbrev pub IsRefused : Option Folder → Option Folder → List (List ℕ) → RequestFault → Type 0
-IsRefused before now words (F.Usage fault) = AreRefused words fault
-IsRefused before now words (F.BadName fault) = (name : List ℕ) × NamesFile words name × (name_fault name ≡ Some fault)
-IsRefused before now words (F.NoSuchLog name) = NamesFile words name × (name_fault name ≡ None) × Told now (λ folder. folder name ≡ None)
-IsRefused before now words (F.Query fault) = HoldsFault before now words (λ text. IsQueryFault text fault)
-IsRefused before now words F.Logs = ⊤
-IsRefused before now words F.Memory = ⊤
+abbrev pub IsRequestFault : Option Folder → Option Folder → List (List ℕ) → RequestFault → Type 0
+IsRequestFault before now words (F.Usage fault) = AreRefused words fault
+IsRequestFault before now words (F.BadName fault) = (name : List ℕ) × NamesFile words name × (name_fault name ≡ Some fault)
+IsRequestFault before now words (F.NoSuchLog name) = NamesFile words name × (name_fault name ≡ None) × Told now (λ folder. folder name ≡ None)
+IsRequestFault before now words (F.Query fault) = HoldsFault before now words (λ text. IsQueryFault text fault)
+IsRequestFault before now words F.Logs = ⊤
+IsRequestFault before now words F.Memory = ⊤

@@ -9,7 +9,7 @@ ghost use Rattle.query_tree.specs.Views.{query_of};
 ghost use Rattle.requests.specs.Given.{ReadsOnce, query_files};
 ghost use Rattle.requests.specs.Texts.{HoldsQuery};
 ghost use Rattle.requests.specs.Files.{IsTextFault};
-ghost use Rattle.requests.specs.Requests.{IsWordsFault, Asks, IsRefused};
+ghost use Rattle.requests.specs.Requests.{IsWordsFault, Asks, IsRequestFault};
 ghost use Rattle.requests.specs.declared.fault.RequestFault.TheVariants as F;
 
 use crate::RequestFault;
@@ -100,7 +100,7 @@ pub fn read_request<L: Logs>(
     ensures in_range { IfOk result (λ request. IsInRange request.spec) }
     ensures asks { IfOk result (λ request. Asks (L.folder logs.old) (L.folder logs.new) words.now request.spec (query_of request.query)) }
     ensures text { IfOk result (λ request. HoldsQuery (L.folder logs.old) (L.folder logs.new) (query_in words.now) request.text (query_of request.query)) }
-    ensures refused { IfErr result (IsRefused (L.folder logs.old) (L.folder logs.new) words.now) }
+    ensures refused { IfErr result (IsRequestFault (L.folder logs.old) (L.folder logs.new) words.now) }
     ensures given { ReadsOnce (L.folder logs.new) (query_files (query_in words.now)) (L.given logs.old) (L.given logs.new) }
     ensures later { L.faults logs.old ≤ L.faults logs.new }
     ensures failed { IsErrOf result F.Logs → Rose (L.faults logs.old) (L.faults logs.new) }

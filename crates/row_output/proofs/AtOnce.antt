@@ -4,7 +4,7 @@ use Rattle.any_format.specs.Formats.{text_of, is_at_once, format_whole}
 use Rattle.order_top.specs.Finish.{Row, Finish}
 use Rattle.text_output.specs.Output.{StageKind, GainsText, reached}
 use Rattle.text_output.specs.declared.target.Target.{Target}
-use Rattle.row_output.specs.Asked.{text_in}
+use Rattle.row_output.specs.Asked.{asked_text}
 use Rattle.row_output.specs.Kept.{HasKept, HasPut, HasRows, asked_of}
 use Rattle.row_output.specs.Orders.{IsPlain}
 use Rattle.row_output.specs.Rows.{GainsNearly, standard_at, standard_to}
@@ -46,6 +46,6 @@ kept_nearly kind K.All order s start rows now none plain once little (all, has) 
 kept_nearly kind (K.Ordered ordering) order s start rows now none plain once little (asks, same, stands, has) = absurd (asks plain)
 
 pub rows_nearly : {S : Type 0} (kind : StageKind S) (o : RowOutput) (start : S) (rows : List Row) (now : S) → (asked_of o).files ≡ None → IsPlain (asked_of o).order → IsTrue (asked_of o).text.at_once → HoldsNoPiece o.sink → HasRows kind o start rows now
-    → GainsNearly kind start (text_in (asked_of o) true rows) now
+    → GainsNearly kind start (asked_text (asked_of o) true rows) now
 unfolding HasRows
 rows_nearly kind o start rows now none plain once little has = kept_nearly kind o.kept o.order o.sink start rows now none plain once little has.has

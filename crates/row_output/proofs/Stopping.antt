@@ -10,7 +10,7 @@ use Rattle.text_output.specs.Output.{StageKind, OutputAt, IsUnderWay, reached}
 use Rattle.text_output.specs.declared.target.Target.{Target}
 use Rattle.text_output.specs.Fronts.{front_of}
 use Rattle.text_output.specs.Gaining.{gains_nothing}
-use Rattle.row_output.specs.Asked.{Asked, text_in, left_of}
+use Rattle.row_output.specs.Asked.{Asked, asked_text, left_of}
 use Rattle.row_output.proofs.States.{files_stop, new_files_has}
 use Rattle.row_output.proofs.Plain.{all_left}
 use Rattle.row_output.specs.Rows.{StopsAt, Stops, standard_at}

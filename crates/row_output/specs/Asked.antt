@@ -36,8 +36,8 @@ left_of asked rows = finished asked.order rows
 abbrev pub OutputText : Type 0
 OutputText = Bool → List Row → List ℕ
 
-abbrev pub text_in : Asked → OutputText
-text_in asked fresh rows = asked.text.of fresh asked.columns rows
+abbrev pub asked_text : Asked → OutputText
+asked_text asked fresh rows = asked.text.of fresh asked.columns rows
 
 -- a new name, behind those before it, is refused by this fault, the first of three
 abbrev pub IsRefusedAs : List (List ℕ) → List (List ℕ) → List ℕ → Refused → Type 0

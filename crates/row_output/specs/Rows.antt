@@ -6,7 +6,7 @@ use Rattle.lp_outside.specs.Gained.{standard_output}
 use Rattle.order_top.specs.Finish.{Row}
 use Rattle.text_output.specs.Output.{StageKind, OutputAt, GainsText, GainsFront, placed_at}
 use Rattle.text_output.specs.declared.target.Output.{Output}
-use Rattle.row_output.specs.Asked.{Files, Asked, OutputText, IsRefusedBy, left_of, text_in}
+use Rattle.row_output.specs.Asked.{Files, Asked, OutputText, IsRefusedBy, left_of, asked_text}
 use Rattle.row_output.specs.Files.{FilesHold, FilesStop}
 use Rattle.row_output.specs.Orders.{IsPlain}
 use Rattle.row_output.specs.declared.fault.Refused.{Refused}
@@ -47,11 +47,11 @@ IsRefusedAt (Some files) rows fault = IsRefusedBy files rows fault
 
 -- what is left of the rows of a query was written whole
 unfoldable pub Holds : {S : Type 0} → StageKind S → Asked → S → List Row → List Output → S → Type 0
-Holds kind asked start rows outputs now = HoldsAt asked.files kind (text_in asked) start (left_of asked rows) outputs now
+Holds kind asked start rows outputs now = HoldsAt asked.files kind (asked_text asked) start (left_of asked rows) outputs now
 
 -- it was to be written
 unfoldable pub Stops : {S : Type 0} → StageKind S → Asked → S → List Row → S → Type 0
-Stops kind asked start rows now = StopsAt asked.files kind (text_in asked) start (left_of asked rows) now
+Stops kind asked start rows now = StopsAt asked.files kind (asked_text asked) start (left_of asked rows) now
 
 -- an output of what is left is refused by this fault
 unfoldable pub IsRefused : Asked → List Row → Refused → Type 0

@@ -6,7 +6,7 @@ use Rattle.lp_values.specs.declared.value.Value.{Value}
 use Rattle.query_types.specs.Terms.{Term}
 use Rattle.query_types.specs.Conditions.{Filter}
 use Rattle.row_engine.specs.Rows.{keeps, selected_in, value_in}
-use Rattle.slot_reading.specs.declared.reading.Reading.{Reading}
+use Rattle.slot_reading.specs.declared.reading.SlotReading.{SlotReading}
 use Rattle.plan_rows.specs.Picks.{if_kept, plan_picks, table_row}
 use Rattle.row_steps.specs.Grouped.{HasWidth}
 
@@ -20,5 +20,5 @@ kept_width true row items out e = ap length (sym (ap row_held e)) ∙ length-map
 kept_width false row items out e = absurd cc
 
 -- a plan's rows have a value for each item
-pub plan_width : (readings : List Reading) (items : List Term) (condition : Option Filter) → HasWidth (plan_picks readings items condition) (length items)
+pub plan_width : (readings : List SlotReading) (items : List Term) (condition : Option Filter) → HasWidth (plan_picks readings items condition) (length items)
 plan_width readings items condition = λ found row e. kept_width (keeps condition (table_row readings found)) (table_row readings found) items row e

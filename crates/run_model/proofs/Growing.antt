@@ -13,7 +13,7 @@ use Rattle.run_model.specs.Logs.{Written}
 use Rattle.lp_model.specs.Complete.{IsAmong}
 use Rattle.run_model.specs.Kept.{spans_of}
 use Rattle.run_model.specs.Meanings.{Meaning, asked_of, Part}
-use Rattle.run_model.specs.Right.{GoesOn, part_of, parts_of, bad_of, rows_in, IsNext, FollowFrom, IsSettled}
+use Rattle.run_model.specs.Right.{GoesOn, span_part, parts_of, bad_of, rows_in, IsNext, FollowFrom, IsSettled}
 
 -- the logs of these spans keep what was written to them
 abbrev pub Keeps : Written → Written → List Span → Type 0
@@ -32,7 +32,7 @@ module _ (format : Format) (old new : Written) (before : List Entry) where
         standing_is = g.standing_is ∙ ap (λ (s : Standing). (standing_layout span.to).spell s) (sym (standing_at-stays format g.bytes more.0 true span.to g.ends));
       }
 
-  part_kept : (span : Span) → GoesOn format old before span → ((bytes : List ℕ) → old span.identity ≡ Some bytes → (more : List ℕ) × (new span.identity ≡ Some (bytes ++ more))) → part_of format new span ≡ part_of format old span
+  part_kept : (span : Span) → GoesOn format old before span → ((bytes : List ℕ) → old span.identity ≡ Some bytes → (more : List ℕ) × (new span.identity ≡ Some (bytes ++ more))) → span_part format new span ≡ span_part format old span
   part_kept span g keeps =
       let more = keeps g.bytes g.is in
       let was : bytes_in old span.identity ≡ g.bytes = rw g.is refl in

@@ -28,13 +28,13 @@ pub record GoesOn (format : Format) (written : Written) (before : List Entry) (s
   pub standing_is : span.standing ≡ (standing_layout span.to).spell (standing_at format bytes true span.to)
 
 -- what a span takes of its log, and its bad lines
-abbrev pub part_of : Format → Written → Span → Part
-part_of format written span =
+abbrev pub span_part : Format → Written → Span → Part
+span_part format written span =
     let bytes = bytes_in written span.identity in
     record { identity = span.identity; records = records_of format bytes true span.from span.to; columns = (standing_at format bytes true span.to).columns }
 
 abbrev pub parts_of : Format → Written → List Span → List Part
-parts_of format written spans = map (part_of format written) spans
+parts_of format written spans = map (span_part format written) spans
 
 abbrev pub bad_of : Format → Written → Span → ℕ
 bad_of format written span = length (bad_lines_of format (bytes_in written span.identity) true span.from span.to)

@@ -32,7 +32,7 @@ use Rattle.column_kinds.specs.declared.maker.Stop.{Stop}
 use Rattle.column_kinds.specs.declared.maker.Stop.TheVariants as Why
 use Rattle.column_kinds.specs.Past.{Past}
 use Rattle.column_kinds.specs.Sampling.{Begun, StopsAs, TakesOn, rows_of, told_by}
-use Rattle.column_kinds.specs.Sampling.{Rules as SampleRules, IsFront as SampleFront, IsRefused as SampleRefused, IsStop as SampleStop}
+use Rattle.column_kinds.specs.Sampling.{Rules as SampleRules, IsFront as SampleFront, IsUnmade as SampleRefused, IsStop as SampleStop}
 use Rattle.sampled_table.specs.Picks.{sampled_picks}
 use Rattle.sampled_run.specs.Ran.{ended_by, refused_in}
 use Rattle.sampled_run.proofs.Puts.{false_or_true, rows_again}
@@ -41,7 +41,7 @@ use Rattle.sampled_groups.specs.declared.group_taker.GroupTaker.{GroupTaker}
 use Rattle.sampled_groups.specs.Kinds.{Fits, group_kind, run_rules}
 use Rattle.sampled_groups.specs.InTurn.{ArePlaced}
 use Rattle.sampled_groups.specs.Made.{IsMade, asked_in, plan_over}
-use Rattle.sampled_groups.specs.Ran.{IsFront, IsRefused, IsStoppedBy, IsUnplaced, IsUnplacedFirst, IsWithin, IsWritten, fault_of}
+use Rattle.sampled_groups.specs.Ran.{IsFront, IsUntypedGroups, IsStoppedBy, IsUnplaced, IsUnplacedFirst, IsWithin, IsWritten, fault_of}
 use Rattle.sampled_groups.specs.Rules.{plan_at, rows_with}
 use Rattle.sampled_groups.specs.Taking.{HasNone, OnAny}
 
@@ -173,7 +173,7 @@ module _ {S : Type 0} (kind : StageKind S) where
   front_is rules begin past v (inl nothing) = inl nothing
   front_is rules begin past v (inr within) = inr (stops_is rules begin past within.last v within.stops)
 
-  pub refused_is : (rules : SampleRules (GroupMaker S)) (begin : S) (past : Past) (fault : TypeFault) (v : S) → SampleRefused (group_kind kind) rules begin past fault v → IsRefused (run_rules rules) begin past fault v
+  pub refused_is : (rules : SampleRules (GroupMaker S)) (begin : S) (past : Past) (fault : TypeFault) (v : S) → SampleRefused (group_kind kind) rules begin past fault v → IsUntypedGroups (run_rules rules) begin past fault v
   refused_is rules begin past fault v refused = record { fault = refused.refused; nothing = refused.nothing }
 
   pub stop_is : (rules : SampleRules (GroupMaker S)) (begin : S) (past : Past) (stop : Stop GroupTaker) (v : S) → SampleStop (group_kind kind) rules begin past stop v → IsStoppedBy kind (run_rules rules) begin past (fault_of stop) v

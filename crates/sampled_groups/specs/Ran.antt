@@ -26,7 +26,7 @@ use Rattle.sampled_groups.specs.declared.group_taker.GroupTaker.{GroupTaker}
 use Rattle.sampled_groups.specs.Rules.{GroupRules, plan_at, rows_at}
 
 -- the query has no plan by groups, by this fault, and nothing is written
-pub record IsRefused {S : Type 0} (rules : GroupRules) (start : S) (past : Past) (why : TypeFault) (now : S) : Type 0 where
+pub record IsUntypedGroups {S : Type 0} (rules : GroupRules) (start : S) (past : Past) (why : TypeFault) (now : S) : Type 0 where
   pub fault : plan_at rules past ≡ Err why
   pub nothing : now ≡ start
 
@@ -68,7 +68,7 @@ pub record IsSampled {S : Type 0} (kind : StageKind S) (rules : GroupRules) (sta
 
 -- the query has no plan, an output is refused, or the rows were to be written
 abbrev pub IsStoppedBy : {S : Type 0} → StageKind S → GroupRules → S → Past → SampleFault → S → Type 0
-IsStoppedBy kind rules start past (F.Plan fault) now = IsRefused rules start past fault now
+IsStoppedBy kind rules start past (F.Plan fault) now = IsUntypedGroups rules start past fault now
 IsStoppedBy kind rules start past (F.Refused why) now = IsUnplaced kind rules start past why now
 IsStoppedBy kind rules start past (F.Bad log row) now = IsFront kind rules start past now
 IsStoppedBy kind rules start past F.Logs now = IsFront kind rules start past now

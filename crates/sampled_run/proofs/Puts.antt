@@ -28,13 +28,13 @@ use Rattle.column_kinds.specs.declared.maker.Stop.{Stop}
 use Rattle.column_kinds.specs.declared.maker.Stop.TheVariants as Why
 use Rattle.column_kinds.specs.Past.{Past}
 use Rattle.column_kinds.specs.Sampling.{Begun, StopsAs, TakesOn, rows_of, told_by}
-use Rattle.column_kinds.specs.Sampling.{Rules as SampleRules, IsFront as SampleFront, IsRefused as SampleRefused, IsStop as SampleStop, IsWithin as SampleWithin}
+use Rattle.column_kinds.specs.Sampling.{Rules as SampleRules, IsFront as SampleFront, IsUnmade as SampleRefused, IsStop as SampleStop, IsWithin as SampleWithin}
 use Rattle.sampled_table.specs.declared.picking.SampledPicker.{SampledPicker}
 use Rattle.sampled_run.specs.declared.row_maker.RowMaker.{RowMaker}
 use Rattle.sampled_run.specs.Kinds.{Fits, picks_of, run_rules, writer_kind}
 use Rattle.sampled_run.specs.InTurn.{ArePlaced, IsUnplacedAt}
 use Rattle.sampled_run.specs.Made.{IsMade, asked_in, plan_over}
-use Rattle.sampled_run.specs.Ran.{IsFront, IsRefused, IsStoppedBy, IsUnplaced, IsWithin, IsWritten, ended_by, fault_of, refused_in}
+use Rattle.sampled_run.specs.Ran.{IsFront, IsUntyped, IsStoppedBy, IsUnplaced, IsWithin, IsWritten, ended_by, fault_of, refused_in}
 use Rattle.sampled_run.specs.Rules.{plan_at, rows_with}
 
 abbrev Rows : Type 0
@@ -180,7 +180,7 @@ module _ {S : Type 0} (kind : StageKind S) where
   front_is rules begin past v fits (inl nothing) = inl nothing
   front_is rules begin past v fits (inr within) = inr (stops_is rules begin past within.last v fits within.stops)
 
-  pub refused_is : (rules : SampleRules (RowMaker S)) (begin : S) (past : Past) (fault : TypeFault) (v : S) → SampleRefused (writer_kind kind) rules begin past fault v → IsRefused (run_rules rules) begin past fault v
+  pub refused_is : (rules : SampleRules (RowMaker S)) (begin : S) (past : Past) (fault : TypeFault) (v : S) → SampleRefused (writer_kind kind) rules begin past fault v → IsUntyped (run_rules rules) begin past fault v
   refused_is rules begin past fault v refused = record { fault = refused.refused; nothing = refused.nothing }
 
   -- the writer stopped: for what it refused, or for want of memory

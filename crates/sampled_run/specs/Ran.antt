@@ -28,7 +28,7 @@ use Rattle.sampled_run.specs.declared.fault.SampleFault.TheVariants as F
 use Rattle.sampled_run.specs.Rules.{Rules, plan_at, rows_at}
 
 -- the query has no plan, by this fault, and nothing is written
-pub record IsRefused {S : Type 0} (rules : Rules) (start : S) (past : Past) (why : TypeFault) (now : S) : Type 0 where
+pub record IsUntyped {S : Type 0} (rules : Rules) (start : S) (past : Past) (why : TypeFault) (now : S) : Type 0 where
   pub fault : plan_at rules past ≡ Err why
   pub nothing : now ≡ start
 
@@ -64,7 +64,7 @@ pub record IsSampled {S : Type 0} (kind : StageKind S) (rules : Rules) (start : 
 
 -- the query has no plan, an output is refused, or the rows were to be written
 abbrev pub IsStoppedBy : {S : Type 0} → StageKind S → Rules → S → Past → SampleFault → S → Type 0
-IsStoppedBy kind rules start past (F.Plan fault) now = IsRefused rules start past fault now
+IsStoppedBy kind rules start past (F.Plan fault) now = IsUntyped rules start past fault now
 IsStoppedBy kind rules start past (F.Refused why) now = IsUnplaced kind rules start past why now
 IsStoppedBy kind rules start past (F.Bad log row) now = IsFront kind rules start past now
 IsStoppedBy kind rules start past F.Logs now = IsFront kind rules start past now

@@ -13,7 +13,7 @@ use Rattle.std.specs.Str.Parse.{digits_value, without_leading_sign, starts_with_
 use Rattle.lp_values.proofs.ReadingLemmas.{model, integer_read}
 use Rattle.lp_values.specs.Readings.{is_digits, integer_in}
 use Rattle.lp_values.specs.declared.value.Value.TheVariants as V
-use Rattle.slot_reading.specs.declared.reading.Reading.TheVariants.{Integer}
+use Rattle.slot_reading.specs.declared.reading.SlotReading.TheVariants.{Integer}
 use Rattle.slot_reading.specs.Slots.{value_in, or_null}
 
 -- the digits so far

@@ -3,13 +3,13 @@ use Rattle.std.proofs.Common.{◌≡◌, ℕ, Bool, List, Some, None, refl, ap, 
 use Rattle.std.proofs.lemmas.Bool.{cases_Bool}
 use Rattle.std.proofs.lemmas.Str.{is_utf8-from_IsUtf8, IsUtf8-from_is_utf8}
 use Rattle.std.specs.Str.{IsUtf8, is_utf8}
-use Rattle.slot_reading.specs.Slots.{text_in}
+use Rattle.slot_reading.specs.Slots.{utf8_text}
 
-pub text_in-utf8 : (bytes text : List ℕ) → text ≡ bytes → IsUtf8 bytes → Some text ≡ text_in bytes
-text_in-utf8 bytes text same utf8 = let told = is_utf8-from_IsUtf8 bytes utf8 in rw told (ap Some same)
+pub utf8_text-utf8 : (bytes text : List ℕ) → text ≡ bytes → IsUtf8 bytes → Some text ≡ utf8_text bytes
+utf8_text-utf8 bytes text same utf8 = let told = is_utf8-from_IsUtf8 bytes utf8 in rw told (ap Some same)
 
-pub text_in-other : (bytes : List ℕ) → ¬ (IsUtf8 bytes) → None ≡ text_in bytes
-text_in-other bytes other =
+pub utf8_text-other : (bytes : List ℕ) → ¬ (IsUtf8 bytes) → None ≡ utf8_text bytes
+utf8_text-other bytes other =
     elim (cases_Bool (is_utf8 bytes)) [
       | inl e ↦ absurd (other (IsUtf8-from_is_utf8 bytes e))
       | inr e ↦ rw e refl

@@ -9,5 +9,5 @@ mod reading;
 mod slots;
 
 pub use names::is_same_name;
-pub use reading::Reading;
+pub use reading::SlotReading;
 pub use slots::{integer_value, read_slot, real_value, stamp_value};

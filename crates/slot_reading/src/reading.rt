@@ -6,7 +6,7 @@ use lp_values::Kind;
 
 /// How the fields of a column are read.
 #[derive(Drop)]
-pub enum Reading {
+pub enum SlotReading {
     /// As whole numbers.
     Integer,
     /// As numbers with decimals.
@@ -19,7 +19,7 @@ pub enum Reading {
     Clf,
 }
 
-impl Reading {
+impl SlotReading {
     ghost use Rattle.slot_reading.specs.Slots.{kind_of};
 
     /// The kind of the column.
@@ -27,10 +27,10 @@ impl Reading {
         ensures { result ≡ kind_of self.now }
     {
         match self {
-            Reading::Integer => Kind::Integer,
-            Reading::Real => Kind::Real,
-            Reading::Text => Kind::Text,
-            Reading::By(_) | Reading::Clf => Kind::Stamp,
+            SlotReading::Integer => Kind::Integer,
+            SlotReading::Real => Kind::Real,
+            SlotReading::Text => Kind::Text,
+            SlotReading::By(_) | SlotReading::Clf => Kind::Stamp,
         }
     }
 }

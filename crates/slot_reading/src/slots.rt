@@ -1,20 +1,20 @@
 // The value that a field is.
 ghost use Rattle.std.specs.Prelude.{◌≡◌, ◌<◌, ◌^◌, pos, IfOk, IfSome, MatchOption, option_map, option_and_then};
 ghost use Rattle.std.specs.Str.{is_utf8};
-ghost use Rattle.slot_reading.specs.Slots.{text_in, value_in, value_of, or_null};
+ghost use Rattle.slot_reading.specs.Slots.{utf8_text, value_in, value_of, or_null};
 ghost use Rattle.slot_reading.specs.Stamps.{stamp_value};
 ghost use Rattle.lp_values.specs.Readings.{integer_in, real_in};
 ghost use Rattle.lp_values.specs.declared.value.Value.TheVariants.{Int};
-ghost use Rattle.lp_time.specs.Readings.{seconds_in, part_of};
+ghost use Rattle.lp_time.specs.Readings.{seconds_in, pattern_part};
 ghost use Rattle.lp_time.specs.CommonLog.{clf_seconds};
 
-use crate::Reading;
+use crate::SlotReading;
 use lp_time::{Pattern, clf_stamp, read_stamp};
 use lp_values::{Text, Value, read_integer, read_real};
 use std::alloc::{AllocError, Global};
 
-fn text_in(bytes: &[u8]) -> Option<&str>
-    ensures { option_map (λ s. s.now) result ≡ text_in bytes.now }
+fn utf8_text(bytes: &[u8]) -> Option<&str>
+    ensures { option_map (λ s. s.now) result ≡ utf8_text bytes.now }
 {
     match str::from_utf8(bytes) {
         Ok(text) => Some(text),
@@ -34,7 +34,7 @@ fn as_integer(number: u64) -> i64
 
 // The number that bytes are which are digits alone, as most are: these need no look at the text as a whole.
 fn digits_number(bytes: &[u8]) -> Option<i64>
-    ensures { IfSome result (λ number. Int number ≡ value_in Reading.Integer bytes.now) }
+    ensures { IfSome result (λ number. Int number ≡ value_in SlotReading.Integer bytes.now) }
 {
     let mut number = 0u64;
     for byte in bytes {
@@ -56,12 +56,12 @@ fn digits_number(bytes: &[u8]) -> Option<i64>
 
 /// The whole number that a field's bytes are, or NULL.
 pub fn integer_value(bytes: &[u8]) -> Value
-    ensures { result ≡ value_in Reading.Integer bytes.now }
+    ensures { result ≡ value_in SlotReading.Integer bytes.now }
 {
     if let Some(number) = digits_number(bytes) {
         return Value::Int(number);
     }
-    match text_in(bytes) {
+    match utf8_text(bytes) {
         Some(text) => match read_integer(text) {
             Some(number) => Value::Int(number),
             None => Value::Null,
@@ -72,9 +72,9 @@ pub fn integer_value(bytes: &[u8]) -> Value
 
 /// The number that a field's bytes are, or NULL.
 pub fn real_value(bytes: &[u8]) -> Value
-    ensures { result ≡ value_in Reading.Real bytes.now }
+    ensures { result ≡ value_in SlotReading.Real bytes.now }
 {
-    match text_in(bytes) {
+    match utf8_text(bytes) {
         Some(text) => match read_real(text) {
             Some(number) => Value::Real(number),
             None => Value::Null,
@@ -85,9 +85,9 @@ pub fn real_value(bytes: &[u8]) -> Value
 
 /// The date or time that a field's bytes are by a pattern, or NULL.
 pub fn stamp_value(pattern: &Pattern, bytes: &[u8]) -> Value
-    ensures { result ≡ value_in (Reading.By pattern.now) bytes.now }
+    ensures { result ≡ value_in (SlotReading.By pattern.now) bytes.now }
 {
-    match text_in(bytes) {
+    match utf8_text(bytes) {
         Some(text) => match read_stamp(pattern, text) {
             Some(stamp) => Value::Stamp(stamp),
             None => Value::Null,
@@ -97,7 +97,7 @@ pub fn stamp_value(pattern: &Pattern, bytes: &[u8]) -> Value
 }
 
 fn clf_value(bytes: &[u8]) -> Value
-    ensures { result ≡ value_in Reading.Clf bytes.now }
+    ensures { result ≡ value_in SlotReading.Clf bytes.now }
 {
     match clf_stamp(bytes) {
         Some(stamp) => Value::Stamp(stamp),
@@ -109,7 +109,7 @@ fn clf_value(bytes: &[u8]) -> Value
 /// numbers and no times; in a text they are repaired.
 pub fn read_slot(
     alloc: Global,
-    reading: &Reading,
+    reading: &SlotReading,
     bytes: Option<&[u8]>,
 ) -> Result<Value, AllocError>
     ensures { IfOk result (λ value. value ≡ value_of reading.now (option_map (λ s. s.now) bytes.entry)) }
@@ -118,10 +118,10 @@ pub fn read_slot(
         return Ok(Value::Null);
     };
     match reading {
-        Reading::Integer => Ok(integer_value(bytes)),
-        Reading::Real => Ok(real_value(bytes)),
-        Reading::Text => Ok(Value::Text(Text::read(alloc, bytes)?)),
-        Reading::By(pattern) => Ok(stamp_value(pattern, bytes)),
-        Reading::Clf => Ok(clf_value(bytes)),
+        SlotReading::Integer => Ok(integer_value(bytes)),
+        SlotReading::Real => Ok(real_value(bytes)),
+        SlotReading::Text => Ok(Value::Text(Text::read(alloc, bytes)?)),
+        SlotReading::By(pattern) => Ok(stamp_value(pattern, bytes)),
+        SlotReading::Clf => Ok(clf_value(bytes)),
     }
 }

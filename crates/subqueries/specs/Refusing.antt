@@ -17,7 +17,7 @@ use Rattle.log_listing.specs.declared.fault.ListFault.{ListFault}
 use Rattle.log_listing.specs.declared.fault.ListFault.TheVariants as L
 use Rattle.log_listing.specs.declared.lengths.NameLength.{NameLength}
 use Rattle.log_listing.specs.Lengths.{names_in as listed_names}
-use Rattle.log_listing.specs.Listed.{IsRefused}
+use Rattle.log_listing.specs.Listed.{IsListFault}
 use Rattle.log_reading.specs.Page.{IsTooMany}
 use Rattle.log_reading.specs.Spans.{BadLine, bad_line, spans_bad_lines}
 use Rattle.query_types.specs.Planned.{Planned}
@@ -55,9 +55,9 @@ pub record IsExceeded (format : LogFormat) (spec : Spec) (moment : ℤ) (before 
 
 -- why a subquery is refused, of whose logs so many bad lines more are one too many behind so many
 abbrev pub IsRefusedWith : LogFormat → Spec → ℤ → Option Folder → Option Folder → Query → Option ℕ → ℕ → SubqueryFault → Type 0
-IsRefusedWith format spec moment before now q most bad (F.BadName fault) = IsRefused now (from_names q) (L.BadName fault)
-IsRefusedWith format spec moment before now q most bad (F.NoSuchLog name) = IsRefused now (from_names q) (L.NoSuchLog name)
-IsRefusedWith format spec moment before now q most bad F.TooManyLogs = IsRefused now (from_names q) L.TooManyLogs
+IsRefusedWith format spec moment before now q most bad (F.BadName fault) = IsListFault now (from_names q) (L.BadName fault)
+IsRefusedWith format spec moment before now q most bad (F.NoSuchLog name) = IsListFault now (from_names q) (L.NoSuchLog name)
+IsRefusedWith format spec moment before now q most bad F.TooManyLogs = IsListFault now (from_names q) L.TooManyLogs
 IsRefusedWith format spec moment before now q most bad (F.Clash name) = IsClash spec before now q name
 IsRefusedWith format spec moment before now q most bad (F.Plan fault) = IsUnplanned format spec moment before now q fault
 IsRefusedWith format spec moment before now q most bad (F.Bad log row) = IsExceeded format spec moment before now q most bad (bad_line log row)

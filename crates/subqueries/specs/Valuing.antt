@@ -3,7 +3,7 @@ use Rattle.std.specs.Prelude.{◌≡◌, ℤ, Bool, List, length, Option, Ok, �
 use Rattle.grammar.specs.Trees.{Query}
 use Rattle.lp_model.specs.Outside.{Folder, Told}
 use Rattle.lp_time.specs.declared.piece.Piece.{Piece}
-use Rattle.delimited_input.specs.Separators.{IsRefused}
+use Rattle.delimited_input.specs.Separators.{IsNoSeparator}
 use Rattle.execution.specs.declared.formats.LogFormat.{LogFormat}
 use Rattle.execution.specs.declared.formats.LogFormat.TheVariants as F
 use Rattle.execution.specs.Executed.{rows_in}
@@ -28,7 +28,7 @@ use Rattle.query_types.specs.declared.table.TableColumns.{TableColumns}
 -- a byte may part the fields of the format
 abbrev pub HasSeparator : LogFormat → Type 0
 HasSeparator (F.Tabled format) = ⊤
-HasSeparator (F.Sampled options limit) = ¬ IsRefused options.separator
+HasSeparator (F.Sampled options limit) = ¬ IsNoSeparator options.separator
 
 -- the values of a plan's rows of all records, what is kept of them, and the bad lines
 pub record HasValues (format : LogFormat) (waits : Bool) (keep : Keep) (pattern : List Piece) (plan : Planned) (list : SampledValues) (spans : List Span) (folder : Folder) : Type 0 where

@@ -2,7 +2,7 @@
 ghost use Rattle.std.specs.Prelude.{◌≡◌, ◌≤◌, length, map, IfOk, IfErr, IsErrOf};
 ghost use Rattle.lp_model.specs.Outside.{OnlyGrow, Rose, Told, bytes_in};
 ghost use Rattle.query_tree.specs.Views.{placed_all, query_of};
-ghost use Rattle.log_listing.specs.Listed.{IsRefused};
+ghost use Rattle.log_listing.specs.Listed.{IsListFault};
 ghost use Rattle.log_reading.specs.Spans.{AllSpans, IsSpan};
 ghost use Rattle.subqueries.specs.Listing.{AreWhole, from_names};
 
@@ -32,7 +32,7 @@ pub fn list_spans<L: Logs>(alloc: Global, logs: &mut L, query: &Query) -> Result
     ensures few { IfOk result (λ spans. length spans ≤ 100000) }
     ensures spans { IfOk result (λ spans. AllSpans spans IsSpan) }
     ensures there { IfOk result (λ spans. Told (L.folder logs.new) (λ folder. AllSpans spans (λ span. span.listed ≤ length (bytes_in folder span.name)))) }
-    ensures refused { IfErr result (λ fault. IsRefused (L.folder logs.new) (from_names (query_of query.now)) fault) }
+    ensures refused { IfErr result (λ fault. IsListFault (L.folder logs.new) (from_names (query_of query.now)) fault) }
     ensures failed { IsErrOf result ListFault.Logs → Rose (L.faults logs.old) (L.faults logs.new) }
     ensures given { L.given logs.new ≡ L.given logs.old }
 {

@@ -5,15 +5,15 @@ use Rattle.text_formats.specs.declared.line.Cell.{Cell}
 use Rattle.text_formats.specs.Tables.{Cells, scalars}
 
 -- the text of a cell
-abbrev pub text_in : List ℕ → Cell → List ℕ
-text_in texts cell = take cell.size (drop cell.start texts)
+abbrev pub cell_text : List ℕ → Cell → List ℕ
+cell_text texts cell = take cell.size (drop cell.start texts)
 
 abbrev pub texts_in : List ℕ → List Cell → Cells
-texts_in texts cells = map (text_in texts) cells
+texts_in texts cells = map (cell_text texts) cells
 
 -- a cell's text is there, and is as wide as it is noted
 abbrev pub IsNoted : List ℕ → Cell → Type 0
-IsNoted texts cell = (cell.start + cell.size ≤ length texts) × (cell.width ≡ scalars (text_in texts cell))
+IsNoted texts cell = (cell.start + cell.size ≤ length texts) × (cell.width ≡ scalars (cell_text texts cell))
 
 abbrev pub AreNoted : List ℕ → List Cell → Type 0
 AreNoted texts cells = AllByRecursion (IsNoted texts) cells

@@ -37,7 +37,7 @@ front_of text behind n size utf8 other e is =
     )
 
 -- a part of a text by positions
-pub part_of : (text rest part : List ℕ) (n m : ℕ) → IsUtf8 rest → rest ≡ encode_utf8_all (drop n (chars text)) → part ≡ encode_utf8_all (take m (chars rest)) → part ≡ encode_utf8_all (take m (drop n (chars text)))
-part_of text rest part n m utf8 e is =
+pub part_between : (text rest part : List ℕ) (n m : ℕ) → IsUtf8 rest → rest ≡ encode_utf8_all (drop n (chars text)) → part ≡ encode_utf8_all (take m (chars rest)) → part ≡ encode_utf8_all (take m (drop n (chars text)))
+part_between text rest part n m utf8 e is =
     let same : chars rest ≡ drop n (chars text) = encodes_same (chars rest) (drop n (chars text)) (encodes-chars rest utf8 ∙ e) in
     is ∙ ap (λ (cs : List ℕ). encode_utf8_all (take m cs)) same

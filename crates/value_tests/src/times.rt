@@ -1,7 +1,7 @@
 // Fields of a log by a pattern of time, worked out by hand.
 use lp_time::{Pattern, write_stamp};
 use lp_values::{Bytes, Value};
-use slot_reading::{Reading, read_slot};
+use slot_reading::{SlotReading, read_slot};
 use std::alloc::{AllocError, Global};
 use std::test::Fail;
 
@@ -10,7 +10,7 @@ fn told(alloc: Global, pattern: &str, field: &str, other: &str) -> Result<Bytes,
     let mut to = Bytes::new(alloc);
     match (Pattern::read(pattern), Pattern::read(other)) {
         (Ok(pattern), Ok(other)) => {
-            match read_slot(alloc, &Reading::By(pattern), Some(field.as_bytes()))? {
+            match read_slot(alloc, &SlotReading::By(pattern), Some(field.as_bytes()))? {
                 Value::Stamp(stamp) => write_stamp(&other, stamp, &mut to)?,
                 _ => to.push(b'~')?,
             }

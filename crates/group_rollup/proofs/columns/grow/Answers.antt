@@ -3,7 +3,7 @@ use Rattle.std.proofs.Math.ListN.{set}
 use Rattle.std.proofs.lemmas.List.{set-get_or, length-set}
 use Rattle.std.specs.Result.{OnErr}
 use Rattle.std.specs.declared.result.Result.{Result}
-use Rattle.group_rollup.specs.declared.column.Column.{Column}
+use Rattle.group_rollup.specs.declared.column.AggregateColumn.{AggregateColumn}
 use Rattle.group_rollup.specs.Columns.{cut, begun}
 use Rattle.group_rollup.proofs.ColumnLemmas.{cut_grown, grown_more, grown_at}
 use Rattle.group_rollup.proofs.columns.grow.Goals as goal
@@ -21,7 +21,7 @@ returns-in_err-begin-clause-err c =
     let i = c.loop-index.index in
     let d = c.index_mut.result.now in
     err_of c.from_residual.result (λ n all.
-    ap (λ (x : Column). map (cut n) (set xs i x)) (c.in_err-begin.ensures.err ∙ c.index_mut.ensures.value)
+    ap (λ (x : AggregateColumn). map (cut n) (set xs i x)) (c.in_err-begin.ensures.err ∙ c.index_mut.ensures.value)
     ∙ (ap (map (cut n)) (set-get_or xs i d) ∙ (ap (map (cut n)) c.loop-index.invariant.grown ∙ cut_grown n i c.args.columns.now.items all)))
 
 pub loop-index-preserved : goal.loop-index-preserved
@@ -34,7 +34,7 @@ loop-index-preserved c =
     record {
       same = length-set xs i c.begin.new.self ∙ c.loop-index.invariant.same;
       grown = ap (set xs i) (c.in_ok-begin.ensures.ok ∙ ap begun c.index_mut.ensures.value)
-          ∙ (ap (λ (zs : List Column). set zs i (begun (get_or zs i d))) c.loop-index.invariant.grown
-          ∙ (ap (λ (x : Column). set (map begun (take i old) ++ drop i old) i (begun x)) (grown_at i old d)
+          ∙ (ap (λ (zs : List AggregateColumn). set zs i (begun (get_or zs i d))) c.loop-index.invariant.grown
+          ∙ (ap (λ (x : AggregateColumn). set (map begun (take i old) ++ drop i old) i (begun x)) (grown_at i old d)
           ∙ (grown_more i old d low ∙ ap (λ (k : ℕ). map begun (take k old) ++ drop k old) (up i))));
     }

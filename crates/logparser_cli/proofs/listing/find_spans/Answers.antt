@@ -1,6 +1,6 @@
 use Rattle.std.proofs.Common.{◌≡◌, Err, sym, subst, List, ℕ, ap, ◌∙◌}
 use Rattle.query_tree.specs.Views.{query_of}
-use Rattle.log_listing.specs.Listed.{Lists, IsRefused}
+use Rattle.log_listing.specs.Listed.{Lists, IsListFault}
 use Rattle.log_listing.specs.Lengths.{names_in}
 use Rattle.lp_model.proofs.Growing.{OnlyGrow-refl}
 use Rattle.reports.specs.declared.status.Status.{Status}
@@ -34,7 +34,7 @@ pub returns-in-Err-clause-refused : goal.returns-in-Err-clause-refused
 returns-in-Err-clause-refused g c =
     let now = g.L.Logs.folder c.list_logs.new.logs in
     let q = query_of c.args.query.now in
-    let refused = subst (λ (texts : List (List ℕ)). IsRefused now texts c.in-Err.fault) (c.in-Ok.ensures ∙ names_behind c.args.query.now) c.in-Err.ensures.refused in
+    let refused = subst (λ (texts : List (List ℕ)). IsListFault now texts c.in-Err.fault) (c.in-Ok.ensures ∙ names_behind c.args.query.now) c.in-Err.ensures.refused in
     subst (λ (status : Status). IsUnlisted now q status) (sym c.unlisted.ensures) (is_unlisted now q c.in-Err.fault refused)
 
 pub returns-in-Err-clause-failed : goal.returns-in-Err-clause-failed

@@ -1,5 +1,5 @@
 use Rattle.std.proofs.Common.{List, ℕ, subst, ◌∙◌}
-use Rattle.log_listing.specs.Listed.{Lists, IsRefused}
+use Rattle.log_listing.specs.Listed.{Lists, IsListFault}
 use Rattle.log_listing.specs.Lengths.{names_in}
 use Rattle.lp_model.proofs.Growing.{OnlyGrow-refl}
 use Rattle.subqueries.proofs.Wholes.{names_behind, spans_of, there_of}
@@ -27,4 +27,4 @@ returns-in-Ok-whole_spans-clause-there g c = there_of _ _ c.in-Ok-list_logs.list
 
 pub returns-in-Err-clause-refused : goal.returns-in-Err-clause-refused
 returns-in-Err-clause-refused g c =
-    subst (λ (texts : List (List ℕ)). IsRefused (g.L.Logs.folder c.list_logs.new.logs) texts c.in-Err.fault) (c.in-Ok.ensures ∙ names_behind c.args.query.now) c.in-Err.ensures.refused
+    subst (λ (texts : List (List ℕ)). IsListFault (g.L.Logs.folder c.list_logs.new.logs) texts c.in-Err.fault) (c.in-Ok.ensures ∙ names_behind c.args.query.now) c.in-Err.ensures.refused

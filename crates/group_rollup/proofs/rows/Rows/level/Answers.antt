@@ -2,7 +2,7 @@ use Rattle.std.proofs.Common.{◌≡◌, ◌≤◌, ℕ, ap, subst, sym, ◌∙�
 use Rattle.std.specs.Option.{option_copied}
 use Rattle.std.proofs.lemmas.List.{length-map}
 use Rattle.lp_values.specs.declared.value.Value.{Value}
-use Rattle.group_rollup.specs.declared.column.Column.{Column}
+use Rattle.group_rollup.specs.declared.column.AggregateColumn.{AggregateColumn}
 use Rattle.group_rollup.specs.Columns.{AllHave, no_column, changes_from}
 use Rattle.group_rollup.specs.Tables.{IsAdded}
 use Rattle.group_rollup.proofs.ColumnLemmas.{none_have}
@@ -15,7 +15,7 @@ loop-index-init c =
     let kinds = c.args.kinds.now in
     let none = c.in_ok-level.ensures.columns in
     record {
-      have = subst (λ (columns : List Column). AllHave (length c.in_ok-level.level.keys.keys) columns) (sym none) (subst (λ (n : ℕ). AllHave n (map no_column kinds)) (sym (ap length c.in_ok-level.ensures.keys)) (none_have kinds));
+      have = subst (λ (columns : List AggregateColumn). AllHave (length c.in_ok-level.level.keys.keys) columns) (sym none) (subst (λ (n : ℕ). AllHave n (map no_column kinds)) (sym (ap length c.in_ok-level.ensures.keys)) (none_have kinds));
       as_many = ap length none ∙ length-map kinds no_column;
       keeps = λ width all records h stands. keeps_none c.args.count kinds c.in_ok-level.level.keys.keys c.in_ok-level.level.columns.items c.in_ok-level.ensures.keys none;
     }
@@ -36,7 +36,7 @@ loop-index-preserved c =
           let more_keys = c.absorb.new.self.keys.keys in
           let more_columns = c.absorb.new.self.columns.items in
           let at : slice_get keys i ≡ Some key = sym c.get_index.ensures.key ∙ ap option_copied c.unwrap-keys.ensures in
-          let added = subst (λ (cs : List Column). IsAdded level_keys level_columns (take c.args.count key) (λ (j : ℕ). changes_from level_columns j cs i) more_keys more_columns) c.deref.ensures.value
+          let added = subst (λ (cs : List AggregateColumn). IsAdded level_keys level_columns (take c.args.count key) (λ (j : ℕ). changes_from level_columns j cs i) more_keys more_columns) c.deref.ensures.value
           (subst (λ (k : List Value). IsAdded level_keys level_columns k (λ (j : ℕ). changes_from level_columns j c.deref.result.now i) more_keys more_columns) (c.in_ok-prefix.ensures ∙ c.front.ensures) c.in_ok-absorb.ensures.ok) in
           level_more c.args.count width c.args.kinds.now keys columns all records level_keys level_columns more_keys more_columns i key h stands at (c.loop-index.invariant.keeps width all records h stands) added;
     }

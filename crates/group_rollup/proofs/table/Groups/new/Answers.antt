@@ -2,7 +2,7 @@ use Rattle.std.proofs.Common.{ℕ, subst, refl, ap, sym, ◌∙◌, List, [], ma
 use Rattle.std.proofs.lemmas.List.{length-map}
 use Rattle.lp_values.specs.declared.group.AggKind.{AggKind}
 use Rattle.group_rollup.specs.contracts.table.Groups.{the_view}
-use Rattle.group_rollup.specs.declared.column.Column.{Column}
+use Rattle.group_rollup.specs.declared.column.AggregateColumn.{AggregateColumn}
 use Rattle.group_rollup.specs.Columns.{AllHave, no_column}
 use Rattle.group_rollup.specs.Tables.{Holds}
 use Rattle.group_rollup.proofs.ColumnLemmas.{none_have}
@@ -13,7 +13,7 @@ pub invariant_of-result : goal.invariant_of-result
 invariant_of-result c =
     let kinds = c.args.aggregates.now in
     let none = c.in_ok-new.ensures.columns ∙ ap (map no_column) c.as_slice.ensures in (
-      subst (λ (columns : List Column). AllHave (length c.in_ok-new.field-0.keys.keys) columns) (sym none) (subst (λ (n : ℕ). AllHave n (map no_column kinds)) (sym (ap length c.in_ok-new.ensures.keys)) (none_have kinds)),
+      subst (λ (columns : List AggregateColumn). AllHave (length c.in_ok-new.field-0.keys.keys) columns) (sym none) (subst (λ (n : ℕ). AllHave n (map no_column kinds)) (sym (ap length c.in_ok-new.ensures.keys)) (none_have kinds)),
       ap length none ∙ (length-map kinds no_column ∙ sym (ap length c.in_ok-copy_kinds.ensures)),
       omega arith,
     )

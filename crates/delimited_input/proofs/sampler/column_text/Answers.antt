@@ -1,5 +1,5 @@
 use Rattle.std.proofs.Common.{◌≡◌, ℕ, suc, zero, List, [], ◌∷◌, None, slice_get, get_or, refl, sym}
-use Rattle.delimited_input.proofs.sampler.text_in.Goals as goal
+use Rattle.delimited_input.proofs.sampler.column_text.Goals as goal
 
 none_there : (row : List (List ℕ)) (column : ℕ) → slice_get row column ≡ None → get_or row column [] ≡ []
 none_there [] column e = refl
