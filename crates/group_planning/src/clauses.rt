@@ -105,10 +105,10 @@ fn clauses_behind(
     moment: &Value,
     all: &[SenseAlias],
     query: &Query,
-    using: SenseList,
+    aliased: SenseList,
     items: SenseList,
 ) -> Result<SenseClauses, TypeFault>
-    ensures { Answers clauses_of result (clauses_behind table.now moment.now (parts_of query.now) (map named_of all.now) (listed_senses using) (listed_senses items)) }
+    ensures { Answers clauses_of result (clauses_behind table.now moment.now (parts_of query.now) (map named_of all.now) (listed_senses aliased) (listed_senses items)) }
 {
     match checked_list(
         alloc,
@@ -122,7 +122,7 @@ fn clauses_behind(
         Ok((condition, keys)) => {
             match checked_list(alloc, true, table, moment, all, &query.having, &query.order) {
                 Ok((having, order)) => Ok(SenseClauses {
-                    using,
+                    using: aliased,
                     items,
                     condition,
                     keys,
@@ -130,7 +130,7 @@ fn clauses_behind(
                     order,
                 }),
                 Err(fault) => {
-                    drop(using);
+                    drop(aliased);
                     drop(items);
                     drop(condition);
                     drop(keys);
@@ -139,7 +139,7 @@ fn clauses_behind(
             }
         }
         Err(fault) => {
-            drop(using);
+            drop(aliased);
             drop(items);
             Err(fault)
         }

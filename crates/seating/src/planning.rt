@@ -53,15 +53,15 @@ fn row_items(
 fn rows_with(
     alloc: Global,
     table: &TableColumns,
-    using: &[SenseForm],
+    aliases: &[SenseForm],
     items: MeaningList,
     condition: Option<Condition>,
 ) -> Result<Plan, AllocError>
-    ensures plan { IfOk result (λ plan. planned_in plan ≡ rows_with table.now (map sense_of using.now) items (option_map filter_of condition)) }
+    ensures plan { IfOk result (λ plan. planned_in plan ≡ rows_with table.now (map sense_of aliases.now) items (option_map filter_of condition)) }
     ensures size { IfOk result (λ plan. length plan.used ≡ length table.now.columns) }
     ensures covers { IfOk result (λ plan. Covers plan.used plan.items (option_map filter_of plan.condition)) }
 {
-    let using = seat_all(alloc, &[], &[], using)?;
+    let using = seat_all(alloc, &[], &[], aliases)?;
     let used = used_columns(alloc, table, &using, &items, &condition)?;
     Ok(Plan {
         items,
