@@ -62,7 +62,10 @@ fn open_page<P: Picker + Drop, G: Stage>(
     };
     match output.open(stage) {
         Ok(()) => Ok(first_page(alloc, rows, most_bad)),
-        Err(fault) => Err(ended_by(fault)),
+        Err(fault) => {
+            drop(rows);
+            Err(ended_by(fault))
+        }
     }
 }
 

@@ -1,8 +1,8 @@
 // Exact arithmetic on values.
-ghost use Rattle.std.specs.Prelude.{◌≡◌, ◌≤◌, ◌^◌, pos, ◌-ℤ◌, ◌<ℤ◌, unsigned_abs, Some};
+ghost use Rattle.std.specs.Prelude.{◌≡◌, ◌≤◌, ◌^◌, ◌*◌, pos, ◌-ℤ◌, ◌*ℤ◌, ◌<ℤ◌, unsigned_abs, Some};
 ghost use Rattle.std.specs.Int.{int_rem_euclid};
 ghost use Rattle.lp_values.specs.declared.value.Value.TheVariants.{Int};
-ghost use Rattle.lp_values.specs.Arithmetic.{sum_of, difference_of, product_of, quotient_of, remainder_of, quantized_of, kept, real_of};
+ghost use Rattle.lp_values.specs.Arithmetic.{sum_of, difference_of, product_of, quotient, quotient_of, remainder, remainder_of, quantized_of, kept, real_of};
 
 use crate::numbers::Numbers;
 use crate::{Real, Value};
@@ -52,9 +52,9 @@ pub fn div(a: &Value, b: &Value) -> Value
     ensures { result ≡ quotient_of a.now b.now }
 {
     match Numbers::of(a, b) {
-        Numbers::Whole(_, 0) | Numbers::Decimal(_, 0) | Numbers::Neither => Value::Null,
-        Numbers::Whole(a, b) => whole(i128::from(a) / i128::from(b)),
-        Numbers::Decimal(a, b) => decimal(a * MILLION / b),
+        Numbers::Whole(a, b) => whole_or_null(quotient(i128::from(a), i128::from(b))),
+        Numbers::Decimal(a, b) => decimal_or_null(decimal_quotient(a, b)),
+        Numbers::Neither => Value::Null,
     }
 }
 
@@ -63,9 +63,9 @@ pub fn modulo(a: &Value, b: &Value) -> Value
     ensures { result ≡ remainder_of a.now b.now }
 {
     match Numbers::of(a, b) {
-        Numbers::Whole(_, 0) | Numbers::Decimal(_, 0) | Numbers::Neither => Value::Null,
-        Numbers::Whole(a, b) => whole(i128::from(a) % i128::from(b)),
-        Numbers::Decimal(a, b) => decimal(a % b),
+        Numbers::Whole(a, b) => whole_or_null(remainder(i128::from(a), i128::from(b))),
+        Numbers::Decimal(a, b) => decimal_or_null(remainder(a, b)),
+        Numbers::Neither => Value::Null,
     }
 }
 
@@ -81,6 +81,39 @@ pub fn quantize_number(a: &Value, b: &Value) -> Value
     }
 }
 
+fn quotient(dividend: i128, divisor: i128) -> Option<i128>
+    requires { unsigned_abs dividend ≤ 2 ^ 100 }
+    ensures { result ≡ quotient dividend divisor }
+{
+    if divisor == 0 {
+        None
+    } else {
+        Some(dividend / divisor)
+    }
+}
+
+fn decimal_quotient(dividend: i128, divisor: i128) -> Option<i128>
+    requires { unsigned_abs dividend ≤ 2 ^ 63 * 1_000_000 }
+    ensures { result ≡ quotient (dividend *ℤ pos 1_000_000) divisor }
+{
+    if divisor == 0 {
+        None
+    } else {
+        Some(dividend * MILLION / divisor)
+    }
+}
+
+fn remainder(dividend: i128, divisor: i128) -> Option<i128>
+    requires { unsigned_abs dividend ≤ 2 ^ 100 }
+    ensures { result ≡ remainder dividend divisor }
+{
+    if divisor == 0 {
+        None
+    } else {
+        Some(dividend % divisor)
+    }
+}
+
 fn multiple(number: i128, step: i128) -> i128
     requires above { pos 0 <ℤ step }
     requires number { unsigned_abs number ≤ 2 ^ 100 }
@@ -88,6 +121,24 @@ fn multiple(number: i128, step: i128) -> i128
     ensures { result ≡ number -ℤ int_rem_euclid number step }
 {
     number - number.rem_euclid(step)
+}
+
+fn whole_or_null(number: Option<i128>) -> Value
+    ensures { result ≡ kept Int number }
+{
+    match number {
+        Some(number) => whole(number),
+        None => Value::Null,
+    }
+}
+
+fn decimal_or_null(millionths: Option<i128>) -> Value
+    ensures { result ≡ kept real_of millionths }
+{
+    match millionths {
+        Some(millionths) => decimal(millionths),
+        None => Value::Null,
+    }
 }
 
 fn whole(number: i128) -> Value

@@ -1,6 +1,7 @@
 // Two numbers of one kind.
 ghost use Rattle.std.specs.Prelude.{◌≡◌};
-ghost use Rattle.lp_values.specs.Arithmetic.{numbers_of};
+ghost use Rattle.lp_values.specs.Arithmetic.{numbers_of, real_of};
+ghost use Rattle.lp_values.specs.declared.value.Value.TheVariants.{Int};
 ghost use Rattle.lp_values.specs.Numbers.{IsSmall};
 
 use crate::Value;
@@ -20,17 +21,35 @@ impl Numbers {
         ensures value { result ≡ numbers_of a.now b.now }
         ensures small { IsSmall result }
     {
-        match (a, b) {
-            (Value::Int(a), Value::Int(b)) => Numbers::Whole(*a, *b),
-            (Value::Int(a), Value::Real(b)) => {
-                Numbers::Decimal(i128::from(*a) * MILLION, i128::from(b.millionths))
+        match a {
+            Value::Int(a) => Numbers::of_whole(*a, b),
+            Value::Real(a) => Numbers::of_decimal(a.millionths, b),
+            _ => Numbers::Neither,
+        }
+    }
+
+    // A whole number and a value.
+    fn of_whole(a: i64, b: &Value) -> Numbers
+        ensures value { result ≡ numbers_of (Int a) b.now }
+        ensures small { IsSmall result }
+    {
+        match b {
+            Value::Int(b) => Numbers::Whole(a, *b),
+            Value::Real(b) => {
+                Numbers::Decimal(i128::from(a) * MILLION, i128::from(b.millionths))
             }
-            (Value::Real(a), Value::Int(b)) => {
-                Numbers::Decimal(i128::from(a.millionths), i128::from(*b) * MILLION)
-            }
-            (Value::Real(a), Value::Real(b)) => {
-                Numbers::Decimal(i128::from(a.millionths), i128::from(b.millionths))
-            }
+            _ => Numbers::Neither,
+        }
+    }
+
+    // A number in millionths and a value.
+    fn of_decimal(a: i64, b: &Value) -> Numbers
+        ensures value { result ≡ numbers_of (real_of a) b.now }
+        ensures small { IsSmall result }
+    {
+        match b {
+            Value::Int(b) => Numbers::Decimal(i128::from(a), i128::from(*b) * MILLION),
+            Value::Real(b) => Numbers::Decimal(i128::from(a), i128::from(b.millionths)),
             _ => Numbers::Neither,
         }
     }
