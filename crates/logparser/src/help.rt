@@ -10,15 +10,20 @@ Reads logs, runs an SQL-like query over their rows, and writes what it gives to 
 output or to files. Statistics and messages go to standard error.
 
 Query (or a file that holds it: file:NAME)
-  SELECT * | value [AS name], ..    what is written
+  SELECT [TOP n] [DISTINCT] * | value [AS name], ..
+                                    what is written: all rows, or the first n, or none twice
   [USING value AS name, ..]         names for values
   [INTO STDOUT | name]              a file; each * in its name takes a first column's value
   FROM log, ..                      names of files, * and ? in their last part; or STDIN alone
   [WHERE condition]                 = <> < > <= >=, [NOT] LIKE 'pattern', [NOT] IN (..),
                                     [NOT] BETWEEN .. AND .., IS [NOT] NULL, AND, OR, NOT,
-                                    parentheses
+                                    parentheses; behind IN values or SELECT value FROM ..
+  [GROUP BY value, .. [WITH ROLLUP]]
+  [HAVING condition]                which groups are left
+  [ORDER BY value, .. [ASC | DESC]] values of SELECT
   A value is a field, a name of AS, a number, a 'text', TIMESTAMP('text', 'pattern'), NULL,
-  CASE value WHEN value THEN value .. [ELSE value] END, or what a function gives.
+  CASE value WHEN value THEN value .. [ELSE value] END, or what a function gives; of groups
+  COUNT(*) COUNT SUM AVG MIN MAX PROPCOUNT(*) GROUPING too.
 
 Functions
   ADD SUB MUL DIV MOD QUANTIZE
@@ -80,6 +85,7 @@ Examples
   logparser \"SELECT * FROM server.txt\"
   logparser -o:CSV \"SELECT cs-uri-stem, time-taken FROM u_ex*.log WHERE sc-status = 404\"
   logparser -o:CSV \"SELECT DateTime, Request FROM nc1.log WHERE StatusCode >= 500\" | head
+  logparser \"SELECT TOP 5 c-ip, COUNT(*) AS n FROM u_ex*.log GROUP BY c-ip ORDER BY n DESC\"
   logparser -o:CSV \"SELECT name, MUL(price, 2) AS twice FROM list.csv WHERE name LIKE 'a%'\"
   logparser -iCheckpoint:day.cp -fileMode:0 \"SELECT Text INTO errors.csv FROM app.log\"
 

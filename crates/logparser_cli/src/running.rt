@@ -406,14 +406,19 @@ fn run_words<L: Logs, D: Disk, I: Source, S: Sink, E: Sink>(
 
 /// Does all that the words ask for, as the clock's whole seconds since 1970 are `moment`.
 ///
-/// At `Done` the rows of the query over the records of the logs that FROM names, each up to its length at some moment of the
-/// call, are written: as text in the output's format on `out`, or, where INTO names files, in these, each as the file mode
-/// wants it, and no other file changed. The subqueries of the query were run before, each over its own logs. `err` has gained the statistics; at every refusal it has gained its message. Of either
-/// `err` holds the front where it failed. A refusal behind the first row leaves the front of the text on `out`, or any part of
-/// theirs in the files of INTO. An output by a template is by the sections of the file that `-tpl` names, which is read before
-/// the logs are listed. Where STDIN is the one name behind FROM, `input` stands in the place of the logs, and is read from its front
-/// on; else it is left as it is. Of the query's file, the template and each log, for each query that reads it, no more bytes are
-/// read than it has at the end.
+/// Without a checkpoint, at `Done` the rows of the query over the records of the logs that FROM names, each up to its length at some
+/// moment of the call, are written: as text in the output's format on `out`, or, where INTO names files, in these, each as the file
+/// mode wants it, and no other file changed. The subqueries of the query were run before, each over its own logs. A refusal behind
+/// the first row leaves the front of the text on `out`, or any part of theirs in the files of INTO. Where STDIN is the one name
+/// behind FROM, `input` stands in the place of the logs, and is read from its front on; else it is left as it is. Of the query's
+/// file, the template and each log, for each query that reads it, no more bytes are read than it has at the end.
+///
+/// With a checkpoint it takes of the logs behind FROM the complete lines that no earlier run took. `disk` holds the ledger, the stage
+/// beside it and the files of INTO, in which the rows of this run and the note of it are there together or not at all, wherever the
+/// disk stops. `out` and `input` stay as they are.
+///
+/// An output by a template is by the sections of the file that `-tpl` names, which is read before the logs are listed. `err` has
+/// gained the statistics, and at every refusal its message; it holds the front of either where it failed.
 pub fn run<L: Logs, D: Disk, I: Source, S: Sink, E: Sink>(
     alloc: Global,
     words: &TextList,
